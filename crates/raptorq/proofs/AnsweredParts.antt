@@ -17,9 +17,10 @@ use Rattle.rq_standard.specs.Standing.{BlockStandsFor}
 use Rattle.rq_standard.proofs.BlockCuts.{symbols_before-first, symbols_before-next}
 use Rattle.rq_standard.proofs.ObjectAnswers.{some_of, answered, has_answer}
 use Rattle.rq_standard.proofs.PlainCut.{length-block_bytes}
+use Rattle.raptorq.specs.declared.decoder.object.Decoder.{Decoder}
 use Rattle.raptorq.specs.declared.decoder.object.ObjectBlock.{ObjectBlock}
 use Rattle.raptorq.specs.BlockBytes.{bytes_of_block, object_part, answered_part, PartsMakeObject, IsPartAnswer, AnswersPart}
-use Rattle.raptorq.specs.Decoder.{answer_of}
+use Rattle.raptorq.specs.Decoder.{answer_of, state_of}
 use Rattle.raptorq.specs.SourceBlockDecoder.{received_of}
 use Rattle.raptorq.proofs.EncodedBlocks.{block_byte}
 use Rattle.raptorq.proofs.Numbered.{length-numbered, number_at}
@@ -129,8 +130,8 @@ module _ (c : Configuration) (items : List ObjectBlock) (numbered : map number_o
       subst (λ a. IfSome a (λ block. length block ≡ block_symbols c b * c.symbol_size)) (sym (get_or-map answer_of items b first None within))
       (subst (λ m. IfSome (answer_of x) (λ block. length block ≡ m)) whole (seen_long x.answer _ x.long))
 
-  pub blocks_make_object : PartsMakeObject (state c items)
-  blocks_make_object = parts_make_object (state c items) each_long
+pub parts_of_decoder : (d : Decoder) → PartsMakeObject (state_of d)
+parts_of_decoder d = parts_make_object (state_of d) (each_long d.config d.blocks.items d.numbered d.same d.cut)
 
 -- a number that no block has
 pub no_part : (c : Configuration) (items : List ObjectBlock) (n : ℕ) → map number_of items ≡ range_with_len 0 c.source_blocks → c.source_blocks ≤ n → None ≡ answered_part (state c items) n

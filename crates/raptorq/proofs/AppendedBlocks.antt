@@ -49,10 +49,10 @@ pub record AppendsBlocksSoFar (start : BlockCutter) (repair n : ℕ) (cutter : B
   pub encoded : (object : List ℕ) → StandsBefore object 0 start → AreEncodedSoFar start.config.now repair n (encoder_of start.table.now start.config.now object) packets
   pub left : (object : List ℕ) → StandsBefore object 0 start → StandsBefore object n cutter
 
-pub so_far-none : (start : BlockCutter) (repair : ℕ) (bytes reserved : List ℕ) → reserved ≡ bytes → AppendsBlocksSoFar start repair 0 start bytes reserved
-so_far-none start repair bytes reserved same = record {
+pub so_far-none : (start : BlockCutter) (repair : ℕ) (bytes : List ℕ) → AppendsBlocksSoFar start repair 0 start bytes bytes
+so_far-none start repair bytes = record {
   packets = [];
-  grown = same ∙ sym (append-nil bytes);
+  grown = sym (append-nil bytes);
   encoded = λ object stands. record { ids = refl; each = λ table any made. tt };
   left = λ object stands. stands;
 }

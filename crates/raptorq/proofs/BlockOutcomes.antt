@@ -3,7 +3,7 @@ use Rattle.std.proofs.Common.{◌≡◌, ℕ, zero, suc, ◌<◌, ◌≤◌, Lis
 use Rattle.std.specs.Prelude.{IfSome, Vec}
 use Rattle.std.specs.Global.{Global}
 use Rattle.std.proofs.lemmas.Bool.{cases_lt}
-use Rattle.std.proofs.lemmas.List.{length-map}
+use Rattle.std.proofs.lemmas.List.{length-map, length-replicate}
 use Rattle.std.proofs.lemmas.Option.{same_Some}
 use Rattle.rq_algebra.specs.Arrangements.{RowsStandIn}
 use Rattle.rq_algebra.specs.Operations.{Operation, Store, run, unordered, found_by, IsUnread, FindsColumn}
@@ -13,7 +13,7 @@ use Rattle.rq_algebra.proofs.Found.{finds_determined, found_are_symbols, found_l
 use Rattle.rq_algebra.proofs.Solutions.{determined_stays, homogeneous_not_determined}
 use Rattle.rq_algebra.proofs.Stacks.{stacked_above, stacked_below}
 use Rattle.rq_algebra.proofs.SymbolColumns.{run_keeps_symbols}
-use Rattle.rq_bytes.specs.SymbolSlab.{Slab, HasPlace, after_all, store_of, symbol_in, symbols_in, IsZeroUnread}
+use Rattle.rq_bytes.specs.SymbolSlab.{Slab, HasPlace, after_all, slab_of, store_of, symbol_in, symbols_in, IsZeroUnread}
 use Rattle.rq_operations.specs.RecordedOperations.{operations_of}
 use Rattle.rq_null_vector.proofs.FreeColumns.{shows_same}
 use Rattle.rq_parts.specs.DenseOctetMatrix.{OctetTable, entry_of}
@@ -34,10 +34,12 @@ use Rattle.rq_solver.proofs.SolutionLaws.{order-found, finds_same, homogeneous_s
 use Rattle.raptorq.specs.BlockSolutions.{FindsFrom, IsBlockSolution, IsHomogeneousFor, NeedsNoHdpc, first_equations}
 use Rattle.raptorq.specs.declared.solving.BlockOperations.{BlockOperations}
 
--- the matrices of a block's ids are equations for its values
-pub handed_equations : (row : TableRow) (ids : List ℕ) (bits : BitTable) (hdpc : OctetTable) (handed : Slab) → IsBinaryPart row ids bits → IsHdpcPart row hdpc → length handed.values ≡ equation_count row ids → intermediate_symbols row ≤ equation_count row ids → handed.order ≡ None
-    → AreEquations row bits hdpc handed
-handed_equations row ids bits hdpc handed part octet_part count enough order = are_equations row ids bits hdpc handed part octet_part.shape.tall octet_part.shape.wide count order enough
+-- the matrices of a block's ids are equations for zeros as their values
+pub handed_equations : (row : TableRow) (ids : List ℕ) (bits : BitTable) (hdpc : OctetTable) (size precode_rows : ℕ) (symbol : List ℕ) (handed : Slab) → IsBinaryPart row ids bits → IsHdpcPart row hdpc
+    → precode_rows ≡ row.ldpc_symbols + row.hdpc_symbols → handed ≡ slab_of size (replicate (precode_rows + length ids) symbol) → intermediate_symbols row ≤ equation_count row ids → AreEquations row bits hdpc handed
+handed_equations row ids bits hdpc size precode_rows symbol handed part octet_part all zeros enough =
+    let count : length handed.values ≡ equation_count row ids = ap (λ (s : Slab). length s.values) zeros ∙ length-replicate (precode_rows + length ids) symbol ∙ ap (λ n. n + length ids) all in
+    are_equations row ids bits hdpc handed part octet_part.shape.tall octet_part.shape.wide count (ap (λ (s : Slab). s.order) zeros) enough
 
 has_count : (values : List (List ℕ)) (size : ℕ) (order : Option (List ℕ)) (n : ℕ) → HasPlace (record { values = values; symbol_size = size; order = order }) n → suc n ≤ length (symbols_in (record { values = values; symbol_size = size; order = order }))
 has_count values size None n here = here
@@ -104,7 +106,7 @@ module _ (row : TableRow) (ids : List ℕ) (bits : BitTable) (part : IsBinaryPar
 
 -- ---- of any of the equations
 
-module _ (row : TableRow) (fixed : ℕ) (ids : List ℕ) (few : fixed ≤ row.ldpc_symbols + row.hdpc_symbols) where
+module _ (row : TableRow) (precode_rows : ℕ) (ids : List ℕ) (few : precode_rows ≤ row.ldpc_symbols + row.hdpc_symbols) where
   all_fixed : ℕ
   all_fixed = row.ldpc_symbols + row.hdpc_symbols
 
@@ -112,24 +114,24 @@ module _ (row : TableRow) (fixed : ℕ) (ids : List ℕ) (few : fixed ≤ row.ld
   id_rows = rows_of (symbol_coefficient row) ids
 
   -- the first equations are among all of them
-  first_stand : RowsStandIn (intermediate_symbols row) (fixed + length ids) (first_equations row fixed ids) (equation_count row ids) (equations row ids)
+  first_stand : RowsStandIn (intermediate_symbols row) (precode_rows + length ids) (first_equations row precode_rows ids) (equation_count row ids) (equations row ids)
   unfolding all_fixed id_rows
-  first_stand i l = elim (cases_lt i fixed) [
-    | inl above ↦ (i, (omega arith), λ k n. ap (λ (r : ℕ → ℕ). r k) (stacked_above all_fixed (fixed_equations row) id_rows i (omega arith) ∙ sym (stacked_above fixed (fixed_equations row) id_rows i above)))
+  first_stand i l = elim (cases_lt i precode_rows) [
+    | inl above ↦ (i, (omega arith), λ k n. ap (λ (r : ℕ → ℕ). r k) (stacked_above all_fixed (fixed_equations row) id_rows i (omega arith) ∙ sym (stacked_above precode_rows (fixed_equations row) id_rows i above)))
     | inr below ↦
-        let j : ℕ = i - fixed in
-        let is : i ≡ fixed + j = omega arith in (
+        let j : ℕ = i - precode_rows in
+        let is : i ≡ precode_rows + j = omega arith in (
           all_fixed + j,
           (omega arith),
-          λ k n. ap (λ (r : ℕ → ℕ). r k) (stacked_below all_fixed (fixed_equations row) id_rows j ∙ sym (ap (first_equations row fixed ids) is ∙ stacked_below fixed (fixed_equations row) id_rows j)),
+          λ k n. ap (λ (r : ℕ → ℕ). r k) (stacked_below all_fixed (fixed_equations row) id_rows j ∙ sym (ap (first_equations row precode_rows ids) is ∙ stacked_below precode_rows (fixed_equations row) id_rows j)),
         )
   ]
 
   -- so all are determined where the first are
-  pub first_determine : (operations : List Operation) → FindsColumn octets (fixed + length ids) (intermediate_symbols row) (first_equations row fixed ids) operations → HasDeterminedRows row ids
+  pub first_determine : (operations : List Operation) → FindsColumn octets (precode_rows + length ids) (intermediate_symbols row) (first_equations row precode_rows ids) operations → HasDeterminedRows row ids
   first_determine operations finds =
-      determined_stays octets (intermediate_symbols row) (fixed + length ids) (equation_count row ids) (first_equations row fixed ids) (equations row ids) first_stand
-      (finds_determined octets (fixed + length ids) (intermediate_symbols row) (first_equations row fixed ids) operations finds)
+      determined_stays octets (intermediate_symbols row) (precode_rows + length ids) (equation_count row ids) (first_equations row precode_rows ids) (equations row ids) first_stand
+      (finds_determined octets (precode_rows + length ids) (intermediate_symbols row) (first_equations row precode_rows ids) operations finds)
 
 -- ---- what is left over of the values
 

@@ -23,10 +23,11 @@ use Rattle.raptorq.specs.Runs.{ContradictsReceived, IsNextRefusal, IsRefusalBehi
 
 -- ---- the tests
 
-abbrev pub tests : Bool → Bool → Result (Unit {0}) Error
-tests b s = cond (not b) (Err UnknownBlock) (cond (not s) (Err WrongPayloadSize) (Ok tt))
+-- what is refused of a packet by a test of its block, and then by one of its payload's size
+abbrev pub packet_tests : Bool → Bool → Result (Unit {0}) Error
+packet_tests b s = cond (not b) (Err UnknownBlock) (cond (not s) (Err WrongPayloadSize) (Ok tt))
 
-block_passes : (b s : Bool) → tests b s ≡ Ok tt → b ≡ true
+block_passes : (b s : Bool) → packet_tests b s ≡ Ok tt → b ≡ true
 block_passes true s h = refl
 block_passes false s h = absurd (cc h)
 

@@ -1,7 +1,7 @@
 -- How many ids a map of payloads has, and how many are missing once others were received.
 use Rattle.std.proofs.Common.{◌≡◌, ◌≢◌, ◌⊎◌, inl, inr, ℕ, zero, suc, ◌+◌, ◌-◌, ◌<◌, ◌≤◌, Bool, true, false, ◌||◌, cond, eqb, List, [], ◌∷◌, length, All, Contains, Some, Vec, Global, refl, sym, ap, ◌∙◌, arith, vec_items}
 use Rattle.std.specs.Prelude.{is_some, option_map}
-use Rattle.std.specs.BTreeMap.{BTreeMap, is_at, IsOrdered}
+use Rattle.std.specs.BTreeMap.{is_at, IsOrdered}
 use Rattle.std.specs.List.{AllByRecursion, IsDistinct}
 use Rattle.std.specs.Map.{keys_of, lookup}
 use Rattle.std.specs.Ordering.{nat_cmp, eq_by_cmp}
@@ -9,7 +9,7 @@ use Rattle.std.proofs.lemmas.Bool.{cases_eq, eq-eqb, eqb-true, ne_eqb, or_cases,
 use Rattle.std.proofs.lemmas.List.Elements.{All-head, All-tail}
 use Rattle.std.proofs.lemmas.Map.Keys.{IsDistinct-from_sorted, IsDistinct-head, IsDistinct-tail}
 use Rattle.std.proofs.lemmas.Map.Made.{Contains-tail}
-use Rattle.raptorq.specs.Missing.{has_payload, missing_count}
+use Rattle.raptorq.specs.Missing.{Payloads, has_payload, missing_count}
 use Rattle.raptorq.proofs.Listing.{each_entry}
 use Rattle.raptorq.proofs.MissingCounts.{missing_count-all, missing_count-one}
 use Rattle.raptorq.proofs.Payloads.{is_eq-nat_cmp}
@@ -90,5 +90,5 @@ entries_counted n (e ∷ es) distinct few =
     omega (arith, one, entries_counted n es (IsDistinct-tail (eq_by_cmp nat_cmp) e.0 (keys_of es) distinct) (All-tail (λ x. x.0 < n) e es few))
 
 -- of n ids, all but those of the entries are missing
-pub ids_counted : (m : BTreeMap ℕ (Vec ℕ Global)) (n : ℕ) → IsOrdered nat_cmp m → ((e : ℕ) → has_payload m e ≡ true → e < n) → missing_count n (has_payload m) + length m.entries ≡ n
+pub ids_counted : (m : Payloads) (n : ℕ) → IsOrdered nat_cmp m → ((e : ℕ) → has_payload m e ≡ true → e < n) → missing_count n (has_payload m) + length m.entries ≡ n
 ids_counted m n ordered few = entries_counted n m.entries (IsDistinct-from_sorted nat_cmp (keys_of m.entries) ordered) (each_entry m (λ e. e.0 < n) ordered (λ e v came. few e (ap is_some came)) m.entries [] refl)

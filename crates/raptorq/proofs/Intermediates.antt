@@ -130,4 +130,4 @@ pub finds_source : (row : TableRow) (solution : BlockOperations) → FindsFrom r
 finds_source row solution from =
     let ids = extended_ids row in
     let all : solution.precode_rows ≡ row.ldpc_symbols + row.hdpc_symbols = omega (arith, from.few, from.enough, count_source row) in
-    subst (λ (fixed : ℕ). FindsColumn octets (fixed + length ids) (intermediate_symbols row) (first_equations row fixed ids) (operations_of solution.operations)) all from.finds
+    subst (λ (precode_rows : ℕ). FindsColumn octets (precode_rows + length ids) (intermediate_symbols row) (first_equations row precode_rows ids) (operations_of solution.operations)) all from.finds

@@ -4,7 +4,7 @@ use Rattle.std.specs.Prelude.{is_some, option_map}
 use Rattle.std.specs.List.{slice_get, range_with_len}
 use Rattle.std.specs.Ordering.{nat_cmp}
 use Rattle.std.specs.Map.{keys_of}
-use Rattle.std.specs.BTreeMap.{BTreeMap, IsOrdered}
+use Rattle.std.specs.BTreeMap.{IsOrdered}
 use Rattle.std.proofs.lemmas.Cmp.{nat_cmp_total}
 use Rattle.std.proofs.lemmas.List.{length-append, length-map, length-replicate}
 use Rattle.std.proofs.lemmas.List.Elements.{All-cons, All-map, All-nil}
@@ -16,10 +16,7 @@ use Rattle.rq_bytes.specs.SymbolSlab.{Slab}
 use Rattle.rq_standard.specs.declared.row.TableRow.{TableRow}
 use Rattle.rq_standard.specs.Equations.{zero_symbol, internal_id}
 use Rattle.raptorq.specs.Known.{known_list, known_values}
-use Rattle.raptorq.specs.Missing.{payload_of, has_payload}
-
-abbrev Payloads : Type 0
-Payloads = BTreeMap ℕ (Vec ℕ Global)
+use Rattle.raptorq.specs.Missing.{Payloads, payload_of, has_payload}
 
 -- ---- entries
 
@@ -51,9 +48,9 @@ few_entries m n ordered few =
 pub length-known_list : (row : TableRow) (k : ℕ) (done : List (ℕ × Vec ℕ Global)) → length (known_list row k done) ≡ row.extended_symbols - k + length done
 length-known_list row k done = length-append (range_with_len k (row.extended_symbols - k)) (map (λ e. internal_id row k e.0) done) ∙ omega (arith, length-range_with_len k (row.extended_symbols - k), length-map done (λ e. internal_id row k e.0))
 
-pub length-known_values : (row : TableRow) (k fixed size : ℕ) (done : List (ℕ × Vec ℕ Global)) → length (known_values row k fixed size done) ≡ fixed + (row.extended_symbols - k) + length done
-length-known_values row k fixed size done =
-    length-append (replicate (fixed + (row.extended_symbols - k)) (zero_symbol size)) (map (λ e. e.1.items) done) ∙ omega (arith, length-replicate (fixed + (row.extended_symbols - k)) (zero_symbol size), length-map done (λ e. e.1.items))
+pub length-known_values : (row : TableRow) (k precode_rows size : ℕ) (done : List (ℕ × Vec ℕ Global)) → length (known_values row k precode_rows size done) ≡ precode_rows + (row.extended_symbols - k) + length done
+length-known_values row k precode_rows size done =
+    length-append (replicate (precode_rows + (row.extended_symbols - k)) (zero_symbol size)) (map (λ e. e.1.items) done) ∙ omega (arith, length-replicate (precode_rows + (row.extended_symbols - k)) (zero_symbol size), length-map done (λ e. e.1.items))
 
 abbrev slab_made : Slab → Result Slab Error
 slab_made s = Ok s

@@ -56,7 +56,7 @@ unfolding missing_count
 missing_count-none zero f all = refl
 missing_count-none (suc n) f all = ap (λ m. m + cond (f n) 0 1) (missing_count-none n f (λ e h. all e (omega arith))) ∙ ap (λ b. 0 + cond b 0 1) (all n (omega arith))
 
-none_is : (o : Option (List ℕ)) → is_some o ≡ false → o ≡ None
+pub none_is : (o : Option (List ℕ)) → is_some o ≡ false → o ≡ None
 none_is None h = refl
 none_is (Some x) h = absurd (cc h)
 

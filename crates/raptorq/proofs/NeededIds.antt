@@ -1,6 +1,6 @@
 -- Too few ids give no answer, whichever they are.
-use Rattle.std.proofs.Common.{◌≡◌, ◌⊎◌, inl, inr, ℕ, ◌+◌, ◌-◌, ◌^◌, ◌<◌, ◌≤◌, Bool, true, List, ◌++◌, length, map, eqb, Contains, Vec, Global, sym, ap, ◌∙◌, subst, arith}
-use Rattle.std.specs.BTreeMap.{BTreeMap, IsOrdered}
+use Rattle.std.proofs.Common.{◌≡◌, ◌⊎◌, inl, inr, ℕ, ◌+◌, ◌-◌, ◌^◌, ◌<◌, ◌≤◌, Bool, true, List, ◌++◌, length, map, eqb, Contains, sym, ap, ◌∙◌, subst, arith}
+use Rattle.std.specs.BTreeMap.{IsOrdered}
 use Rattle.std.specs.Ordering.{nat_cmp}
 use Rattle.std.specs.Set.{is_member}
 use Rattle.std.proofs.lemmas.Bool.{cases_lt}
@@ -18,15 +18,12 @@ use Rattle.rq_standard.specs.Received.{HasSourceSymbols}
 use Rattle.rq_standard.specs.ReceivedBlock.{ReceivedBlock, has_received}
 use Rattle.rq_standard.proofs.KnownIds.{block_more, determined_list, determined_more, few_not_determining, known_padding, known_repair, known_source}
 use Rattle.raptorq.specs.Known.{known_list}
-use Rattle.raptorq.specs.Missing.{has_payload}
+use Rattle.raptorq.specs.Missing.{Payloads, has_payload}
 use Rattle.raptorq.specs.MissingPackets.{received_count, IsMissing, NeedsMore}
 use Rattle.raptorq.proofs.IdCounts.{ids_counted, missing_count-further, missing_count-more}
 use Rattle.raptorq.proofs.Listing.{length-known_list}
 use Rattle.raptorq.proofs.MissingCounts.{missing_count-none, missing_count-same}
 use Rattle.raptorq.proofs.ReceivedEquations.{internal_above, internal_below, known_listed}
-
-abbrev Payloads : Type 0
-Payloads = BTreeMap ℕ (Vec ℕ Global)
 
 abbrev is_listed : List ℕ → ℕ → Bool
 is_listed = is_member eqb

@@ -44,6 +44,14 @@ received_here c items i x below is = get_or-map (λ b. received_of b.decoder) it
 pub answer_here : (items : List ObjectBlock) (i : ℕ) (x : ObjectBlock) → i < length items → x ≡ get_or items i x → answer_at items i ≡ answer_of x
 answer_here items i x below is = get_or-map answer_of items i x None below ∙ ap answer_of (sym is)
 
+-- what is said of it is said of the state
+pub said_here : (c : Configuration) (items : List ObjectBlock) (i : ℕ) (x : ObjectBlock) → i < length items → x ≡ get_or items i x → (P : ReceivedBlock → Option (List ℕ) → Type 0) → P (received_of x.decoder) (answer_of x) → P (received_at c items i) (answer_at items i)
+said_here c items i x below is P so = subst (λ h. P h (answer_at items i)) (sym (received_here c items i x below is)) (subst (P (received_of x.decoder)) (sym (answer_here items i x below is)) so)
+
+-- a number of a block that the object has
+pub has_number : (c : Configuration) (items : List ObjectBlock) (n count : ℕ) → map number_of items ≡ range_with_len 0 c.source_blocks → count ≡ c.source_blocks → n < count → n < length items
+has_number c items n count numbered all below = omega (arith, all, below, length-numbered number_of c.source_blocks items numbered)
+
 -- a block that is its configuration's and the packet's refuses no packet with a symbol of the size
 pub block_takes : (c : Configuration) (h : ReceivedBlock) (p : Packet) → h.configuration ≡ c → h.number ≡ p.id.block → length p.payload ≡ c.symbol_size → block_refusal h p ≡ Ok tt
 block_takes c h p same number long = rw (eq-eqb p.id.block h.number (sym number), eq-eqb (length p.payload) h.configuration.symbol_size (long ∙ ap (λ k. k.symbol_size) (sym same))) refl
@@ -92,10 +100,8 @@ module _ (c : Configuration) (items : List ObjectBlock) (p : Packet) (x y : Obje
   shown_here P so =
       let i = p.id.block in
       let new = set items i y in
-      subst (λ h. P h (answer_at items i) p (received_at c new i) (answer_at new i)) (sym (received_here c items i x below is))
-      (subst (λ a. P (received_of x.decoder) a p (received_at c new i) (answer_at new i)) (sym (answer_here items i x below is))
-      (subst (λ h. P (received_of x.decoder) (answer_of x) p h (answer_at new i)) (sym (received_here c new i y (within items i y below) (after items i y below)))
-      (subst (λ a. P (received_of x.decoder) (answer_of x) p (received_of y.decoder) a) (sym (answer_here new i y (within items i y below) (after items i y below))) so)))
+      said_here c items i x below is (λ h a. P h a p (received_at c new i) (answer_at new i))
+      (said_here c new i y (within items i y below) (after items i y below) (P (received_of x.decoder) (answer_of x) p) so)
 
   adds_at : AddsToBlock (received_of x.decoder) (answer_of x) p (received_of y.decoder) (answer_of y) → Adds (state c items) p (state c (set items p.id.block y))
   adds_at add = record { here = shown_here AddsToBlock add; elsewhere = elsewhere c items p.id.block x y }

@@ -1,19 +1,21 @@
 -- The payloads that a map holds, after one more.
-use Rattle.std.proofs.Common.{◌≡◌, ℕ, ◌<◌, Bool, true, false, cond, eqb, List, [], ◌∷◌, Option, Some, None, refl, sym, ap, ◌∙◌, subst, inl, inr, vec_items, vec_len, arith}
+use Rattle.std.proofs.Common.{◌≡◌, ℕ, ◌<◌, Bool, true, false, cond, eqb, List, [], Option, Some, None, refl, sym, ap, ◌∙◌, subst, inl, inr, vec_items, vec_len, arith}
 use Rattle.std.specs.Prelude.{is_some, option_map, MatchOption, IsSomeAnd}
 use Rattle.std.specs.List.{AllZip}
+use Rattle.std.proofs.lemmas.List.{map-id}
 use Rattle.std.proofs.lemmas.Map.Entries.{lookup_clone}
+use Rattle.std.proofs.lemmas.Slice.Zip.{AllZip-map}
 use Rattle.std.specs.Option.{ForSome}
 use Rattle.std.specs.declared.vec.Vec.{Vec}
 use Rattle.std.specs.declared.alloc.Global.{Global}
 use Rattle.std.specs.declared.cmp.Ordering.TheVariants.{Less, Equal, Greater}
 use Rattle.std.specs.Ordering.{nat_cmp, is_eq}
 use Rattle.std.specs.Cmp.{nat_cmp_is}
-use Rattle.std.specs.BTreeMap.{BTreeMap, get}
+use Rattle.std.specs.BTreeMap.{get}
 use Rattle.std.specs.Map.{lookup}
 use Rattle.std.proofs.lemmas.Bool.{cases_eq, cases_lt, eq-eqb, ne_eqb, eqb-true}
 use Rattle.rq_standard.specs.Received.{or_later}
-use Rattle.raptorq.specs.Missing.{payload_of}
+use Rattle.raptorq.specs.Missing.{Payloads, payload_of}
 
 -- the keys' order finds the key that is equal
 pub is_eq-nat_cmp : (k q : ℕ) → is_eq (nat_cmp k q) ≡ eqb k q
@@ -45,7 +47,7 @@ pub all-more : (P : List ℕ → Type 0) (f g : ℕ → Option (List ℕ)) (k : 
 all-more P f g k x all here grown e y is = one_of P (f e) (eqb k e) x y (all e) here (sym (grown e) ∙ is)
 
 -- an empty map holds nothing
-pub payload_of-empty : (m : BTreeMap ℕ (Vec ℕ Global)) → m.entries ≡ [] → (e : ℕ) → payload_of m e ≡ None
+pub payload_of-empty : (m : Payloads) → m.entries ≡ [] → (e : ℕ) → payload_of m e ≡ None
 payload_of-empty m none e = ap (λ es. option_map vec_items (lookup (λ q. is_eq (nat_cmp e q)) es)) none
 
 same_option : (D : Vec ℕ Global → Vec ℕ Global → Type 0) → ((v w : Vec ℕ Global) → D v w → vec_items w ≡ vec_items v) → (o r : Option (Vec ℕ Global)) → MatchOption o (r ≡ None) (λ v. IsSomeAnd r (D v)) → option_map vec_items r ≡ option_map vec_items o
@@ -54,18 +56,12 @@ same_option D same (Some v) (Some w) h = ap (λ xs. Some xs) (same v w h)
 same_option D same (Some v) None h = absurd h
 
 -- a clone of the map holds the same payloads
-pub payload_of-clone : (C : ℕ → ℕ → Type 0) (D : Vec ℕ Global → Vec ℕ Global → Type 0) (m n : BTreeMap ℕ (Vec ℕ Global)) → ((x y : ℕ) → C x y → y ≡ x) → ((v w : Vec ℕ Global) → D v w → vec_items w ≡ vec_items v) → AllZip (λ p q. C p.0 q.0 × D p.1 q.1) m.entries n.entries → (e : ℕ) → payload_of n e ≡ payload_of m e
+pub payload_of-clone : (C : ℕ → ℕ → Type 0) (D : Vec ℕ Global → Vec ℕ Global → Type 0) (m n : Payloads) → ((x y : ℕ) → C x y → y ≡ x) → ((v w : Vec ℕ Global) → D v w → vec_items w ≡ vec_items v) → AllZip (λ p q. C p.0 q.0 × D p.1 q.1) m.entries n.entries → (e : ℕ) → payload_of n e ≡ payload_of m e
 payload_of-clone C D m n keys values clones e = same_option D values (get nat_cmp m e) (get nat_cmp n e) (lookup_clone C D (λ q. is_eq (nat_cmp e q)) (λ x y c. ap (λ k. is_eq (nat_cmp e k)) (keys x y c)) m.entries n.entries clones)
 
-pub same_items : (xs ys : List ℕ) → AllZip (λ x y. y ≡ x) xs ys → ys ≡ xs
-same_items [] [] h = refl
-same_items [] (y ∷ ys) h = absurd h
-same_items (x ∷ xs) [] h = absurd h
-same_items (x ∷ xs) (y ∷ ys) h = λ i. h.0 i ∷ same_items xs ys h.1 i
-
 -- a clone of a map of bytes holds the same payloads
-pub payload_of-cloned : (m n : BTreeMap ℕ (Vec ℕ Global)) → AllZip (λ p q. (q.0 ≡ p.0) × (AllZip (λ x y. y ≡ x) (vec_items p.1) (vec_items q.1) × (vec_len q.1 ≡ vec_len p.1))) m.entries n.entries → (e : ℕ) → payload_of n e ≡ payload_of m e
-payload_of-cloned m n clones = payload_of-clone (λ x y. y ≡ x) (λ v w. AllZip (λ x y. y ≡ x) (vec_items v) (vec_items w) × (vec_len w ≡ vec_len v)) m n (λ x y h. h) (λ v w h. same_items (vec_items v) (vec_items w) h.0) clones
+pub payload_of-cloned : (m n : Payloads) → AllZip (λ p q. (q.0 ≡ p.0) × (AllZip (λ x y. y ≡ x) (vec_items p.1) (vec_items q.1) × (vec_len q.1 ≡ vec_len p.1))) m.entries n.entries → (e : ℕ) → payload_of n e ≡ payload_of m e
+payload_of-cloned m n clones = payload_of-clone (λ x y. y ≡ x) (λ v w. AllZip (λ x y. y ≡ x) (vec_items v) (vec_items w) × (vec_len w ≡ vec_len v)) m n (λ x y h. h) (λ v w h. AllZip-map (λ x. x) (vec_items v) (vec_items w) h.0 ∙ map-id (vec_items v)) clones
 
 few_by : (o : Option (List ℕ)) (b : Bool) (x : List ℕ) (k e n : ℕ) → (is_some o ≡ true → e < n) → k < n → (b ≡ true → k ≡ e) → is_some (or_later o (cond b (Some x) None)) ≡ true → e < n
 few_by (Some y) b x k e n few below here came = few refl

@@ -3,7 +3,7 @@ use Rattle.std.proofs.Common.{◌≡◌, ℕ, suc, ◌+◌, ◌-◌, ◌*◌, tr
 use Rattle.std.specs.Prelude.{is_some, option_map, IsSome}
 use Rattle.std.specs.List.{range_with_len}
 use Rattle.std.specs.Ordering.{nat_cmp}
-use Rattle.std.specs.BTreeMap.{BTreeMap, ContainsKey, IsOrdered, keys, values}
+use Rattle.std.specs.BTreeMap.{ContainsKey, IsOrdered, keys, values}
 use Rattle.std.specs.Option.{ForSome}
 use Rattle.std.proofs.Math.Seq.{get_or-append_seam}
 use Rattle.std.proofs.lemmas.List.{length-append, length-replicate, map-append}
@@ -14,11 +14,8 @@ use Rattle.rq_bytes.proofs.Cuts.{cut-append, cut-replicate}
 use Rattle.rq_standard.specs.declared.row.TableRow.{TableRow}
 use Rattle.rq_standard.specs.Equations.{internal_id, zero_symbol}
 use Rattle.raptorq.specs.Known.{known_list, values_after}
-use Rattle.raptorq.specs.Missing.{has_payload, payload_of}
+use Rattle.raptorq.specs.Missing.{Payloads, has_payload, payload_of}
 use Rattle.raptorq.proofs.Listing.{each_entry}
-
-abbrev Payloads : Type 0
-Payloads = BTreeMap ℕ (Vec ℕ Global)
 
 -- ---- keys
 

@@ -3,7 +3,7 @@ use Rattle.std.proofs.Common.{◌≡◌, ℕ, zero, suc, ◌+◌, ◌-◌, ◌<�
 use Rattle.std.specs.Prelude.{is_some, option_map, IfSome}
 use Rattle.std.specs.List.{slice_get, range_with_len}
 use Rattle.std.specs.Ordering.{nat_cmp}
-use Rattle.std.specs.BTreeMap.{BTreeMap, get, is_at, IsOrdered}
+use Rattle.std.specs.BTreeMap.{get, is_at, IsOrdered}
 use Rattle.std.proofs.lemmas.Bool.{cases_lt, lt-ltb, le-ltb, eqb-true}
 use Rattle.std.proofs.lemmas.List.{get_or_append_left, get_or-append_right, get_or-map, get_or-replicate, length-replicate}
 use Rattle.std.proofs.lemmas.List.FromFn.{length-range_with_len}
@@ -23,12 +23,9 @@ use Rattle.rq_standard.proofs.KnownIds.{known_source, known_padding, known_repai
 use Rattle.rq_standard.proofs.Columns.{sum_at}
 use Rattle.raptorq.specs.Known.{known_list, known_values}
 use Rattle.raptorq.specs.BlockSolutions.{first_equations}
-use Rattle.raptorq.specs.Missing.{payload_of, has_payload}
+use Rattle.raptorq.specs.Missing.{Payloads, payload_of, has_payload}
 use Rattle.raptorq.proofs.Listing.{entry_payload, length-known_list, length-known_values}
 use Rattle.raptorq.proofs.Payloads.{is_eq-nat_cmp}
-
-abbrev Payloads : Type 0
-Payloads = BTreeMap ℕ (Vec ℕ Global)
 
 -- ---- internal ids
 
@@ -173,15 +170,15 @@ module _ (row : TableRow) (k size : ℕ) (m : Payloads) (fits : k ≤ row.extend
       let ids = known_list row k m.entries in
       few_not_determining row ids (omega (arith, length-known_list row k m.entries)) (determined_list row (known_ids row k (has_payload m)) ids known_listed d)
 
-  pub count_received : (fixed : ℕ) → length (known_values row k fixed size m.entries) ≡ fixed + length (known_list row k m.entries)
-  count_received fixed = omega (arith, length-known_values row k fixed size m.entries, length-known_list row k m.entries)
+  pub count_received : (precode_rows : ℕ) → length (known_values row k precode_rows size m.entries) ≡ precode_rows + length (known_list row k m.entries)
+  count_received precode_rows = omega (arith, length-known_values row k precode_rows size m.entries, length-known_list row k m.entries)
 
 -- ---- of a block
 
 module _ (h : ReceivedBlock) (m : Payloads) (fits : h.source_symbols ≤ h.row.extended_symbols) (ordered : IsOrdered nat_cmp m) (checked : IsChecked h.row) (same : (e : ℕ) → h.received e ≡ payload_of m e) where
   -- a column that solves what was received solves the first of the equations with their values
-  pub values_solved : (fixed : ℕ) → fixed ≤ h.row.ldpc_symbols + h.row.hdpc_symbols → (column : ℕ → List ℕ) → SolvesReceived h column
-      → SolvesSymbols octets (fixed + length (known_list h.row h.source_symbols m.entries)) (intermediate_symbols h.row) (first_equations h.row fixed (known_list h.row h.source_symbols m.entries)) column (symbol_at (known_values h.row h.source_symbols fixed h.configuration.symbol_size m.entries))
+  pub values_solved : (precode_rows : ℕ) → precode_rows ≤ h.row.ldpc_symbols + h.row.hdpc_symbols → (column : ℕ → List ℕ) → SolvesReceived h column
+      → SolvesSymbols octets (precode_rows + length (known_list h.row h.source_symbols m.entries)) (intermediate_symbols h.row) (first_equations h.row precode_rows (known_list h.row h.source_symbols m.entries)) column (symbol_at (known_values h.row h.source_symbols precode_rows h.configuration.symbol_size m.entries))
   values_solved f few column z =
       let row = h.row in
       let k = h.source_symbols in

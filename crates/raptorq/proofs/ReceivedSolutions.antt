@@ -1,9 +1,9 @@
 -- What a solver finds of what was received, and whether it solves all of it.
-use Rattle.std.proofs.Common.{◌≡◌, ℕ, ◌+◌, ◌-◌, ◌<◌, ◌≤◌, List, length, Option, Some, None, Vec, Global, refl, sym, ap, ◌∙◌, subst, arith, inl, inr}
+use Rattle.std.proofs.Common.{◌≡◌, ℕ, ◌+◌, ◌-◌, ◌<◌, ◌≤◌, List, length, Option, Some, None, refl, sym, ap, ◌∙◌, subst, arith, inl, inr}
 use Rattle.std.specs.Prelude.{IfSome}
 use Rattle.std.specs.Option.{ForSome}
 use Rattle.std.specs.Ordering.{nat_cmp}
-use Rattle.std.specs.BTreeMap.{BTreeMap, IsOrdered}
+use Rattle.std.specs.BTreeMap.{IsOrdered}
 use Rattle.std.proofs.lemmas.Bool.{cases_lt}
 use Rattle.std.proofs.lemmas.List.{ext_get_or, length-replicate}
 use Rattle.rq_algebra.specs.Systems.{dot, at, rows_of, IsDetermined}
@@ -20,12 +20,9 @@ use Rattle.rq_standard.proofs.Columns.{sum_at, sum_symbol}
 use Rattle.rq_bytes.specs.SymbolSlab.{Slab, slab_of, symbol_in}
 use Rattle.raptorq.specs.BlockSolutions.{IsBlockSolution, SolvesHdpc, Fits, first_equations}
 use Rattle.raptorq.specs.Known.{known_list, known_values, IsReceivedSolution}
-use Rattle.raptorq.specs.Missing.{payload_of}
+use Rattle.raptorq.specs.Missing.{Payloads, payload_of}
 use Rattle.raptorq.proofs.ReceivedEquations.{zero_at, padding_at, known_at, place_of, is_received, received_rows, values_solved}
 use Rattle.raptorq.proofs.Listing.{length-known_list}
-
-abbrev Payloads : Type 0
-Payloads = BTreeMap ℕ (Vec ℕ Global)
 
 if_some_by : (o : Option (List ℕ)) (y : List ℕ) → ((x : List ℕ) → o ≡ Some x → x ≡ y) → IfSome o (λ x. x ≡ y)
 if_some_by None y each = tt
@@ -34,28 +31,28 @@ if_some_by (Some x) y each = each x refl
 module _ (h : ReceivedBlock) (m : Payloads) (fits : h.source_symbols ≤ h.row.extended_symbols) (ordered : IsOrdered nat_cmp m) (checked : IsChecked h.row) (same : (e : ℕ) → h.received e ≡ payload_of m e) where
   -- the first equations of what was received, with their values
   abbrev SolvesFirst : ℕ → (ℕ → List ℕ) → Type 0
-  SolvesFirst fixed column = SolvesSymbols octets (fixed + length (known_list h.row h.source_symbols m.entries)) (intermediate_symbols h.row) (first_equations h.row fixed (known_list h.row h.source_symbols m.entries)) column (symbol_at (known_values h.row h.source_symbols fixed h.configuration.symbol_size m.entries))
+  SolvesFirst precode_rows column = SolvesSymbols octets (precode_rows + length (known_list h.row h.source_symbols m.entries)) (intermediate_symbols h.row) (first_equations h.row precode_rows (known_list h.row h.source_symbols m.entries)) column (symbol_at (known_values h.row h.source_symbols precode_rows h.configuration.symbol_size m.entries))
 
   -- ---- a column that solves the equations
 
-  module _ (fixed : ℕ) (ldpc : h.row.ldpc_symbols ≤ fixed) (few : fixed ≤ h.row.ldpc_symbols + h.row.hdpc_symbols) (column : ℕ → List ℕ) (are : IsSymbolColumn octets h.configuration.symbol_size (intermediate_symbols h.row) column) (first : SolvesFirst fixed column) where
+  module _ (precode_rows : ℕ) (ldpc : h.row.ldpc_symbols ≤ precode_rows) (few : precode_rows ≤ h.row.ldpc_symbols + h.row.hdpc_symbols) (column : ℕ → List ℕ) (are : IsSymbolColumn octets h.configuration.symbol_size (intermediate_symbols h.row) column) (first : SolvesFirst precode_rows column) where
     -- an id's sum is its value
-    sum_is : (j x : ℕ) (value : List ℕ) → j < length (known_list h.row h.source_symbols m.entries) → at (known_list h.row h.source_symbols m.entries) j ≡ x → symbol_at (known_values h.row h.source_symbols fixed h.configuration.symbol_size m.entries) (fixed + j) ≡ value → length value ≡ h.configuration.symbol_size → tuple_sum h.row column x ≡ value
+    sum_is : (j x : ℕ) (value : List ℕ) → j < length (known_list h.row h.source_symbols m.entries) → at (known_list h.row h.source_symbols m.entries) j ≡ x → symbol_at (known_values h.row h.source_symbols precode_rows h.configuration.symbol_size m.entries) (precode_rows + j) ≡ value → length value ≡ h.configuration.symbol_size → tuple_sum h.row column x ≡ value
     sum_is j x value below id is long =
         let n : ℕ = intermediate_symbols h.row in
         ext_get_or 0 (tuple_sum h.row column x) value ((sum_symbol h.row h.configuration.symbol_size x column checked are).size_is ∙ sym long) (λ p _.
         sum_at h.row h.configuration.symbol_size x column checked are p
         ∙ ap (λ y. dot octets n (symbol_coefficient h.row y) (slice_at p column)) (sym id)
-        ∙ ap (λ (r : ℕ → ℕ). dot octets n r (slice_at p column)) (sym (stacked_below fixed (fixed_equations h.row) (rows_of (symbol_coefficient h.row) (known_list h.row h.source_symbols m.entries)) j))
-        ∙ (first.at_place p).at (fixed + j) (omega arith) ∙ ap (λ xs. at xs p) is)
+        ∙ ap (λ (r : ℕ → ℕ). dot octets n r (slice_at p column)) (sym (stacked_below precode_rows (fixed_equations h.row) (rows_of (symbol_coefficient h.row) (known_list h.row h.source_symbols m.entries)) j))
+        ∙ (first.at_place p).at (precode_rows + j) (omega arith) ∙ ap (λ xs. at xs p) is)
 
     -- an equation of LDPC or HDPC
-    fixed_is : (fixed < h.row.ldpc_symbols + h.row.hdpc_symbols → SolvesHdpc h.row h.configuration.symbol_size column) → (p i : ℕ) → i < h.row.ldpc_symbols + h.row.hdpc_symbols
+    fixed_is : (precode_rows < h.row.ldpc_symbols + h.row.hdpc_symbols → SolvesHdpc h.row h.configuration.symbol_size column) → (p i : ℕ) → i < h.row.ldpc_symbols + h.row.hdpc_symbols
         → dot octets (intermediate_symbols h.row) (fixed_equations h.row i) (slice_at p column) ≡ at (zero_symbol h.configuration.symbol_size) p
-    fixed_is hdpc p i l = elim (cases_lt i fixed) [
+    fixed_is hdpc p i l = elim (cases_lt i precode_rows) [
       | inl above ↦
-          ap (λ (r : ℕ → ℕ). dot octets (intermediate_symbols h.row) r (slice_at p column)) (sym (stacked_above fixed (fixed_equations h.row) (rows_of (symbol_coefficient h.row) (known_list h.row h.source_symbols m.entries)) i above))
-          ∙ (first.at_place p).at i (omega arith) ∙ ap (λ xs. at xs p) (zero_at h.row h.source_symbols h.configuration.symbol_size m fits ordered fixed i (omega arith))
+          ap (λ (r : ℕ → ℕ). dot octets (intermediate_symbols h.row) r (slice_at p column)) (sym (stacked_above precode_rows (fixed_equations h.row) (rows_of (symbol_coefficient h.row) (known_list h.row h.source_symbols m.entries)) i above))
+          ∙ (first.at_place p).at i (omega arith) ∙ ap (λ xs. at xs p) (zero_at h.row h.source_symbols h.configuration.symbol_size m fits ordered precode_rows i (omega arith))
       | inr past ↦
           let j : ℕ = i - h.row.ldpc_symbols in
           let e : h.row.ldpc_symbols + j ≡ i = omega arith in
@@ -64,35 +61,35 @@ module _ (h : ReceivedBlock) (m : Payloads) (fits : h.source_symbols ≤ h.row.e
     ]
 
     -- solves all that was received, where it solves the HDPC equations that aren't among them
-    pub first_solve : ((e : ℕ) → ForSome (h.received e) (λ x. length x ≡ h.configuration.symbol_size)) → (fixed < h.row.ldpc_symbols + h.row.hdpc_symbols → SolvesHdpc h.row h.configuration.symbol_size column) → SolvesReceived h column
+    pub first_solve : ((e : ℕ) → ForSome (h.received e) (λ x. length x ≡ h.configuration.symbol_size)) → (precode_rows < h.row.ldpc_symbols + h.row.hdpc_symbols → SolvesHdpc h.row h.configuration.symbol_size column) → SolvesReceived h column
     first_solve sized hdpc = record {
       symbols = are;
       fixed = record { at_place = λ p. record { at = λ i l. fixed_is hdpc p i l } };
       padding = λ x from below.
           let j : ℕ = x - h.source_symbols in
           let long = length-known_list h.row h.source_symbols m.entries in
-          sum_is j x (zero_symbol h.configuration.symbol_size) (omega arith) (padding_at h.row h.source_symbols h.configuration.symbol_size m fits ordered j (omega arith) ∙ omega arith) (zero_at h.row h.source_symbols h.configuration.symbol_size m fits ordered fixed (fixed + j) (omega arith)) (length-replicate {A = ℕ} h.configuration.symbol_size 0);
+          sum_is j x (zero_symbol h.configuration.symbol_size) (omega arith) (padding_at h.row h.source_symbols h.configuration.symbol_size m fits ordered j (omega arith) ∙ omega arith) (zero_at h.row h.source_symbols h.configuration.symbol_size m fits ordered precode_rows (precode_rows + j) (omega arith)) (length-replicate {A = ℕ} h.configuration.symbol_size 0);
       received = λ e. if_some_by (h.received e) (tuple_sum h.row column (internal_id h.row h.source_symbols e)) (λ x is.
-          let q = place_of h.row h.source_symbols h.configuration.symbol_size m fits ordered fixed e x (sym (same e) ∙ is) in
+          let q = place_of h.row h.source_symbols h.configuration.symbol_size m fits ordered precode_rows e x (sym (same e) ∙ is) in
           sym (sum_is q.0 (internal_id h.row h.source_symbols e) x q.1 q.2 q.3 (sized e x is)));
     }
 
   -- ---- what is found
 
-  module _ (sized : (e : ℕ) → ForSome (h.received e) (λ x. length x ≡ h.configuration.symbol_size)) (fixed : ℕ) (ldpc : h.row.ldpc_symbols ≤ fixed) (few : fixed ≤ h.row.ldpc_symbols + h.row.hdpc_symbols) (slab : Slab)
-      (s : IsBlockSolution h.row fixed (known_list h.row h.source_symbols m.entries) h.configuration.symbol_size (known_values h.row h.source_symbols fixed h.configuration.symbol_size m.entries) slab) where
+  module _ (sized : (e : ℕ) → ForSome (h.received e) (λ x. length x ≡ h.configuration.symbol_size)) (precode_rows : ℕ) (ldpc : h.row.ldpc_symbols ≤ precode_rows) (few : precode_rows ≤ h.row.ldpc_symbols + h.row.hdpc_symbols) (slab : Slab)
+      (s : IsBlockSolution h.row precode_rows (known_list h.row h.source_symbols m.entries) h.configuration.symbol_size (known_values h.row h.source_symbols precode_rows h.configuration.symbol_size m.entries) slab) where
     -- it solves what was received where it fits
-    fitting : Fits h.row fixed slab → SolvesReceived h (symbol_in slab)
-    fitting fit = first_solve fixed ldpc few (symbol_in slab) s.symbols (s.solves fit.unread) sized (λ less. subst (λ n. SolvesHdpc h.row n (symbol_in slab)) s.size_is (fit.hdpc less))
+    fitting : Fits h.row precode_rows slab → SolvesReceived h (symbol_in slab)
+    fitting fit = first_solve precode_rows ldpc few (symbol_in slab) s.symbols (s.solves fit.unread) sized (λ less. subst (λ n. SolvesHdpc h.row n (symbol_in slab)) s.size_is (fit.hdpc less))
 
     -- and fits where any column does
-    fits_solution : HasReceivedSolution h → Fits h.row fixed slab
+    fits_solution : HasReceivedSolution h → Fits h.row precode_rows slab
     fits_solution z = record {
-      unread = s.leaves z.column z.solves.symbols (values_solved h m fits ordered checked same fixed few z.column z.solves);
+      unread = s.leaves z.column z.solves.symbols (values_solved h m fits ordered checked same precode_rows few z.column z.solves);
       hdpc = λ _. record {
         at_place = λ p. record {
           at = λ i l.
-              let only = s.only z.column z.solves.symbols (values_solved h m fits ordered checked same fixed few z.column z.solves) in
+              let only = s.only z.column z.solves.symbols (values_solved h m fits ordered checked same precode_rows few z.column z.solves) in
               dot_same octets (intermediate_symbols h.row) (hdpc_coefficient h.row i) (hdpc_coefficient h.row i) (slice_at p (symbol_in slab)) (slice_at p z.column) (λ k b. refl) (λ k b. ap (λ xs. at xs p) (sym (only k b)))
               ∙ ap (λ (r : ℕ → ℕ). dot octets (intermediate_symbols h.row) r (slice_at p z.column)) (sym (stacked_below h.row.ldpc_symbols (ldpc_coefficient h.row) (hdpc_coefficient h.row) i))
               ∙ (z.solves.fixed.at_place p).at (h.row.ldpc_symbols + i) (omega arith)
@@ -101,26 +98,26 @@ module _ (h : ReceivedBlock) (m : Payloads) (fits : h.source_symbols ≤ h.row.e
       };
     }
 
-    pub received_solution : Fits h.row fixed slab → IsReceivedSolution h slab
+    pub received_solution : Fits h.row precode_rows slab → IsReceivedSolution h slab
     received_solution fit = record {
       determined = is_received h m fits ordered checked same s.determined;
       enough = s.enough;
       size_is = s.size_is;
       symbols = s.symbols;
       solves = fitting fit;
-      only = λ column z. s.only column z.symbols (values_solved h m fits ordered checked same fixed few column z);
+      only = λ column z. s.only column z.symbols (values_solved h m fits ordered checked same precode_rows few column z);
     }
 
-    pub received_contradiction : (Fits h.row fixed slab → ⊥) → IsContradictory h
+    pub received_contradiction : (Fits h.row precode_rows slab → ⊥) → IsContradictory h
     received_contradiction none = record { determined = is_received h m fits ordered checked same s.determined; unsolved = λ z. none (fits_solution z) }
 
   -- a solution that was found of a list and values that are those of what was received
-  pub listed_solution : (fixed size : ℕ) (list : List ℕ) (given slab : Slab) → size ≡ h.configuration.symbol_size → list ≡ known_list h.row h.source_symbols m.entries → given ≡ slab_of size (known_values h.row h.source_symbols fixed size m.entries)
-      → IsBlockSolution h.row fixed list given.symbol_size given.values slab
-      → IsBlockSolution h.row fixed (known_list h.row h.source_symbols m.entries) h.configuration.symbol_size (known_values h.row h.source_symbols fixed h.configuration.symbol_size m.entries) slab
-  listed_solution fixed size list given slab is listed values found =
-      subst (λ n. IsBlockSolution h.row fixed (known_list h.row h.source_symbols m.entries) n (known_values h.row h.source_symbols fixed n m.entries) slab) is
-      (subst (λ l. IsBlockSolution h.row fixed l size (known_values h.row h.source_symbols fixed size m.entries) slab) listed (subst (λ (g : Slab). IsBlockSolution h.row fixed list g.symbol_size g.values slab) values found))
+  pub listed_solution : (precode_rows size : ℕ) (list : List ℕ) (given slab : Slab) → size ≡ h.configuration.symbol_size → list ≡ known_list h.row h.source_symbols m.entries → given ≡ slab_of size (known_values h.row h.source_symbols precode_rows size m.entries)
+      → IsBlockSolution h.row precode_rows list given.symbol_size given.values slab
+      → IsBlockSolution h.row precode_rows (known_list h.row h.source_symbols m.entries) h.configuration.symbol_size (known_values h.row h.source_symbols precode_rows h.configuration.symbol_size m.entries) slab
+  listed_solution precode_rows size list given slab is listed values found =
+      subst (λ n. IsBlockSolution h.row precode_rows (known_list h.row h.source_symbols m.entries) n (known_values h.row h.source_symbols precode_rows n m.entries) slab) is
+      (subst (λ l. IsBlockSolution h.row precode_rows l size (known_values h.row h.source_symbols precode_rows size m.entries) slab) listed (subst (λ (g : Slab). IsBlockSolution h.row precode_rows list g.symbol_size g.values slab) values found))
 
   -- ---- as many ids as source symbols
 

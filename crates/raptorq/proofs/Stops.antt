@@ -12,15 +12,15 @@ use Rattle.rq_standard.proofs.Contradictions.{keeps_added, keeps_recorded, keeps
 use Rattle.rq_standard.proofs.StandingSteps.{stands_more, answers_late, leaves_late}
 use Rattle.raptorq.specs.Refused.{packet_refusal, IsPacketRefusal}
 use Rattle.raptorq.specs.Stopping.{StopsAsTested, AddsOrStops, AddsAndJoinsOrStops, refusal_of}
-use Rattle.raptorq.specs.Taking.{TakesPacket}
+use Rattle.raptorq.specs.TakesPacket.{TakesPacket}
 use Rattle.raptorq.specs.declared.decoder.packet_stop.PacketStop.{PacketStop}
 use Rattle.raptorq.specs.declared.decoder.packet_stop.PacketStop.TheVariants.{Refused, NotRecorded, NotSolved, Contradicted, NotJoined}
-use Rattle.raptorq.proofs.FollowedRuns.{tests, passes_below, taken_fits, follows_more, refused_next}
+use Rattle.raptorq.proofs.FollowedRuns.{packet_tests, passes_below, taken_fits, follows_more, refused_next}
 use Rattle.raptorq.proofs.Lists.{packet_refusal-packet}
 
 -- ---- what the tests say
 
-never_contradiction : (b s : Bool) → tests b s ≡ Err Contradiction → ⊥
+never_contradiction : (b s : Bool) → packet_tests b s ≡ Err Contradiction → ⊥
 never_contradiction true true h = absurd (cc h)
 never_contradiction true false h = absurd (cc h)
 never_contradiction false s h = absurd (cc h)

@@ -1,10 +1,9 @@
 -- Packets that a block's decoder takes one after another.
 use Rattle.std.proofs.Common.{◌≡◌, ℕ, Bool, true, false, cond, eqb, List, [], ◌∷◌, ◌++◌, length, Option, Some, None, Result, Ok, Err, refl, sym, ap, ◌∙◌, subst, inl, inr}
 use Rattle.std.specs.Iterator.{Yields}
-use Rattle.std.specs.Prelude.{not}
 use Rattle.std.proofs.lemmas.Bool.{eqb-true}
 use Rattle.rq_bytes.specs.declared.error.Error.{Error}
-use Rattle.rq_bytes.specs.declared.error.Error.TheVariants.{OutOfMemory, UnknownBlock, WrongPayloadSize}
+use Rattle.rq_bytes.specs.declared.error.Error.TheVariants.{OutOfMemory}
 use Rattle.rq_bytes.specs.Refusals.{IsRefusal}
 use Rattle.rq_standard.specs.Packet.{Packet, SymbolId}
 use Rattle.rq_standard.specs.Received.{or_later}
@@ -15,6 +14,7 @@ use Rattle.raptorq.specs.Decoding.{all_recorded, AreTaken, StopsAtLast, Decodes,
 use Rattle.raptorq.specs.Stopping.{StopsPacket, refusal_of}
 use Rattle.raptorq.specs.declared.decoder.packet_stop.PacketStop.{PacketStop}
 use Rattle.raptorq.specs.declared.decoder.packet_stop.PacketStop.TheVariants.{Refused, NotRecorded, NotSolved, Contradicted, NotJoined}
+use Rattle.raptorq.proofs.FollowedRuns.{packet_tests}
 
 number_kept : (h : ReceivedBlock) (packets : List Packet) → (all_recorded h packets).number ≡ h.number
 number_kept h [] = refl
@@ -24,10 +24,7 @@ configuration_kept : (h : ReceivedBlock) (packets : List Packet) → (all_record
 configuration_kept h [] = refl
 configuration_kept h (p ∷ packets) = configuration_kept (with_received h p.id.esi p.payload) packets
 
-abbrev refused_by : Bool → Bool → Result (Unit {0}) Error
-refused_by b s = cond (not b) (Err UnknownBlock) (cond (not s) (Err WrongPayloadSize) (Ok tt))
-
-size_is_tested : (b s : Bool) → refused_by b s ≡ Ok tt → s ≡ true
+size_is_tested : (b s : Bool) → packet_tests b s ≡ Ok tt → s ≡ true
 size_is_tested true true passed = refl
 size_is_tested true false passed = cc
 size_is_tested false s passed = cc
@@ -46,8 +43,8 @@ recorded_packet h p received id esi payload same is carries kept =
 -- what is refused stays the same
 pub refusal_kept : (h g : ReceivedBlock) (packets : List Packet) (p : Packet) → g ≡ all_recorded h packets → block_refusal g p ≡ block_refusal h p
 refusal_kept h g packets p is =
-    ap (λ k. block_refusal k p) is ∙ ap (λ n. refused_by (eqb p.id.block n) (eqb (length p.payload) (all_recorded h packets).configuration.symbol_size)) (number_kept h packets)
-    ∙ ap (λ c. refused_by (eqb p.id.block h.number) (eqb (length p.payload) c.symbol_size)) (configuration_kept h packets)
+    ap (λ k. block_refusal k p) is ∙ ap (λ n. packet_tests (eqb p.id.block n) (eqb (length p.payload) (all_recorded h packets).configuration.symbol_size)) (number_kept h packets)
+    ∙ ap (λ c. packet_tests (eqb p.id.block h.number) (eqb (length p.payload) c.symbol_size)) (configuration_kept h packets)
 
 all_recorded-push : (h : ReceivedBlock) (packets : List Packet) (p : Packet) → all_recorded h (packets ++ p ∷ []) ≡ with_received (all_recorded h packets) p.id.esi p.payload
 all_recorded-push h [] p = refl

@@ -41,4 +41,5 @@ pub record AppendsObject (table : List TableRow) (c : Configuration) (object : L
 -- why an object's packets are refused: for what the object's encoder is refused for, and then more packets than there are ids
 pub data RefusesPackets (table : List TableRow) (c : Configuration) (bytes repair : ℕ) (e : Error) : Type 0 where
   no_encoder : RefusesEncoder table c bytes e → RefusesPackets table c bytes repair e
-  too_many : new_encoder (greatest_size table) c bytes ≡ Ok tt → HasNonsingularRows table c → packets_refusal c repair ≡ Err e → RefusesPackets table c bytes repair e
+  too_many : new_encoder (greatest_size table) c bytes ≡ Ok tt → HasNonsingularRows table c
+      → packets_refusal c repair ≡ Err e → RefusesPackets table c bytes repair e

@@ -31,7 +31,7 @@ pub record IsPartAnswer (table : List TableRow) (c : Configuration) (object : Li
   pub only : IsSome answer → DetermineBlock (block_row table c b) (block_symbols c b) (has_id b packets)
   pub each : late ≡ false → DetermineBlock (block_row table c b) (block_symbols c b) (has_id b packets) → IsSome answer
 
--- so it is of a decoder that stands for a list, but for late blocks
+-- a decoder that stands for a list, but for late blocks, has just what the list determines of a block
 abbrev pub AnswersPart : State → ℕ → Option (List ℕ) → Type 0
 AnswersPart s b answer =
     (table : List TableRow) (object : List ℕ) (packets : List Packet) (late : ℕ → Bool)

@@ -29,7 +29,8 @@ CutsBlock b old encoded new =
 pub record AppendsBlocks (cutter : BlockCutter) (repair : ℕ) (old new : List ℕ) : Type 0 where
   pub packets : List Packet
   pub grown : new ≡ old ++ frames_of packets
-  pub encoded : (object : List ℕ) → length object ≡ cutter.config.now.transfer_length → StandsBefore object 0 cutter → AreEncoded cutter.table.now cutter.config.now object repair packets
+  pub encoded : (object : List ℕ) → length object ≡ cutter.config.now.transfer_length → StandsBefore object 0 cutter
+      → AreEncoded cutter.table.now cutter.config.now object repair packets
 
 -- why blocks aren't encoded: for want of memory, or for a singular row
 abbrev pub RefusesRows : List TableRow → Configuration → Error → Type 0

@@ -20,7 +20,8 @@ block_of table c number bytes =
 
 -- the block of these bytes in as many symbols as a plan is for; the bytes may end before the last symbol does
 abbrev pub block_by_plan : Plan → Configuration → ℕ → List ℕ → BlockEncoded
-block_by_plan plan c number bytes = record { number = number; row = plan.row; size = c.symbol_size; source = map (symbol_of_block c plan.count bytes) (range_with_len 0 plan.count) }
+block_by_plan plan c number bytes =
+    record { number = number; row = plan.row; size = c.symbol_size; source = map (symbol_of_block c plan.count bytes) (range_with_len 0 plan.count) }
 
 -- what its encoder is refused for: first these, and then a singular row
 abbrev pub RefusesBlock : List TableRow → Configuration → ℕ → Error → Type 0

@@ -16,16 +16,22 @@ use Rattle.raptorq.specs.declared.solving.BlockOperations.{BlockOperations}
 use Rattle.raptorq.specs.declared.solving.BlockOutcome.{BlockOutcome}
 use Rattle.raptorq.specs.declared.solving.BlockOutcome.TheVariants.{Operations, Undetermined}
 
--- the first `fixed` of the LDPC and HDPC equations, and then one for each id
+-- the first `precode_rows` of the LDPC and HDPC equations, and then one for each id
 abbrev pub first_equations : TableRow → ℕ → List ℕ → ℕ → ℕ → ℕ
-first_equations row fixed ids = stacked fixed (fixed_equations row) (rows_of (symbol_coefficient row) ids)
+first_equations row precode_rows ids = stacked precode_rows (fixed_equations row) (rows_of (symbol_coefficient row) ids)
+
+-- a column of symbols solves these with some values
+abbrev pub SolvesFirstEquations : TableRow → ℕ → List ℕ → (ℕ → List ℕ) → List (List ℕ) → Type 0
+SolvesFirstEquations row precode_rows ids column values =
+    SolvesSymbols octets (precode_rows + length ids) (intermediate_symbols row) (first_equations row precode_rows ids) column (symbol_at values)
 
 -- the operations find the intermediate symbols from the values of these
 pub record FindsFrom (row : TableRow) (ids : List ℕ) (solution : BlockOperations) : Type 0 where
   pub few : solution.precode_rows ≤ row.ldpc_symbols + row.hdpc_symbols
   pub ldpc : row.ldpc_symbols ≤ solution.precode_rows
   pub enough : intermediate_symbols row ≤ solution.precode_rows + length ids
-  pub finds : FindsColumn octets (solution.precode_rows + length ids) (intermediate_symbols row) (first_equations row solution.precode_rows ids) (operations_of solution.operations)
+  pub finds : FindsColumn octets (solution.precode_rows + length ids) (intermediate_symbols row) (first_equations row solution.precode_rows ids)
+      (operations_of solution.operations)
 
 -- the operations that find the intermediate symbols, exactly where the ids determine them
 abbrev pub FindsListed : TableRow → List ℕ → Option BlockOperations → Type 0
@@ -67,26 +73,27 @@ abbrev pub SparesHdpc : TableRow → List ℕ → Option BlockOperations → Typ
 SparesHdpc row ids answer = NeedsNoHdpc row ids → IsSomeAnd answer (λ solution. solution.precode_rows ≡ row.ldpc_symbols)
 
 -- the intermediate symbols in a slab, from the values of the equations
-pub record IsBlockSolution (row : TableRow) (fixed : ℕ) (ids : List ℕ) (size : ℕ) (values : List (List ℕ)) (slab : Slab) : Type 0 where
+pub record IsBlockSolution (row : TableRow) (precode_rows : ℕ) (ids : List ℕ) (size : ℕ) (values : List (List ℕ)) (slab : Slab) : Type 0 where
   pub determined : HasDeterminedRows row ids
   pub enough : intermediate_symbols row ≤ length (symbols_in slab)
   pub size_is : slab.symbol_size ≡ size
   pub symbols : IsSymbolColumn octets size (intermediate_symbols row) (symbol_in slab)
   -- a column that solves the equations is the one found
   pub only : (column : ℕ → List ℕ) → IsSymbolColumn octets size (intermediate_symbols row) column
-      → SolvesSymbols octets (fixed + length ids) (intermediate_symbols row) (first_equations row fixed ids) column (symbol_at values)
+      → SolvesFirstEquations row precode_rows ids column values
       → (k : ℕ) → k < intermediate_symbols row → column k ≡ symbol_in slab k
   -- there is one exactly where the symbols that aren't read are zeros, and the one found then solves them
   pub leaves : (column : ℕ → List ℕ) → IsSymbolColumn octets size (intermediate_symbols row) column
-      → SolvesSymbols octets (fixed + length ids) (intermediate_symbols row) (first_equations row fixed ids) column (symbol_at values)
+      → SolvesFirstEquations row precode_rows ids column values
       → IsZeroUnread slab
-  pub solves : IsZeroUnread slab → SolvesSymbols octets (fixed + length ids) (intermediate_symbols row) (first_equations row fixed ids) (symbol_in slab) (symbol_at values)
+  pub solves : IsZeroUnread slab → SolvesFirstEquations row precode_rows ids (symbol_in slab) values
 
 -- a column of symbols solves the HDPC equations
 abbrev pub SolvesHdpc : TableRow → ℕ → (ℕ → List ℕ) → Type 0
 SolvesHdpc row size column = SolvesSymbols octets row.hdpc_symbols (intermediate_symbols row) (hdpc_coefficient row) column (λ _. zero_symbol size)
 
--- intermediate symbols in a slab, from the values of the first `fixed` of the LDPC and HDPC equations and those of ids, solve all equations: nothing is left over of the values, and the HDPC equations are solved where they weren't among those
-pub record Fits (row : TableRow) (fixed : ℕ) (slab : Slab) : Type 0 where
+-- intermediate symbols in a slab, from the values of the first `precode_rows` of the LDPC and HDPC equations and those of ids, solve all equations:
+-- nothing is left over of the values, and the HDPC equations are solved where they weren't among those
+pub record Fits (row : TableRow) (precode_rows : ℕ) (slab : Slab) : Type 0 where
   pub unread : IsZeroUnread slab
-  pub hdpc : fixed < row.ldpc_symbols + row.hdpc_symbols → SolvesHdpc row slab.symbol_size (symbol_in slab)
+  pub hdpc : precode_rows < row.ldpc_symbols + row.hdpc_symbols → SolvesHdpc row slab.symbol_size (symbol_in slab)

@@ -9,4 +9,5 @@ use Rattle.raptorq.specs.contracts.encoder.cache.SourceBlockEncodingPlanCache.{t
 
 -- the count is used; after a refusal the cache is as before
 abbrev pub EndsUsed : MutBor PlanCache → ℕ → Result (Bor SourceBlockEncodingPlan) Error → Fml
-EndsUsed cache count r = follows_so the_row the_row cache.ghost_name none (λ _ _. ⊤) (λ after. MatchResult r (λ _. after ≡ after_use cache.now count) (λ _. after ≡ cache.now))
+EndsUsed cache count r =
+    follows_so the_row the_row cache.ghost_name none (λ _ _. ⊤) (λ after. MatchResult r (λ _. after ≡ after_use cache.now count) (λ _. after ≡ cache.now))

@@ -49,7 +49,8 @@ IsUnanswered h e = (e ≡ OutOfMemory) ⊎ ((e ≡ Contradiction) × IsContradic
 -- The packets are recorded and the block is answered where it is determined; or they are recorded, and there is no memory for the answer or they are contradictory; or the last one is refused or finds no memory.
 abbrev pub Decodes : {T : Type 0} → (T → Option Packet → T → Type 0) → T → ReceivedBlock → List Packet → Result (Option (List ℕ)) Error → ReceivedBlock → Type 0
 Decodes steps iterator old packets (Ok answer) new = RecordsAll steps iterator old packets new × IsBlockAnswer new answer
-Decodes steps iterator old packets (Err e) new = (RecordsAll steps iterator old packets new × IsUnanswered new e) ⊎ StopsAtLast steps iterator old packets (IsRefusal e) new
+Decodes steps iterator old packets (Err e) new =
+    (RecordsAll steps iterator old packets new × IsUnanswered new e) ⊎ StopsAtLast steps iterator old packets (IsRefusal e) new
 
 -- what `Decodes` says, by the place where the call stopped
 abbrev pub DecodesUntil : {T : Type 0} → (T → Option Packet → T → Type 0) → T → ReceivedBlock → List Packet → Result (Option (List ℕ)) PacketStop → ReceivedBlock → Type 0

@@ -1,10 +1,11 @@
 -- What the encoder of an object shows.
-use Rattle.std.specs.Prelude.{◌≡◌, ℕ, ◌+◌, ◌<◌, ◌^◌, List, [], length, map, Result, Ok, Err, if◌then◌else◌, nat_lt, slice_index_or}
+use Rattle.std.specs.Prelude.{◌≡◌, ℕ, ◌+◌, ◌*◌, ◌<◌, ◌^◌, List, [], length, map, Result, Ok, Err, if◌then◌else◌, nat_lt, slice_index_or}
 use Rattle.rq_bytes.specs.declared.error.Error.{Error}
 use Rattle.rq_bytes.specs.declared.error.Error.TheVariants.{UnknownBlock, EsiTooLarge}
 use Rattle.rq_standard.specs.declared.row.TableRow.{TableRow}
 use Rattle.rq_standard.specs.TableRows.{no_row}
-use Rattle.rq_standard.specs.Configuration.{Configuration}
+use Rattle.rq_standard.specs.Configuration.{Configuration, total_symbols}
+use Rattle.rq_standard.specs.Streams.{frame_size}
 use Rattle.rq_standard.specs.Packet.{SymbolId, Packet}
 use Rattle.rq_standard.specs.Headline.{IsPacketOf}
 use Rattle.rq_standard.specs.ObjectPackets.{AreEncoded}
@@ -44,3 +45,7 @@ id_in c i = if nat_lt i.block c.source_blocks then Ok i else Err UnknownBlock
 -- whether packets of `repair` repair symbols a block have ids: the first block is the largest
 abbrev pub packets_refusal : Configuration → ℕ → Result (Unit {0}) Error
 packets_refusal c repair = if nat_lt (2 ^ 24) (block_symbols c 0 + repair) then Err EsiTooLarge else Ok tt
+
+-- how many bytes they take with the source packets
+abbrev pub packets_length : Configuration → ℕ → ℕ
+packets_length c repair = (total_symbols c + c.source_blocks * repair) * frame_size c

@@ -21,4 +21,5 @@ pub record AreHdpcSums (row : TableRow) (column : ℕ → List ℕ) (size n : �
 
 -- each of the first `height` sums is zero once its power of alpha, times the symbol behind them, is added to it
 abbrev pub AreZeroWithLast : ℕ → Slab → Type 0
-AreZeroWithLast height sums = (h : ℕ) → h < height → (p : ℕ) → octets.add (at (symbol_in sums h) p) (octets.mul (octet_power h) (at (symbol_in sums height) p)) ≡ 0
+AreZeroWithLast height sums =
+    (h : ℕ) → h < height → (p : ℕ) → octets.add (at (symbol_in sums h) p) (octets.mul (octet_power h) (at (symbol_in sums height) p)) ≡ 0

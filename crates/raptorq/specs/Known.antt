@@ -1,6 +1,5 @@
 -- The equations that the decoder of a block knows, as a list of internal symbol ids with a value for each equation.
 use Rattle.std.specs.Prelude.{◌≡◌, ℕ, ◌+◌, ◌-◌, ◌<◌, ◌≤◌, Bool, List, ◌++◌, length, map, replicate, Option, Some, MatchOption, unwrap_or}
-use Rattle.std.specs.BTreeMap.{BTreeMap}
 use Rattle.std.specs.List.{range_with_len}
 use Rattle.std.specs.declared.vec.Vec.{Vec}
 use Rattle.std.specs.declared.alloc.Global.{Global}
@@ -15,7 +14,7 @@ use Rattle.rq_standard.specs.Headline.{known_ids}
 use Rattle.rq_standard.specs.Received.{or_later}
 use Rattle.rq_standard.specs.ReceivedBlock.{ReceivedBlock, IsHomogeneous, SolvesReceived, ReceivedDetermine}
 use Rattle.raptorq.specs.BlockSolutions.{FindsFrom}
-use Rattle.raptorq.specs.Missing.{payload_of}
+use Rattle.raptorq.specs.Missing.{Payloads, payload_of}
 use Rattle.raptorq.specs.declared.solving.BlockOperations.{BlockOperations}
 
 -- padding comes first, then what was received in the order of its encoding symbol ids
@@ -26,16 +25,16 @@ known_list row k entries = range_with_len k (row.extended_symbols - k) ++ map (�
 abbrev pub values_after : ℕ → ℕ → List (ℕ × Vec ℕ Global) → List (List ℕ)
 values_after zeros size entries = replicate zeros (zero_symbol size) ++ map (λ e. e.1.items) entries
 
--- zeros for `fixed` of the LDPC and HDPC equations and for the padding, and the payloads
+-- zeros for `precode_rows` of the LDPC and HDPC equations and for the padding, and the payloads
 abbrev pub known_values : TableRow → ℕ → ℕ → ℕ → List (ℕ × Vec ℕ Global) → List (List ℕ)
-known_values row k fixed size entries = values_after (fixed + (row.extended_symbols - k)) size entries
+known_values row k precode_rows size entries = values_after (precode_rows + (row.extended_symbols - k)) size entries
 
 -- the operations make the intermediate symbols from the values of what was received
-abbrev pub FindsFromKnown : ReceivedBlock → BTreeMap ℕ (Vec ℕ Global) → BlockOperations → Type 0
+abbrev pub FindsFromKnown : ReceivedBlock → Payloads → BlockOperations → Type 0
 FindsFromKnown h received solution = FindsFrom h.row (known_list h.row h.source_symbols received.entries) solution
 
 -- such operations, exactly where the ids determine them
-abbrev pub FindsKnown : ReceivedBlock → BTreeMap ℕ (Vec ℕ Global) → Option BlockOperations → Type 0
+abbrev pub FindsKnown : ReceivedBlock → Payloads → Option BlockOperations → Type 0
 FindsKnown h received answer = MatchOption answer (ReceivedDetermine h → ⊥) (FindsFromKnown h received)
 
 -- a column of octets solves the equation of an encoding symbol id with zero as its value
@@ -55,7 +54,7 @@ pub record IsReceivedSolution (h : ReceivedBlock) (slab : Slab) : Type 0 where
   pub solves : SolvesReceived h (symbol_in slab)
   pub only : (column : ℕ → List ℕ) → SolvesReceived h column → (k : ℕ) → k < intermediate_symbols h.row → column k ≡ symbol_in slab k
 
--- they are found exactly where the ids determine them
+-- a block's symbols are found exactly where the ids of what was received determine them
 abbrev pub SolvesBlock : ReceivedBlock → Option Slab → Type 0
 SolvesBlock h answer = MatchOption answer (ReceivedDetermine h → ⊥) (IsReceivedSolution h)
 
@@ -64,5 +63,5 @@ abbrev pub rebuilt_symbol : ReceivedBlock → Slab → ℕ → List ℕ
 rebuilt_symbol h slab e = unwrap_or (h.received e) (tuple_sum h.row (symbol_in slab) e)
 
 -- with these symbols besides those that were received each source symbol is there
-pub record HasLostSymbols (h : ReceivedBlock) (slab : Slab) (lost : BTreeMap ℕ (Vec ℕ Global)) : Type 0 where
+pub record HasLostSymbols (h : ReceivedBlock) (slab : Slab) (lost : Payloads) : Type 0 where
   pub each : (e : ℕ) → e < h.source_symbols → or_later (h.received e) (payload_of lost e) ≡ Some (rebuilt_symbol h slab e)

@@ -11,6 +11,9 @@ use Rattle.rq_standard.specs.Received.{has_id}
 use Rattle.rq_standard.specs.ReceivedBlock.{ReceivedBlock, has_received, with_received, ReceivedDetermine, IsContradictory}
 use Rattle.rq_standard.specs.SameIds.{HasIdsOf, HaveSameIds}
 use Rattle.rq_standard.specs.Headline.{IsNonsingular, DetermineBlock, IsIntermediateColumn, IsOnlyIntermediateColumn, IsPacketOf, IsHonestRun, IsAnswerable, IsOnlyObject, AnswersExactly}
+use Rattle.raptorq.specs.declared.decoder.object.Decoder.{Decoder}
+use Rattle.raptorq.specs.BlockBytes.{PartsMakeObject}
+use Rattle.raptorq.specs.Decoder.{state_of}
 use Rattle.raptorq.specs.Runs.{IsRunRefusal}
 
 -- Over a row that isn't singular, intermediate symbols of a block are the only ones.
@@ -41,7 +44,7 @@ MorePacketsDetermine =
     (row : TableRow) (k b : ℕ) (packets more : List Packet)
     → HasIdsOf more packets → DetermineBlock row k (has_id b packets) → DetermineBlock row k (has_id b more)
 
--- and so is an object.
+-- An object that a list answers is answered by each list that has its ids.
 abbrev pub MorePacketsAreAnswerable : Type 0
 MorePacketsAreAnswerable =
     (table : List TableRow) (c : Configuration) (packets more : List Packet)
@@ -105,3 +108,9 @@ abbrev pub CuttingUndoesJoining : Type 0
 CuttingUndoesJoining =
     (c : Configuration) (k : ℕ) (symbols : List (List ℕ))
     → IsAligned c → length symbols ≡ k → All (λ s. length s ≡ c.symbol_size) symbols → symbols_of_block c k (joined_block c k symbols) ≡ symbols
+
+-- ---- answered blocks
+
+-- What a decoder has of the object in its blocks, one after another, is what it answers.
+abbrev pub AnsweredPartsMakeObject : Type 0
+AnsweredPartsMakeObject = (decoder : Decoder) → PartsMakeObject (state_of decoder)

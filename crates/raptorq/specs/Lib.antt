@@ -26,4 +26,4 @@ pub mod SourceBlockEncodingPlan
 pub mod SourceBlockEncodingPlanCache
 pub mod Stopping
 pub mod SubBlocks
-pub mod Taking
+pub mod TakesPacket

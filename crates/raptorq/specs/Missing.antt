@@ -9,19 +9,23 @@ use Rattle.rq_standard.specs.Configuration.{Configuration}
 use Rattle.rq_standard.specs.ReceivedBlock.{ReceivedBlock}
 use Rattle.rq_standard.specs.Received.{or_later}
 
+-- payloads by their encoding symbol ids
+abbrev pub Payloads : Type 0
+Payloads = BTreeMap ℕ (Vec ℕ Global)
+
 -- the payload of an id
-abbrev pub payload_of : BTreeMap ℕ (Vec ℕ Global) → ℕ → Option (List ℕ)
+abbrev pub payload_of : Payloads → ℕ → Option (List ℕ)
 payload_of received e = option_map vec_items (get nat_cmp received e)
 
-abbrev pub has_payload : BTreeMap ℕ (Vec ℕ Global) → ℕ → Bool
+abbrev pub has_payload : Payloads → ℕ → Bool
 has_payload received e = is_some (payload_of received e)
 
 -- what was received of a block of K source symbols, by the map of its payloads
-abbrev pub received_block : Configuration → ℕ → TableRow → ℕ → BTreeMap ℕ (Vec ℕ Global) → ReceivedBlock
+abbrev pub received_block : Configuration → ℕ → TableRow → ℕ → Payloads → ReceivedBlock
 received_block c number row k received = record { configuration = c; number = number; row = row; source_symbols = k; received = payload_of received }
 
 -- the payload of an id was put there, unless one of it was there
-abbrev pub KeepsFirst : ℕ → List ℕ → BTreeMap ℕ (Vec ℕ Global) → BTreeMap ℕ (Vec ℕ Global) → Type 0
+abbrev pub KeepsFirst : ℕ → List ℕ → Payloads → Payloads → Type 0
 KeepsFirst esi payload old new = (e : ℕ) → payload_of new e ≡ or_later (payload_of old e) (if esi == e then Some payload else None)
 
 -- how many of the ids below n are missing

@@ -3,6 +3,7 @@ use Rattle.std.specs.Prelude.{ℕ, ◌+◌, ◌*◌, List, map, Result, Ok, Err,
 use Rattle.std.specs.List.{range_with_len}
 use Rattle.rq_bytes.specs.declared.error.Error.{Error}
 use Rattle.rq_bytes.specs.declared.error.Error.TheVariants.{SymbolSizeZero, SourceBlocksZero, TooManySymbols}
+use Rattle.rq_standard.specs.declared.systematic_indices.TheConstants.{MAX_SOURCE_SYMBOLS_PER_BLOCK}
 use Rattle.rq_standard.specs.Configuration.{Configuration, largest_block}
 use Rattle.rq_standard.specs.Cutting.{block_symbols, symbols_before}
 
@@ -18,5 +19,5 @@ abbrev pub checked_offsets : Configuration → Result (List (ℕ × ℕ)) Error
 checked_offsets c =
     if c.symbol_size == 0 then Err SymbolSizeZero
     else if c.source_blocks == 0 then Err SourceBlocksZero
-    else if nat_lt 56403 (largest_block c) then Err TooManySymbols
+    else if nat_lt MAX_SOURCE_SYMBOLS_PER_BLOCK (largest_block c) then Err TooManySymbols
     else Ok (block_offsets c)

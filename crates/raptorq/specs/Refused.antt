@@ -1,23 +1,15 @@
 -- What coders refuse, in the order of the tests.
 use Rattle.std.specs.Prelude.{◌≡◌, ◌⊎◌, ℕ, ◌+◌, ◌/◌, ◌%◌, ◌^◌, List, length, Result, Ok, Err, if◌then◌else◌, ◌==◌, ◌&&◌, not, nat_lt}
 use Rattle.rq_bytes.specs.declared.error.Error.{Error}
-use Rattle.rq_bytes.specs.declared.error.Error.TheVariants.{OutOfMemory, Contradiction, SymbolSizeZero, AlignmentZero, Misaligned, BlockOverTable, UnknownBlock, WrongPayloadSize, WrongDataLength, Singular, EsiTooLarge}
+use Rattle.rq_bytes.specs.declared.error.Error.TheVariants.{OutOfMemory, Contradiction, BlockOverTable, UnknownBlock, WrongPayloadSize, WrongDataLength, Singular, EsiTooLarge}
 use Rattle.rq_bytes.specs.Refusals.{IsRefusal, and_then}
 use Rattle.rq_standard.specs.declared.row.TableRow.{TableRow}
 use Rattle.rq_standard.specs.TableRows.{greatest_size}
 use Rattle.rq_standard.specs.Headline.{HasNonsingularRows}
-use Rattle.rq_base.specs.RefusedInput.{checked_configuration}
+use Rattle.rq_base.specs.RefusedInput.{checked_configuration, checked_symbols}
 use Rattle.rq_standard.specs.Packet.{Packet}
 use Rattle.rq_standard.specs.Configuration.{Configuration}
 use Rattle.rq_standard.specs.ReceivedBlock.{ReceivedBlock}
-
--- whether symbols are cut in whole units of the alignment
-abbrev pub checked_symbols : Configuration → Result (Unit {0}) Error
-checked_symbols c =
-    if c.symbol_size == 0 then Err SymbolSizeZero
-    else if c.alignment == 0 then Err AlignmentZero
-    else if not (c.symbol_size % c.alignment == 0) then Err Misaligned
-    else Ok tt
 
 -- whether the decoder of a block of `source_symbols` symbols (K) is made
 abbrev pub checked_block : ℕ → Configuration → ℕ → Result (Unit {0}) Error

@@ -45,7 +45,7 @@ pub record FollowsRun (table : List TableRow) (earlier : List Packet) (s : State
   pub received : HasReceivedRun table earlier s
   pub answers : (b : ℕ) → b < s.configuration.source_blocks → IsSome (s.answer b) ↔ CanAnswer (received_after table s.configuration b earlier)
 
--- and so it does one packet later
+-- a decoder that followed a list follows it with a packet more
 abbrev pub FollowsMore : State → Packet → State → Type 0
 FollowsMore old p new = (table : List TableRow) (earlier : List Packet) → FollowsRun table earlier old → FollowsRun table (earlier ++ p ∷ []) new
 

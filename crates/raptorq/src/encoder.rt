@@ -21,7 +21,7 @@ pub use block::SourceBlockEncoder;
 use block_cutter::BlockCutter;
 pub use builder::EncoderBuilder;
 pub use cache::SourceBlockEncodingPlanCache;
-pub use frames::encode_all;
+pub use frames::{encode_all, packets_length};
 pub use plan::SourceBlockEncodingPlan;
 use rq_base::base::{EncodingPacket, ObjectTransmissionInformation, PayloadId};
 use rq_bytes::error::Error;

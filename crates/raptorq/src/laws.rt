@@ -1,5 +1,5 @@
 //! Laws of packets, blocks and answers: each is the contract of a function that does nothing.
-ghost use Rattle.raptorq.specs.Laws.{IntermediateSymbolsAreOnly, SourcePacketsAreSymbols, AnswerableIsOnlyObject, MorePacketsDetermine, MorePacketsAreAnswerable, AnswersStay, SameIdsAreAnswerable, SameIdsAnswerTheSame, DeterminedByIdsAlone, ContradictionsStay, FirstRefusalIsOne, JoiningUndoesCutting, CuttingUndoesJoining};
+ghost use Rattle.raptorq.specs.Laws.{IntermediateSymbolsAreOnly, SourcePacketsAreSymbols, AnswerableIsOnlyObject, MorePacketsDetermine, MorePacketsAreAnswerable, AnswersStay, SameIdsAreAnswerable, SameIdsAnswerTheSame, DeterminedByIdsAlone, ContradictionsStay, FirstRefusalIsOne, JoiningUndoesCutting, CuttingUndoesJoining, AnsweredPartsMakeObject};
 
 /// A block has no more than one column of intermediate symbols where its row isn't singular: any two
 /// are the same below L (RFC 6330, sections 5.3.3 and 5.4.2).
@@ -56,4 +56,10 @@ pub fn first_refusals()
 pub fn joined_sub_blocks()
     ensures joined { JoiningUndoesCutting }
     ensures cut { CuttingUndoesJoining }
+{}
+
+/// The bytes that a decoder lends of its blocks one after another are the object that it answers, where
+/// each block is answered, and else there is none (RFC 6330, section 4.4.1.2).
+pub fn joined_blocks()
+    ensures { AnsweredPartsMakeObject }
 {}

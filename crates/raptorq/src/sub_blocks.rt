@@ -4,34 +4,11 @@ ghost use Rattle.std.specs.List.{range_with_len};
 ghost use Rattle.rq_bytes.specs.SymbolSlab.{slab_of};
 ghost use Rattle.rq_standard.specs.Configuration.{IsAligned};
 ghost use Rattle.rq_standard.specs.Cutting.{sub_block_size, symbol_of_block};
-ghost use Rattle.raptorq.specs.Refused.{checked_symbols};
 ghost use Rattle.raptorq.specs.SubBlocks.{IsCutInto};
 
 use rq_base::base::{ObjectTransmissionInformation, partition};
-use rq_bytes::error::Error;
 use rq_bytes::symbol_slab::SymbolSlab;
 use std::alloc::{AllocError, Global};
-
-/// Tests that symbols are cut in whole units of the alignment.
-///
-/// Refuses, in this order, [`Error::SymbolSizeZero`], [`Error::AlignmentZero`], and
-/// [`Error::Misaligned`] where the alignment doesn't divide the symbol size.
-pub(crate) fn check_symbols(config: &ObjectTransmissionInformation) -> Result<(), Error>
-    ensures refused { result ≡ checked_symbols config.now }
-    ensures positive { OnOk result (0 < config.now.symbol_size) }
-    ensures aligned { OnOk result (IsAligned config.now) }
-{
-    if config.symbol_size() == 0 {
-        return Err(Error::SymbolSizeZero);
-    }
-    if config.symbol_alignment() == 0 {
-        return Err(Error::AlignmentZero);
-    }
-    if config.symbol_size() % u16::from(config.symbol_alignment()) != 0 {
-        return Err(Error::Misaligned);
-    }
-    Ok(())
-}
 
 /// The size of the sub-block that has this byte of a symbol, in bytes.
 pub(crate) fn size_at(config: &ObjectTransmissionInformation, byte: usize) -> usize

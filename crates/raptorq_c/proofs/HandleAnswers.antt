@@ -1,13 +1,13 @@
 -- What calls on handles say, by what the coders say.
-use Rattle.std.proofs.Common.{◌≡◌, ◌≢◌, ◌⊎◌, ◌<◌, ℕ, Bool, true, false, cond, List, length, Option, Some, Result, Ok, Err, refl, sym, ap, ◌∙◌, subst, arith, inl, inr}
-use Rattle.std.specs.Prelude.{IsErr, IfErr, OnErr, MatchResult, not, nat_lt, ◌==◌}
+use Rattle.std.proofs.Common.{◌≡◌, ◌≢◌, ◌⊎◌, ◌<◌, ℕ, Bool, true, false, List, length, Option, Some, Result, Ok, Err, refl, sym, ap, ◌∙◌, subst, arith, inl, inr}
+use Rattle.std.specs.Prelude.{is_err, IsErr, IfOk, IfErr, OnOk, OnErr, MatchResult, nat_lt, ◌==◌}
 use Rattle.rq_bytes.specs.declared.error.Error.{Error}
 use Rattle.rq_bytes.specs.declared.error.Error.TheVariants.{OutOfMemory, Contradiction, UnknownBlock, WrongPayloadSize}
 use Rattle.rq_bytes.specs.Error.{code_of}
-use Rattle.rq_bytes.specs.Refusals.{and_then}
+use Rattle.rq_bytes.specs.Refusals.{and_then, IsRefusal}
 use Rattle.rq_standard.specs.declared.row.TableRow.{TableRow}
 use Rattle.rq_standard.specs.Configuration.{Configuration, configuration_of_bytes}
-use Rattle.rq_standard.specs.Packet.{Packet, packet_of_bytes}
+use Rattle.rq_standard.specs.Packet.{Packet}
 use Rattle.rq_standard.specs.DecoderState.{State}
 use Rattle.rq_standard.specs.DecoderSteps.{StopsEarly}
 use Rattle.rq_standard.specs.Standing.{LeavesBlockLate}
@@ -15,21 +15,18 @@ use Rattle.rq_standard.specs.Streams.{frame_size, frames_in}
 use Rattle.rq_base.specs.RefusedInput.{read_packet}
 use Rattle.raptorq.specs.Refused.{packet_refusal, IsPacketRefusal}
 use Rattle.raptorq.specs.Runs.{IsRunRefusal, AnswersRun}
-use Rattle.raptorq.specs.Taking.{TakesPacket}
+use Rattle.raptorq.specs.TakesPacket.{TakesPacket}
 use Rattle.raptorq_c.specs.declared.call_end.CallEnd.{CallEnd}
 use Rattle.raptorq_c.specs.declared.rows.Row.{Row}
 use Rattle.raptorq_c.specs.FurtherRows.{table_of}
 use Rattle.raptorq_c.specs.ObjectBuffers.{Answered, IsFilled, IsRefused, IsDecoded, IsDecodingRefusal, IsPacketsRefusal, frames_refusal, packets_in}
 use Rattle.raptorq.specs.Decoder.{IsAnswerOf}
-use Rattle.raptorq_c.specs.Handles.{bytes_refusal, FillsWithAnswer, FillsWithBlock, IsAdded, IsPartOf, IsTakenNumber}
+use Rattle.raptorq.proofs.FollowedRuns.{packet_tests}
+use Rattle.raptorq_c.specs.Handles.{bytes_refusal, FillsWithAnswer, FillsWithBlock, IsAdded, IsPartOf, IsTakenNumber, IsUnread, TakesRead}
 use Rattle.raptorq_c.specs.Numbers.{number_of, refusal_number}
-use Rattle.raptorq_c.proofs.Ending.{code_positive, code_small, is_memory, is_contradiction, is_stopped}
+use Rattle.raptorq_c.proofs.Ending.{code_positive, code_small, is_memory, is_stopped}
 use Rattle.raptorq_c.proofs.PacketFrames.{packet_read}
 use Rattle.raptorq_c.proofs.Tables.{held, refused_over, row_refused}
-
--- a refusal by a packet's block, and then by its payload's size
-abbrev refused_by : Bool → Bool → Result (Unit {0}) Error
-refused_by other_block other_size = cond other_block (Err UnknownBlock) (cond other_size (Err WrongPayloadSize) (Ok tt))
 
 -- a buffer is filled with an answer, of which P
 pub answered_by : (P : Option (List ℕ) → Type 0) (answer : Option (List ℕ)) (number : ℕ) (before after : List ℕ) → P answer → Answered number before after (λ r. r ≡ answer) → Answered number before after P
@@ -82,15 +79,15 @@ fills_block s block part ended before after known is number answered kept =
     }
 
 -- what the tests refuse of a packet is neither want of memory nor a contradiction
-tested : (other_block other_size : Bool) (e : Error) → IsPacketRefusal e (refused_by other_block other_size) → IsErr (refused_by other_block other_size) → (e ≢ OutOfMemory) × (e ≢ Contradiction)
-tested true b e is err = (λ h. let same : UnknownBlock ≡ OutOfMemory = sym is ∙ h in cc same, λ h. let same : UnknownBlock ≡ Contradiction = sym is ∙ h in cc same)
-tested false true e is err = (λ h. let same : WrongPayloadSize ≡ OutOfMemory = sym is ∙ h in cc same, λ h. let same : WrongPayloadSize ≡ Contradiction = sym is ∙ h in cc same)
-tested false false e is err = let none : false ≡ true = err in absurd (cc none)
+tested : (b s : Bool) (e : Error) → IsPacketRefusal e (packet_tests b s) → IsErr (packet_tests b s) → (e ≢ OutOfMemory) × (e ≢ Contradiction)
+tested false s e is err = (λ h. let same : UnknownBlock ≡ OutOfMemory = sym is ∙ h in cc same, λ h. let same : UnknownBlock ≡ Contradiction = sym is ∙ h in cc same)
+tested true false e is err = (λ h. let same : WrongPayloadSize ≡ OutOfMemory = sym is ∙ h in cc same, λ h. let same : WrongPayloadSize ≡ Contradiction = sym is ∙ h in cc same)
+tested true true e is err = let none : false ≡ true = err in absurd (cc none)
 
 -- a packet that is to be refused leaves a decoder as it was, whatever stopped it
 refused_whole : (c : Configuration) (p : Packet) (e : Error) (old new : State) → IsPacketRefusal e (packet_refusal c p) → (e ≢ OutOfMemory → e ≢ Contradiction → new ≡ old) → IsErr (packet_refusal c p) → new ≡ old
 refused_whole c p e old new answer same is_err =
-    let other = tested (not (nat_lt p.id.block c.source_blocks)) (not (length p.payload == c.symbol_size)) e answer is_err in
+    let other = tested (nat_lt p.id.block c.source_blocks) (length p.payload == c.symbol_size) e answer is_err in
     same other.0 other.1
 
 -- the number of what is refused of the bytes
@@ -99,49 +96,56 @@ taken_number e (Ok x) (inl memory) = inl (inr (ap code_of memory))
 taken_number e (Ok x) (inr contradiction) = inr (ap code_of contradiction, refl)
 taken_number e (Err w) same = inl (inl (ap code_of same))
 
--- what a decoder does with the packet that bytes spell
-read_bytes : (old new : State) (bytes : List ℕ) (r : Result (Unit {0}) Error) → read_packet bytes ≡ Ok (packet_of_bytes bytes) → TakesPacket old (packet_of_bytes bytes) r new
-    → IfErr r (λ e. e ≡ OutOfMemory → StopsEarly old (packet_of_bytes bytes) new) → IfErr r (λ e. e ≡ OutOfMemory → LeavesBlockLate old (packet_of_bytes bytes) new) → IsAdded old bytes (refusal_number r) new
-read_bytes old new bytes (Ok x) read takes stops late = record {
-  refused = inl (inl (sym (ap refusal_number (ap (λ (found : Result Packet Error). and_then {Y = Unit {0}} found (packet_refusal old.configuration)) read ∙ takes.accepted))));
-  unchanged = λ other. absurd (other refl);
-  adds = λ _. takes.adds;
-  stops = λ is. absurd (cc is);
-  contradiction = λ is. absurd (cc is);
-  goes_on = λ _. takes.goes_on;
-  keeps = takes.keeps;
-  honest = λ is. absurd (cc is);
-  stands = λ _. takes.stands;
-  answers_late = λ _. takes.answers_late;
-  leaves_late = λ is. absurd (cc is);
-  leaves_refused = λ is. absurd (cc is);
-}
-read_bytes old new bytes (Err e) read takes stops late =
-    let c = old.configuration in
-    let p = packet_of_bytes bytes in
-    let same : bytes_refusal c bytes ≡ packet_refusal c p = ap (λ (found : Result Packet Error). and_then {Y = Unit {0}} found (packet_refusal c)) read in
-    let undone : code_of e ≢ 0 = λ zero. omega (arith, zero, code_positive e) in
-    record {
-      refused = taken_number e (bytes_refusal c bytes) (subst (λ (r : Result (Unit {0}) Error). IsPacketRefusal e r) (sym same) takes.refused);
-      unchanged = λ _ not_memory not_contradiction. takes.unchanged (λ memory. not_memory (ap code_of memory)) (λ contradiction. not_contradiction (ap code_of contradiction));
-      adds = λ zero. absurd (undone zero);
-      stops = λ is. stops (is_memory e is);
-      contradiction = λ is. takes.contradiction (is_contradiction e is);
-      goes_on = λ zero. absurd (undone zero);
-      keeps = takes.keeps;
-      honest = λ is of_object. let both : Contradiction ≡ OutOfMemory = sym (is_contradiction e is) ∙ takes.honest of_object in cc both;
-      stands = λ zero. absurd (undone zero);
-      answers_late = λ zero. absurd (undone zero);
-      leaves_late = λ is. late (is_memory e is);
-      leaves_refused = λ _ refused. refused_whole c p e old new takes.refused takes.unchanged (subst (λ (r : Result (Unit {0}) Error). IsErr r) same refused);
-    }
+-- bytes that aren't read leave a decoder as it was
+unread_number : (c : Configuration) (e : Error) (read : Result Packet Error) → IsRefusal e read → IsTakenNumber (code_of e) (and_then {Y = Unit {0}} read (packet_refusal c))
+unread_number c e (Ok p) memory = inl (inr (ap code_of memory))
+unread_number c e (Err w) same = inl (inl (ap code_of same))
 
--- the same of the packet that was read
+unread_packet : (s : State) (e : Error) (read : Result Packet Error) → IsRefusal e read → IfOk read (λ p. IsUnread s (code_of e) s ⊎ TakesRead s p (code_of e) s)
+unread_packet s e (Ok p) memory = inl (ap code_of memory, refl)
+unread_packet s e (Err w) same = tt
+
+pub unread_bytes : (s : State) (bytes : List ℕ) (e : Error) → IsRefusal e (read_packet bytes) → IsAdded s bytes (code_of e) s
+unread_bytes s bytes e refusal = record {
+  refused = unread_number s.configuration e (read_packet bytes) refusal;
+  short = λ _. refl;
+  takes = unread_packet s e (read_packet bytes) refusal;
+  stops = λ _. inl refl;
+  leaves_late = λ _ table object packets late stands of_object. inl stands;
+  leaves_refused = λ _ _. refl;
+}
+
+-- the number of what a decoder answers
+answered_number : (c : Configuration) (p : Packet) (r : Result (Unit {0}) Error) → OnOk r (packet_refusal c p ≡ Ok tt) → IfErr r (λ e. IsPacketRefusal e (packet_refusal c p)) → IsTakenNumber (refusal_number r) (packet_refusal c p)
+answered_number c p (Ok x) accepted refused = inl (inl (sym (ap refusal_number accepted)))
+answered_number c p (Err e) accepted refused = taken_number e (packet_refusal c p) refused
+
+-- what it does where memory is refused
+for_memory : (P : Type 0) (r : Result (Unit {0}) Error) → IfErr r (λ e. e ≡ OutOfMemory → P) → refusal_number r ≡ 21 → P
+for_memory P (Ok x) does is = absurd (cc is)
+for_memory P (Err e) does is = does (is_memory e is)
+
+left_refused : (old new : State) (p : Packet) (r : Result (Unit {0}) Error) → TakesPacket old p r new → refusal_number r ≡ 21 → IsErr (packet_refusal old.configuration p) → new ≡ old
+left_refused old new p (Ok x) takes is = absurd (cc is)
+left_refused old new p (Err e) takes is = refused_whole old.configuration p e old new takes.refused takes.unchanged
+
+-- what a decoder does with the packet that bytes spell
 pub taken_bytes : (old new : State) (bytes : List ℕ) (p : Packet) (r : Result (Unit {0}) Error) → read_packet bytes ≡ Ok p → TakesPacket old p r new
     → IfErr r (λ e. e ≡ OutOfMemory → StopsEarly old p new) → IfErr r (λ e. e ≡ OutOfMemory → LeavesBlockLate old p new) → IsAdded old bytes (refusal_number r) new
 taken_bytes old new bytes p r read takes stops late =
-    let Taken : Packet → Type 0 = λ q. read_packet bytes ≡ Ok q → TakesPacket old q r new → IfErr r (λ e. e ≡ OutOfMemory → StopsEarly old q new) → IfErr r (λ e. e ≡ OutOfMemory → LeavesBlockLate old q new) → IsAdded old bytes (refusal_number r) new in
-    subst Taken (sym (packet_read bytes p read)) (read_bytes old new bytes r) read takes stops late
+    let n = refusal_number r in
+    let c = old.configuration in
+    let refusal : Result Packet Error → Result (Unit {0}) Error = λ found. and_then {Y = Unit {0}} found (packet_refusal c) in
+    let same : bytes_refusal c bytes ≡ packet_refusal c p = ap refusal read in
+    let is = packet_read bytes p read in
+    record {
+      refused = subst (IsTakenNumber n) (sym same) (answered_number c p r takes.accepted takes.refused);
+      short = λ err. let none : true ≡ false = sym err ∙ ap is_err read in absurd (cc none);
+      takes = subst (λ found. IfOk found (λ q. IsUnread old n new ⊎ TakesRead old q n new)) (sym read) (inr (record { result = r; number = refl; takes = takes }));
+      stops = λ memory. subst (λ q. StopsEarly old q new) is (for_memory (StopsEarly old p new) r stops memory);
+      leaves_late = λ memory. subst (λ q. LeavesBlockLate old q new) is (for_memory (LeavesBlockLate old p new) r late memory);
+      leaves_refused = λ memory err. left_refused old new p r takes memory (subst IsErr same err);
+    }
 
 -- ---- packets in a buffer
 

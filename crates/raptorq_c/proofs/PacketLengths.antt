@@ -18,13 +18,14 @@ use Rattle.rq_base.specs.RefusedInput.{checked_configuration}
 use Rattle.rq_base.proofs.Accepted.{both_ok, accepted_by}
 use Rattle.rq_bytes.specs.Refusals.{and_then}
 use Rattle.raptorq.specs.Appended.{AppendsObject}
+use Rattle.raptorq.specs.Encoder.{packets_length}
 use Rattle.raptorq.proofs.EncodedBlocks.{ids_before, ids_next}
 use Rattle.raptorq.proofs.Lists.{length-packet_bytes}
 use Rattle.raptorq_c.specs.declared.rows.Row.{Row}
 use Rattle.raptorq_c.specs.FurtherRows.{numbers_of, table_of}
 use Rattle.raptorq_c.specs.Headers.{checked_header}
 use Rattle.raptorq_c.specs.PacketBuffers.{IsEncoding}
-use Rattle.raptorq_c.specs.Sizes.{bytes_of_packets, packets_length}
+use Rattle.raptorq_c.specs.Sizes.{bytes_of_packets}
 use Rattle.raptorq_c.proofs.Tables.{table_in, table_checked}
 
 module _ (c : Configuration) where

@@ -1,21 +1,20 @@
 -- What the calls on lengths answer.
-use Rattle.std.proofs.Common.{◌≡◌, ℕ, ◌+◌, ◌/◌, ◌%◌, ◌<◌, ◌≤◌, ◌^◌, min, Bool, true, false, cond, eqb, ltb, List, length, Result, Ok, Err, refl, sym, ap, ◌∙◌, subst, arith, inl, inr}
-use Rattle.std.proofs.lemmas.Bool.{cases_lt, lt-ltb, le-ltb}
+use Rattle.std.proofs.Common.{◌≡◌, ℕ, ◌<◌, Bool, true, false, cond, eqb, ltb, List, length, Result, Ok, Err, refl, sym, ap, ◌∙◌, subst}
+use Rattle.std.proofs.lemmas.Bool.{lt-ltb}
 use Rattle.std.proofs.lemmas.List.FromFn.{length-map-range_with_len}
 use Rattle.rq_bytes.specs.declared.error.Error.{Error}
-use Rattle.rq_bytes.specs.declared.error.Error.TheVariants.{SymbolSizeZero, SourceBlocksZero, TooManySymbols, UnknownBlock, EsiTooLarge}
+use Rattle.rq_bytes.specs.declared.error.Error.TheVariants.{SymbolSizeZero, SourceBlocksZero, TooManySymbols, UnknownBlock}
 use Rattle.rq_bytes.specs.Refusals.{and_then}
 use Rattle.rq_standard.specs.declared.row.TableRow.{TableRow}
-use Rattle.rq_standard.specs.Configuration.{Configuration, configuration_of_bytes, total_symbols, largest_block}
-use Rattle.rq_standard.specs.Cutting.{block_parts, block_symbols}
+use Rattle.rq_standard.specs.declared.systematic_indices.TheConstants.{MAX_SOURCE_SYMBOLS_PER_BLOCK}
+use Rattle.rq_standard.specs.Configuration.{Configuration, configuration_of_bytes, largest_block}
 use Rattle.rq_standard.specs.TableRows.{greatest_size}
-use Rattle.rq_standard.proofs.BlockCuts.{larger_block, smaller_block}
 use Rattle.rq_base.specs.RefusedInput.{checked_configuration}
-use Rattle.raptorq.specs.Encoder.{packets_refusal}
+use Rattle.raptorq.specs.Encoder.{packets_length, packets_refusal}
 use Rattle.raptorq.specs.Offsets.{block_offsets, block_range, checked_offsets}
 use Rattle.raptorq_c.specs.declared.rows.Row.{Row}
 use Rattle.raptorq_c.specs.FurtherRows.{table_of}
-use Rattle.raptorq_c.specs.Sizes.{part_of_block, bytes_of_packets, packets_length}
+use Rattle.raptorq_c.specs.Sizes.{part_of_block, bytes_of_packets}
 use Rattle.raptorq_c.proofs.PacketLengths.{wanted}
 use Rattle.raptorq_c.proofs.Tables.{held}
 
@@ -36,7 +35,7 @@ tested false false false e f g xs ys h = same_list ys xs (sym h)
 
 -- what isn't refused are the places of all blocks
 pub offsets_of : (c : Configuration) (xs : List (ℕ × ℕ)) → checked_offsets c ≡ Ok xs → xs ≡ block_offsets c
-offsets_of c xs h = tested (eqb c.symbol_size 0) (eqb c.source_blocks 0) (ltb 56403 (largest_block c)) SymbolSizeZero SourceBlocksZero TooManySymbols (block_offsets c) xs h
+offsets_of c xs h = tested (eqb c.symbol_size 0) (eqb c.source_blocks 0) (ltb MAX_SOURCE_SYMBOLS_PER_BLOCK (largest_block c)) SymbolSizeZero SourceBlocksZero TooManySymbols (block_offsets c) xs h
 
 pub count_of : (c : Configuration) (xs : List (ℕ × ℕ)) → checked_offsets c ≡ Ok xs → length xs ≡ c.source_blocks
 count_of c xs h = ap length (offsets_of c xs h) ∙ length-map-range_with_len (block_range c) 0 c.source_blocks
@@ -47,20 +46,6 @@ block_found header b d xs same is below =
     subst (λ k. and_then (checked_offsets k) (λ _. cond (ltb b k.source_blocks) (Ok (block_range k b)) (Err UnknownBlock)) ≡ Ok (block_range d b)) same (rw (is, lt-ltb b d.source_blocks below) refl)
 
 -- ---- how many bytes packets take
-
--- the first block is the largest
-pub first_block : (c : Configuration) → 0 < c.source_blocks → block_symbols c 0 ≡ largest_block c
-first_block c some =
-    let i = total_symbols c in
-    let z = c.source_blocks in
-    let over : (block_parts c).larger_count ≡ i % z = omega arith in
-    elim (cases_lt 0 (block_parts c).larger_count) [
-      | inl lt ↦ larger_block c 0 lt
-      | inr none ↦
-          let even : i % z ≡ 0 = omega (arith, over, none) in
-          let same : i / z ≡ i / z + min 1 0 = omega arith in
-          smaller_block c 0 none some ∙ same ∙ ap (λ r. i / z + min 1 r) (sym even)
-    ]
 
 abbrev pub passed : Unit {0} → Result (Unit {0}) Error
 passed u = Ok u
@@ -73,8 +58,8 @@ module _ (rows : List Row) (header : List ℕ) (table : List TableRow) (d : Conf
   abbrev counted : Configuration → ℕ → Result ℕ Error
   counted k repair = and_then (and_then (table_of rows) (λ t. checked_configuration (greatest_size t) k)) (λ _. and_then (packets_refusal k repair) (λ _. wanted (packets_length k repair)))
 
-  pub too_many : (repair : ℕ) → 2 ^ 24 < block_symbols d 0 + repair → bytes_of_packets rows header repair ≡ Err EsiTooLarge
-  too_many repair many = subst (λ k. counted k repair ≡ Err EsiTooLarge) same (rw (over_rows, lt-ltb (2 ^ 24) (block_symbols d 0 + repair) many) refl)
+  pub too_many : (repair : ℕ) (e : Error) → packets_refusal d repair ≡ Err e → bytes_of_packets rows header repair ≡ Err e
+  too_many repair e is = subst (λ k. counted k repair ≡ Err e) same (rw (over_rows, is) refl)
 
-  pub enough : (repair : ℕ) → block_symbols d 0 + repair ≤ 2 ^ 24 → bytes_of_packets rows header repair ≡ wanted (packets_length d repair)
-  enough repair few = subst (λ k. counted k repair ≡ wanted (packets_length d repair)) same (rw (over_rows, le-ltb (2 ^ 24) (block_symbols d 0 + repair) few) refl)
+  pub enough : (repair : ℕ) → packets_refusal d repair ≡ passed tt → bytes_of_packets rows header repair ≡ wanted (packets_length d repair)
+  enough repair is = subst (λ k. counted k repair ≡ wanted (packets_length d repair)) same (rw (over_rows, is) refl)

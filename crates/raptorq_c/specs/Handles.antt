@@ -1,14 +1,14 @@
 -- What handles hold, and what calls do to it.
-use Rattle.std.specs.Prelude.{◌≡◌, ◌≢◌, ◌⊎◌, ◌↔◌, ℕ, ◌≤◌, List, length, Option, Some, None, IfSome, IsSomeAnd, MatchOption, IsErr, option_and_then, Result, Ok, Err}
+use Rattle.std.specs.Prelude.{◌≡◌, ◌≢◌, ◌⊎◌, ◌↔◌, ℕ, ◌≤◌, List, length, Option, Some, None, IfSome, IsSomeAnd, MatchOption, IfOk, IsErr, option_and_then, Result, Ok, Err}
 use Rattle.rq_bytes.specs.declared.error.Error.{Error}
 use Rattle.rq_bytes.specs.Error.{code_of}
 use Rattle.rq_bytes.specs.Refusals.{and_then}
 use Rattle.rq_standard.specs.Configuration.{Configuration, configuration_of_bytes}
 use Rattle.rq_standard.specs.Packet.{SymbolId, Packet, packet_bytes, packet_of_bytes}
 use Rattle.rq_standard.specs.Headline.{HasNonsingularRows}
-use Rattle.rq_standard.specs.DecoderState.{State, IsNewState, result_of}
-use Rattle.rq_standard.specs.DecoderSteps.{Adds, StopsEarly, Contradicts, IsBlockContradictory, KeepsContradictions}
-use Rattle.rq_standard.specs.Standing.{IsHonestPacket, StandsForNone, StandsForMore, AnswersLateBlock, LeavesBlockLate}
+use Rattle.rq_standard.specs.DecoderState.{State, IsNewState}
+use Rattle.rq_standard.specs.DecoderSteps.{StopsEarly, IsBlockContradictory}
+use Rattle.rq_standard.specs.Standing.{StandsForNone, LeavesBlockLate}
 use Rattle.rq_standard.specs.TableRows.{greatest_size}
 use Rattle.rq_base.specs.RefusedInput.{new_id, read_packet}
 use Rattle.raptorq.specs.BlockBytes.{answered_part, AnswersPart, PartsMakeObject}
@@ -16,8 +16,9 @@ use Rattle.raptorq.specs.Decoder.{state_of, IsAnswerOf}
 use Rattle.raptorq.specs.Encoder.{Encoded, encoded_of, id_in, IsEncoderOf, IsPacketIn}
 use Rattle.raptorq.specs.MissingPackets.{NeedsMore, TellsMissingOf}
 use Rattle.raptorq.specs.Refused.{new_encoder, packet_refusal, RefusesEncoder}
+use Rattle.raptorq.specs.TakesPacket.{TakesPacket}
 use Rattle.raptorq_c.specs.ObjectBuffers.{Answered, IsFilled, IsRefused}
-use Rattle.raptorq_c.specs.Numbers.{IsNumber}
+use Rattle.raptorq_c.specs.Numbers.{refusal_number, IsNumber}
 use Rattle.raptorq_c.specs.Headers.{checked_header}
 use Rattle.raptorq_c.specs.declared.handle.Handle.{Handle}
 use Rattle.raptorq_c.specs.declared.owned.Coder.{Coder}
@@ -70,18 +71,22 @@ IsTakenNumber number wanted = IsNumber number wanted ⊎ ((number ≡ 22) × (wa
 abbrev pub LeavesRefused : List ℕ → State → State → Type 0
 LeavesRefused bytes old new = IsErr (bytes_refusal old.configuration bytes) → new ≡ old
 
--- what the bytes of a packet do to a decoder: as the packet does, and where memory is refused for them, nothing
+-- memory is refused before a decoder has the packet
+abbrev pub IsUnread : State → ℕ → State → Type 0
+IsUnread old answer new = (answer ≡ 21) × (new ≡ old)
+
+-- what a packet does to a decoder, and the number of what the decoder answers
+pub record TakesRead (old : State) (packet : Packet) (answer : ℕ) (new : State) : Type 0 where
+  pub result : Result (Unit {0}) Error
+  pub number : answer ≡ refusal_number result
+  pub takes : TakesPacket old packet result new
+
+-- What the bytes of a packet do to a decoder: what the packet does, and nothing where they are too short or memory is refused before it has the packet.
 pub record IsAdded (old : State) (bytes : List ℕ) (answer : ℕ) (new : State) : Type 0 where
   pub refused : IsTakenNumber answer (bytes_refusal old.configuration bytes)
-  pub unchanged : answer ≢ 0 → answer ≢ 21 → answer ≢ 22 → new ≡ old
-  pub adds : answer ≡ 0 → Adds old (packet_of_bytes bytes) new
+  pub short : IsErr (read_packet bytes) → new ≡ old
+  pub takes : IfOk (read_packet bytes) (λ packet. IsUnread old answer new ⊎ TakesRead old packet answer new)
   pub stops : answer ≡ 21 → StopsEarly old (packet_of_bytes bytes) new
-  pub contradiction : answer ≡ 22 → Contradicts old (packet_of_bytes bytes) new
-  pub goes_on : answer ≡ 0 → IsBlockContradictory old (packet_of_bytes bytes).id.block → ⊥
-  pub keeps : KeepsContradictions old new
-  pub honest : answer ≡ 22 → IsHonestPacket old (packet_of_bytes bytes) → ⊥
-  pub stands : answer ≡ 0 → StandsForMore old (packet_of_bytes bytes) new
-  pub answers_late : answer ≡ 0 → AnswersLateBlock old (packet_of_bytes bytes) new
   pub leaves_late : answer ≡ 21 → LeavesBlockLate old (packet_of_bytes bytes) new
   pub leaves_refused : answer ≡ 21 → LeavesRefused bytes old new
 

@@ -15,7 +15,8 @@ AreFramesOf rows c object repair bytes = HoldsOver rows (λ table. AppendsObject
 -- Why no packets are written: for want of memory (21), for a row that is refused (19), for what refuses the packets, of which a singular row is 9, or for room of another length (24).
 pub data StopsEncoding (rows : List Row) (c : Configuration) (object : List ℕ) (repair room : ℕ) (number : ℕ) : Type 0 where
   no_memory : number ≡ 21 → StopsEncoding rows c object repair room number
-  refused : (e : Error) → RefusesOver rows (λ table. RefusesPackets table c (length object) repair) e → number ≡ code_of e → StopsEncoding rows c object repair room number
+  refused : (e : Error) → RefusesOver rows (λ table. RefusesPackets table c (length object) repair) e
+      → number ≡ code_of e → StopsEncoding rows c object repair room number
   no_room : (bytes : List ℕ) → AreFramesOf rows c object repair bytes → room ≢ length bytes → number ≡ 24 → StopsEncoding rows c object repair room number
 
 -- the bytes in a buffer are packets of the object in the configuration of these twelve bytes

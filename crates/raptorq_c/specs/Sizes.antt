@@ -1,11 +1,10 @@
 -- How many bytes the blocks and the packets of an object take.
-use Rattle.std.specs.Prelude.{ℕ, ◌+◌, ◌*◌, List, Result, Ok, Err, if◌then◌else◌, nat_lt}
+use Rattle.std.specs.Prelude.{ℕ, List, Result, Ok, Err, if◌then◌else◌, nat_lt}
 use Rattle.rq_bytes.specs.declared.error.Error.{Error}
 use Rattle.rq_bytes.specs.declared.error.Error.TheVariants.{UnknownBlock}
 use Rattle.rq_bytes.specs.Refusals.{and_then}
-use Rattle.rq_standard.specs.Configuration.{Configuration, configuration_of_bytes, total_symbols}
-use Rattle.rq_standard.specs.Streams.{frame_size}
-use Rattle.raptorq.specs.Encoder.{packets_refusal}
+use Rattle.rq_standard.specs.Configuration.{configuration_of_bytes}
+use Rattle.raptorq.specs.Encoder.{packets_length, packets_refusal}
 use Rattle.raptorq.specs.Offsets.{block_range, checked_offsets}
 use Rattle.raptorq_c.specs.declared.rows.Row.{Row}
 use Rattle.raptorq_c.specs.declared.sizes.Range.{Range}
@@ -19,10 +18,6 @@ abbrev pub part_of_block : List ℕ → ℕ → Result (ℕ × ℕ) Error
 part_of_block header b =
     let c = configuration_of_bytes header in
     and_then (checked_offsets c) (λ _. if nat_lt b c.source_blocks then Ok (block_range c b) else Err UnknownBlock)
-
--- Kt source packets, and `repair` repair packets a block
-abbrev pub packets_length : Configuration → ℕ → ℕ
-packets_length c repair = (total_symbols c + c.source_blocks * repair) * frame_size c
 
 -- how many bytes the packets of an object take
 abbrev pub bytes_of_packets : List Row → List ℕ → ℕ → Result ℕ Error

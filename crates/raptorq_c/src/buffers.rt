@@ -39,8 +39,5 @@ pub(crate) fn fill_answer(object: &mut [u8], answer: &Option<Vec<u8>>) -> Result
     ensures number { IsFilled (number_of result) }
     ensures kept { OnErr result (object.new ≡ object.old) }
 {
-    match answer {
-        Some(bytes) => fill_part(object, Some(bytes.as_slice())),
-        None => fill_part(object, None),
-    }
+    fill_part(object, answer.as_deref())
 }

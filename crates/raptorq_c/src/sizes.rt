@@ -4,9 +4,8 @@ ghost use Rattle.raptorq_c.specs.Sizes.{part_of_block, bytes_of_packets, range_b
 
 use crate::call_end::{CallEnd, number};
 use crate::rows::{Row, table_with};
-use raptorq::base::ENCODING_SYMBOL_IDS;
 use raptorq::error::Error;
-use raptorq::{ObjectTransmissionInformation, calculate_block_offsets};
+use raptorq::{ObjectTransmissionInformation, calculate_block_offsets, encoder};
 use std::alloc::Global;
 
 /// Where bytes begin, and where they end. In C it is `reamertan_range`.
@@ -71,12 +70,7 @@ fn packets_length(
     let table = table_with(alloc, rows)?;
     let config = ObjectTransmissionInformation::deserialize(configuration);
     config.check(&table)?;
-    let repair = u64::from(repair);
-    if config.largest_block() + repair > u64::from(ENCODING_SYMBOL_IDS) {
-        return Err(CallEnd::Refused(Error::EsiTooLarge));
-    }
-    let packets = config.total_symbols() + u64::from(config.source_blocks()) * repair;
-    *length = packets * config.frame_size() as u64;
+    *length = encoder::packets_length(&config, repair)?;
     Ok(())
 }
 

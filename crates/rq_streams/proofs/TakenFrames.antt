@@ -10,7 +10,7 @@ use Rattle.rq_standard.specs.Standing.{StandsFor, IsHonestPacket}
 use Rattle.rq_bytes.specs.declared.error.Error.{Error}
 use Rattle.rq_bytes.specs.declared.error.Error.TheVariants.{Contradiction}
 use Rattle.raptorq.specs.Runs.{IsNextRefusal, IsRefusalBehind, FollowsRun}
-use Rattle.raptorq.specs.Taking.{TakesPacket}
+use Rattle.raptorq.specs.TakesPacket.{TakesPacket}
 use Rattle.raptorq.proofs.FollowedRuns.{one_passes, one_stops}
 use Rattle.raptorq.proofs.Lists.{all_at}
 use Rattle.rq_standard.specs.Streams.{frame_size, frames_in}

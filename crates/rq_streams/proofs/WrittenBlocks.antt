@@ -9,7 +9,10 @@ use Rattle.std.proofs.lemmas.List.{take-append-le, take_all, take_min}
 use Rattle.rq_standard.specs.DecoderState.{State, result_of}
 use Rattle.rq_standard.proofs.BlockCuts.{pieces}
 use Rattle.rq_standard.proofs.ObjectAnswers.{joined_some, joined_each}
-use Rattle.raptorq.specs.BlockBytes.{answered_part, PartsMakeObject}
+use Rattle.raptorq.specs.BlockBytes.{answered_part}
+use Rattle.raptorq.specs.Decoder.{state_of}
+use Rattle.raptorq.specs.declared.decoder.object.Decoder.{Decoder}
+use Rattle.raptorq.proofs.AnsweredParts.{parts_of_decoder}
 use Rattle.raptorq.proofs.ObjectBlocks.{unwrapped}
 use Rattle.rq_streams.specs.declared.run.Outcome.TheVariants.{Written}
 use Rattle.rq_streams.specs.declared.run.Stop.{Stop}
@@ -25,8 +28,10 @@ abbrev pub written_parts : State → ℕ → List ℕ
 written_parts s n = pieces (written_part s) n
 
 -- all of them are the object, where it is answered
-pub written_object : (s : State) → IsSome (result_of s) → PartsMakeObject s → written_parts s s.configuration.source_blocks ≡ unwrap_or (result_of s) []
-written_object s whole makes =
+pub written_object : (d : Decoder) → IsSome (result_of (state_of d)) → written_parts (state_of d) (state_of d).configuration.source_blocks ≡ unwrap_or (result_of (state_of d)) []
+written_object d whole =
+    let s = state_of d in
+    let makes = parts_of_decoder d in
     let z = s.configuration.source_blocks in
     let each = joined_each (answered_part s) z (subst IsSome (sym makes) whole) in
     let all = joined_some (written_part s) (answered_part s) z (λ b below. unwrapped (answered_part s b) (each b below)) in

@@ -109,4 +109,5 @@ ReceivesWhereAnyCan table result input before after =
 
 -- Of a mixed stream it answers how many frames hold no packet, its rest being one of them.
 abbrev pub CountsOthers : List TableRow → Result (Outcome × ℕ) Stop → Option (List ℕ) → Type 0
-CountsOthers table result input = IfSome input (λ bytes. OverMixedStreams table bytes (λ c object frames rest. IfOk result (λ ended. ended.1 ≡ other_count frames rest)))
+CountsOthers table result input =
+    IfSome input (λ bytes. OverMixedStreams table bytes (λ c object frames rest. IfOk result (λ ended. ended.1 ≡ other_count frames rest)))

@@ -42,7 +42,8 @@ Sends table c repair object wanted =
 
 -- the stream of an object's packets in its default configuration, unless something refuses it
 abbrev pub IsSent : List TableRow → ℕ → ℕ → List ℕ → Wanted → Type 0
-IsSent table packet_size repair object wanted = MatchResult (sent_configuration table packet_size object) (λ c. Sends table c repair object wanted) (λ e. wanted ≡ Err e)
+IsSent table packet_size repair object wanted =
+    MatchResult (sent_configuration table packet_size object) (λ c. Sends table c repair object wanted) (λ e. wanted ≡ Err e)
 
 -- A run that reads this object, and behind whose writer this stood before and after, writes that stream.
 abbrev pub SendsAll : List TableRow → ℕ → ℕ → Result Outcome Stop → Option (List ℕ) → Option (List ℕ) → Option (List ℕ) → Type 0

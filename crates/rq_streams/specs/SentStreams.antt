@@ -20,7 +20,9 @@ pub record IsSentStream (table : List TableRow) (repair : ℕ) (object stream : 
   pub taken : (some : List Packet) → AllByRecursion (Contains packets) some → IsStreamOf table configuration object some (stream_of configuration some)
 
 abbrev pub SentStreamsAreTaken : Type 0
-SentStreamsAreTaken = (table : List TableRow) (packet_size repair : ℕ) (object stream : List ℕ) → IsTable table → packet_size < 2 ^ 16 → IsSent table packet_size repair object (Ok (Some stream)) → IsSentStream table repair object stream
+SentStreamsAreTaken =
+    (table : List TableRow) (packet_size repair : ℕ) (object stream : List ℕ) → IsTable table
+    → packet_size < 2 ^ 16 → IsSent table packet_size repair object (Ok (Some stream)) → IsSentStream table repair object stream
 
 -- A stream of an object's packets is a mixed stream of these packets, in which nothing is skipped.
 pub record IsUnmixed (table : List TableRow) (c : Configuration) (object : List ℕ) (packets : List Packet) (bytes : List ℕ) : Type 0 where
@@ -30,4 +32,6 @@ pub record IsUnmixed (table : List TableRow) (c : Configuration) (object : List 
   pub none : other_count frames [] ≡ 0
 
 abbrev pub StreamsAreUnmixed : Type 0
-StreamsAreUnmixed = (table : List TableRow) (c : Configuration) (object : List ℕ) (packets : List Packet) (bytes : List ℕ) → IsStreamOf table c object packets bytes → IsUnmixed table c object packets bytes
+StreamsAreUnmixed =
+    (table : List TableRow) (c : Configuration) (object : List ℕ) (packets : List Packet) (bytes : List ℕ)
+    → IsStreamOf table c object packets bytes → IsUnmixed table c object packets bytes

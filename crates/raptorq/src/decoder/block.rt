@@ -8,15 +8,15 @@ ghost use Rattle.raptorq.specs.Known.{IsHomogeneousOf};
 ghost use Rattle.raptorq.specs.Missing.{received_block, payload_of, has_payload, missing_count};
 ghost use Rattle.raptorq.specs.declared.decoder.last_outcome.LastOutcome.TheVariants.{Undetermined, Contradictory};
 
-use crate::decoder::columns::{column_solves, octet_symbols};
+use crate::decoder::columns::{keep_where_it_solves, octet_symbols};
 use crate::decoder::known::known_symbol_ids;
 use crate::decoder::last_outcome::LastOutcome;
 use crate::decoder::packet_stop::PacketStop;
-use crate::decoder::payloads::{join, keep_first};
+use crate::decoder::payloads::{check_size, join, keep_first};
 use crate::enc::encoding_symbol;
 use crate::encoder::SPARSE_MATRIX_THRESHOLD;
 use crate::solving::homogeneous;
-use crate::sub_blocks::{BlockLayout, check_symbols, size_at};
+use crate::sub_blocks::{BlockLayout, size_at};
 use rq_base::base::{EncodingPacket, ObjectTransmissionInformation};
 use rq_bytes::error::Error;
 use rq_bytes::octets;
@@ -89,7 +89,7 @@ impl SourceBlockDecoder {
         ensures refused { IsAnswer (λ _. tt) result (checked_block (greatest_size table.now) config.now (div_ceil block_length config.now.symbol_size)) }
         ensures empty { IfOk result (λ d. received_of d ≡ empty_block table.now config.now number (div_ceil block_length config.now.symbol_size)) }
     {
-        check_symbols(config)?;
+        config.check_symbols()?;
         let source_symbols = block_length.div_ceil(u64::from(config.symbol_size()));
         if source_symbols > u64::from(table.greatest()) {
             return Err(Error::BlockOverTable);
@@ -236,9 +236,7 @@ impl SourceBlockDecoder {
         if packet.payload_id().source_block_number() != self.number {
             return Err(PacketStop::Refused(Error::UnknownBlock));
         }
-        if packet.data().len() != self.symbol_size() {
-            return Err(PacketStop::Refused(Error::WrongPayloadSize));
-        }
+        check_size(&self.config, &packet)?;
         self.record(packet)
     }
 
@@ -260,10 +258,7 @@ impl SourceBlockDecoder {
         if kept {
             self.missing -= u32::from(is_source);
             self.last_outcome = self.last_outcome.after_new_payload();
-            let still_shown = column_solves(&self.row, self.source_symbols, &self.column, esi);
-            if !still_shown {
-                self.column = None;
-            }
+            keep_where_it_solves(&self.row, self.source_symbols, &mut self.column, esi);
         }
         Ok(())
     }

@@ -1,5 +1,5 @@
 //! Columns of octets that show that a block isn't determined.
-ghost use Rattle.std.specs.Prelude.{◌≡◌, ◌↔◌, ◌^◌, ◌<◌, ◌≤◌, [], ◌∷◌, length, map, IsTrue, IfOk, IfErr};
+ghost use Rattle.std.specs.Prelude.{◌≡◌, ◌↔◌, ◌^◌, ◌<◌, ◌≤◌, [], ◌∷◌, length, map, Some, IsTrue, IfOk, IfErr};
 ghost use Rattle.std.specs.Option.{ForSome};
 ghost use Rattle.rq_algebra.specs.Systems.{at, dot};
 ghost use Rattle.rq_bytes.specs.SymbolSlab.{slab_of};
@@ -16,14 +16,27 @@ use rq_bytes::symbol_slab::SymbolSlab;
 use rq_tables::systematic_constants::CheckedRow;
 use std::alloc::Global;
 
-/// Whether a column solves the equation of an encoding symbol id with zero as its value. Where there
-/// is no column, it is said to do so.
-pub(crate) fn column_solves(
+/// Lets a column go that doesn't solve the equation of an encoding symbol id with zero as its value.
+pub(crate) fn keep_where_it_solves(
     row: &CheckedRow,
     source_symbols: u32,
-    column: &Option<Vec<u8>>,
+    column: &mut Option<Vec<u8>>,
     esi: u32,
-) -> bool
+)
+    requires fits { source_symbols ≤ row.now.numbers.extended_symbols }
+    requires count { ForSome column.old (λ octets. length octets.items ≡ intermediate_symbols row.now.numbers) }
+    requires few { esi < 2 ^ 24 }
+    ensures solves { ForSome column.new (λ octets. SolvesEsi row.now.numbers source_symbols esi octets.items) }
+    ensures same { ForSome column.new (λ octets. column.old ≡ Some octets) }
+{
+    if !column_solves(row, source_symbols, column, esi) {
+        *column = None;
+    }
+}
+
+// Whether a column solves the equation of an encoding symbol id with zero as its value. Where there
+// is no column, it is said to do so.
+fn column_solves(row: &CheckedRow, source_symbols: u32, column: &Option<Vec<u8>>, esi: u32) -> bool
     requires fits { source_symbols ≤ row.now.numbers.extended_symbols }
     requires count { ForSome column.now (λ octets. length octets.items ≡ intermediate_symbols row.now.numbers) }
     requires few { esi < 2 ^ 24 }

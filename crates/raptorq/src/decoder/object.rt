@@ -14,6 +14,7 @@ ghost use Rattle.raptorq.specs.SourceBlockDecoder.{received_of};
 use crate::blocks::{block_symbols, symbols_before};
 use crate::decoder::block::SourceBlockDecoder;
 use crate::decoder::packet_stop::PacketStop;
+use crate::decoder::payloads::check_size;
 use rq_base::base::{EncodingPacket, ObjectTransmissionInformation};
 use rq_bytes::error::Error;
 use rq_tables::systematic_constants::SystematicTable;
@@ -136,8 +137,8 @@ impl Decoder {
     ghost use Rattle.rq_standard.specs.DecoderSteps.{Stops, StopsEarly, IsBlockContradictory};
     ghost use Rattle.rq_standard.specs.Standing.{StandsForNone, LeavesBlockLate, LeavesOrAnswersLateBlock};
     ghost use Rattle.std.specs.Option.{option_copied};
-    ghost use Rattle.raptorq.specs.BlockBytes.{answered_part, PartsMakeObject, AnswersPart};
-    ghost use Rattle.raptorq.specs.Taking.{TakesPacket};
+    ghost use Rattle.raptorq.specs.BlockBytes.{answered_part, AnswersPart};
+    ghost use Rattle.raptorq.specs.TakesPacket.{TakesPacket};
     ghost use Rattle.raptorq.specs.Decoding.{answer_bytes};
     ghost use Rattle.raptorq.specs.Stopping.{StopsAsTested, AddsOrStops, AddsAndJoinsOrStops};
     ghost use Rattle.raptorq.specs.MissingPackets.{NeedsMore, TellsMissingOf};
@@ -197,9 +198,7 @@ impl Decoder {
         if number >= self.config.source_blocks() {
             return Err(PacketStop::Refused(Error::UnknownBlock));
         }
-        if packet.data().len() != usize::from(self.config.symbol_size()) {
-            return Err(PacketStop::Refused(Error::WrongPayloadSize));
-        }
+        check_size(&self.config, &packet)?;
         self.blocks[usize::from(number)].add_packet(packet)
     }
 
@@ -282,13 +281,12 @@ impl Decoder {
 
     /// The object's bytes in a source block (RFC 6330, 4.4.1.2), where the block is answered: lent, and
     /// not copied, without the zeros behind the object. Those of all blocks one after another are the
-    /// object. `None` where the block has no answer yet, or is none of the object's. Not in the Rust
-    /// crate.
+    /// object (`laws::joined_blocks`). `None` where the block has no answer yet, or is none of the
+    /// object's. Not in the Rust crate.
     pub fn block_bytes(&self, source_block_number: u8) -> Option<&[u8]>
         ensures bytes { option_copied result ≡ answered_part (state_of self.now) source_block_number }
         ensures unknown { (state_of self.now).configuration.source_blocks ≤ source_block_number → result ≡ None }
         ensures object { AnswersPart (state_of self.now) source_block_number (option_copied result) }
-        ensures whole { PartsMakeObject (state_of self.now) }
     {
         if source_block_number >= self.config.source_blocks() {
             return None;

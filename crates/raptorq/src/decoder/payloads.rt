@@ -1,12 +1,31 @@
 //! The payloads of a block by encoding symbol id.
-ghost use Rattle.std.specs.Prelude.{◌≡◌, ℕ, ◌*◌, ◌<◌, Some, length, IfOk, OnOk, OnErr, IsSome, not};
+ghost use Rattle.std.specs.Prelude.{◌≡◌, ◌≢◌, ℕ, ◌*◌, ◌<◌, Some, length, IfOk, IfErr, OnOk, OnErr, IsSome, not};
 ghost use Rattle.std.specs.Option.{ForSome};
 ghost use Rattle.rq_standard.specs.Cutting.{plain_symbol};
 ghost use Rattle.raptorq.specs.Missing.{payload_of, has_payload, KeepsFirst};
+ghost use Rattle.raptorq.specs.declared.decoder.packet_stop.PacketStop.TheVariants.{Refused};
 
+use crate::decoder::packet_stop::PacketStop;
+use rq_base::base::{EncodingPacket, ObjectTransmissionInformation};
+use rq_bytes::error::Error;
 use std::alloc::{AllocError, Global};
 use std::collections::BTreeMap;
 use std::collections::btree_map::Entry;
+
+/// Refuses a packet whose payload hasn't the size of a symbol.
+pub(crate) fn check_size(
+    config: &ObjectTransmissionInformation,
+    packet: &EncodingPacket,
+) -> Result<(), PacketStop>
+    ensures size { OnOk result (length packet.now.payload ≡ config.now.symbol_size) }
+    ensures other { OnErr result (length packet.now.payload ≢ config.now.symbol_size) }
+    ensures refused { IfErr result (λ stop. stop ≡ Refused Error.WrongPayloadSize) }
+{
+    if packet.data().len() != usize::from(config.symbol_size()) {
+        return Err(PacketStop::Refused(Error::WrongPayloadSize));
+    }
+    Ok(())
+}
 
 /// Keeps a payload, unless one of its id is there. Answers whether it was kept.
 pub(crate) fn keep_first(

@@ -11,7 +11,7 @@ use crate::enc::encoding_symbol;
 use crate::encoder::cache::SourceBlockEncodingPlanCache;
 use crate::encoder::plan::SourceBlockEncodingPlan;
 use crate::ids::internal_symbol_id;
-use crate::sub_blocks::{BlockLayout, check_symbols};
+use crate::sub_blocks::BlockLayout;
 use rq_base::base::{
     ENCODING_SYMBOL_IDS, EncodingPacket, ObjectTransmissionInformation, PayloadId,
 };
@@ -275,7 +275,7 @@ fn source_symbol_count(
     ensures count { IfOk result (λ count. count ≡ length block.now / config.now.symbol_size) }
     ensures few { IfOk result (λ count. count ≤ greatest_size table.now) }
 {
-    check_symbols(config)?;
+    config.check_symbols()?;
     let size = usize::from(config.symbol_size());
     if block.len() % size != 0 {
         return Err(Error::WrongDataLength);

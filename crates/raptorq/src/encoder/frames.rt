@@ -1,9 +1,10 @@
 //! An object in, the bytes of its packets out.
-ghost use Rattle.std.specs.Prelude.{◌≡◌, ◌<◌, length, Ok, IfErr, OnOk, OnErr};
+ghost use Rattle.std.specs.Prelude.{◌≡◌, ◌<◌, length, Ok, Err, IfOk, IfErr, OnOk, OnErr};
+ghost use Rattle.rq_standard.specs.Configuration.{largest_block};
 ghost use Rattle.rq_standard.specs.Headline.{HasNonsingularRows};
 ghost use Rattle.raptorq.specs.Appended.{AppendsObject, KeepsFront, RefusesPackets};
 ghost use Rattle.raptorq.specs.BlockCutting.{AppendsBlocks, RefusesRows};
-ghost use Rattle.raptorq.specs.Encoder.{packets_refusal};
+ghost use Rattle.raptorq.specs.Encoder.{packets_length, packets_refusal};
 
 use crate::blocks::check_repair;
 use crate::encoder::block_cutter::BlockCutter;
@@ -36,11 +37,15 @@ pub fn encode_all(
         return Err(Error::WrongDataLength);
     }
     let mut blocks = BlockCutter::new(alloc, table, object, config)?;
-    if let Err(refusal) = check_repair(config, repair_packets_per_block) {
-        // A singular row is refused first.
-        blocks.check_rows()?;
-        return Err(refusal);
-    }
+    let length = match packets_length(config, repair_packets_per_block) {
+        Ok(length) => length,
+        Err(refusal) => {
+            // A singular row is refused first.
+            blocks.check_rows()?;
+            return Err(refusal);
+        }
+    };
+    bytes.reserve_exact(length as usize)?;
     let start = bytes.len();
     if let Err(refusal) = append_blocks(blocks, repair_packets_per_block, bytes) {
         bytes.truncate(start);
@@ -58,7 +63,6 @@ fn append_blocks(mut blocks: BlockCutter<'_>, repair: u32, bytes: &mut Vec<u8>) 
     ensures refused { IfErr result (RefusesRows blocks.entry.table.now blocks.entry.config.now) }
 {
     let count = blocks.config.source_blocks();
-    bytes.reserve_exact(packets_length(blocks.config, repair))?;
     for number in 0..count {
         let block = blocks.next_encoder(number)?;
         block.append_packets(block.source_symbol_count() + repair, bytes)?;
@@ -66,11 +70,23 @@ fn append_blocks(mut blocks: BlockCutter<'_>, repair: u32, bytes: &mut Vec<u8>) 
     Ok(())
 }
 
-// How many bytes an object's packets take, as far as 64 bits count them. Room for them is made at once.
-fn packets_length(config: &ObjectTransmissionInformation, repair: u32) -> usize
-    requires { 0 < config.now.symbol_size }
+/// How many bytes the packets of an object take that [`encode_all`] appends. Not in the Rust crate.
+///
+/// Refuses [`Error::EsiTooLarge`] where a block would need encoding symbol ids above 2^24 - 1.
+pub fn packets_length(
+    config: &ObjectTransmissionInformation,
+    repair_packets_per_block: u32,
+) -> Result<u64, Error>
+    requires size { 0 < config.now.symbol_size }
+    requires few { largest_block config.now < 65536 }
+    requires some { 0 < config.now.source_blocks }
+    ensures enough { OnOk result (packets_refusal config.now repair_packets_per_block ≡ Ok tt) }
+    ensures length { IfOk result (λ length. length ≡ packets_length config.now repair_packets_per_block) }
+    ensures refused { IfErr result (λ e. packets_refusal config.now repair_packets_per_block ≡ Err e) }
 {
-    let repair_packets = u64::from(config.source_blocks()).saturating_mul(u64::from(repair));
-    let packets = config.total_symbols().saturating_add(repair_packets);
-    packets.saturating_mul(config.frame_size() as u64) as usize
+    check_repair(config, repair_packets_per_block)?;
+    // For the proof: a symbol's size fits 16 bits.
+    let _size = config.symbol_size();
+    let repair_packets = u64::from(config.source_blocks()) * u64::from(repair_packets_per_block);
+    Ok((config.total_symbols() + repair_packets) * config.frame_size() as u64)
 }

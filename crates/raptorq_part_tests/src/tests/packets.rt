@@ -1,6 +1,6 @@
 //! Worked examples of packets, configurations and refusals.
 use crate::compare::{holds, same};
-use raptorq::encoder::encode_all;
+use raptorq::encoder::{encode_all, packets_length};
 use raptorq::error::Error;
 use raptorq::systematic_constants::SystematicTable;
 use raptorq::{Encoder, EncodingPacket, ObjectTransmissionInformation, PayloadId};
@@ -79,6 +79,14 @@ fn objects_as_bytes(rt: HostRuntime) -> Result<(), Error> {
     let bytes = encoded_behind_a_byte(rt.alloc())?;
     same!(rt; bytes.len(), 67);
     holds!(rt; bytes == packets_behind_a_byte(rt.alloc())?);
+    Ok(())
+}
+
+#[test]
+fn lengths_of_packets(rt: HostRuntime) -> Result<(), Error> {
+    let (table, config) = configured(rt.alloc(), (10, 2, 2, 1, 1))?;
+    config.check(&table)?;
+    same!(rt; packets_length(&config, 3)?, 66);
     Ok(())
 }
 

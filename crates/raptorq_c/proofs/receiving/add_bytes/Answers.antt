@@ -1,6 +1,12 @@
+use Rattle.std.proofs.lemmas.Result.{err_from_is_err_and}
 use Rattle.raptorq.specs.Decoder.{state_of}
-use Rattle.raptorq_c.proofs.HandleAnswers.{taken_bytes}
+use Rattle.raptorq_c.proofs.HandleAnswers.{taken_bytes, unread_bytes}
 use Rattle.raptorq_c.proofs.receiving.add_bytes.Goals as goal
+
+pub returns-in_err-deserialize : goal.returns-in_err-deserialize
+returns-in_err-deserialize c =
+    let p = err_from_is_err_and c.from_residual.result c.from_residual.ensures.1 in
+    rw (p.1, p.2) (unread_bytes (state_of c.args.decoder.now) c.args.packet.now c.in_err-deserialize.field-0.0 c.in_err-deserialize.ensures)
 
 pub returns : goal.returns
 returns c =

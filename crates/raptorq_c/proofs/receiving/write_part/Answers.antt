@@ -2,6 +2,7 @@ use Rattle.std.proofs.Common.{◌≡◌, ◌<◌, ap, ◌∙◌, sym, subst}
 use Rattle.std.specs.Option.{option_copied}
 use Rattle.rq_standard.specs.Configuration.{Configuration}
 use Rattle.raptorq.specs.Decoder.{state_of}
+use Rattle.raptorq.proofs.AnsweredParts.{parts_of_decoder}
 use Rattle.raptorq_c.specs.Handles.{FillsWithBlock, IsPartOf, decoder_in}
 use Rattle.raptorq_c.specs.Numbers.{number_of}
 use Rattle.raptorq_c.proofs.HandleAnswers.{fills_block}
@@ -15,7 +16,7 @@ returns c =
     let known = subst (λ k. c.args.block < k) blocks c.if-block-source_blocks.false in
     let part = option_copied c.block_bytes.result in
     let lent = c.block_bytes.ensures in
-    let is : IsPartOf s c.args.block part = record { value = lent.bytes; object = lent.object; whole = lent.whole } in
+    let is : IsPartOf s c.args.block part = record { value = lent.bytes; object = lent.object; whole = parts_of_decoder c.in-Receiver.decoder } in
     let filled = c.fill_part.ensures in
     subst (λ k. FillsWithBlock (decoder_in k) c.args.block n c.args.bytes.now c.fill_part.new.buffer) (sym c.in-Receiver.is)
     (fills_block s c.args.block part c.fill_part.result c.args.bytes.now c.fill_part.new.buffer known is filled.number filled.answered filled.kept)

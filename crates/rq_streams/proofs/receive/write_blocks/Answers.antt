@@ -17,7 +17,7 @@ returns-in_err-write_bytes-clause-beginning g c =
     let stopped = c.in_err-write_bytes.ensures.beginning in
     let begun = written_beginning s c.loop-number.number stopped.0 s.configuration.source_blocks c.in-Some.bytes.now old mid new below c.in-Some.ensures.bytes c.loop-number.invariant.bytes stopped.1 in
     let p = err_from_is_err_and c.from_residual.result c.from_residual.ensures.1 in
-    rw p.1 (begun.0, subst (λ xs. Appends old new (take begun.0 xs)) (written_object s c.requires.whole c.block_bytes.ensures.whole) begun.1)
+    rw p.1 (begun.0, subst (λ xs. Appends old new (take begun.0 xs)) (written_object c.args.decoder.now c.requires.whole) begun.1)
 
 pub loop-number-preserved : goal.loop-number-preserved
 loop-number-preserved g c =
@@ -31,13 +31,11 @@ loop-number-preserved g c =
         bytes = subst (λ x. Appends old (g.W.Write.contents (inner x)) (written_parts s (n + 1))) (sym w.writer-is)
             (written_next s n w.in-Some.bytes.now old mid (g.W.Write.contents (inner w.write_bytes.new.writer)) w.in-Some.ensures.bytes done.bytes w.in_ok-write_bytes.ensures.bytes);
         count = omega (arith, ap (λ x. x.failed) w.writer-is, w.in_ok-write_bytes.ensures.counts, done.count);
-        whole = λ _. c.block_bytes.ensures.whole;
       }
       | in_default w ↦ record {
         bytes = subst (λ x. Appends old (g.W.Write.contents (inner x)) (written_parts s (n + 1))) (sym w.writer-is)
             (written_not s n old mid (none_copied c.block_bytes.result (λ x. x.now) (λ v is. w.in_default.not-Some v is) ∙ c.block_bytes.ensures.bytes) done.bytes);
         count = ap (λ x. x.failed) w.writer-is ∙ done.count;
-        whole = λ _. c.block_bytes.ensures.whole;
       }
     ]
 
@@ -47,5 +45,4 @@ returns-clause-bytes g c =
     let old = g.W.Write.contents (inner c.args.writer.now) in
     let new = g.W.Write.contents (inner c.loop-number.writer) in
     let all : c.loop-number.number ≡ s.configuration.source_blocks = omega (arith, c.loop-number-test.false, c.loop-number.auto.number-end, c.source_blocks-number-end.ensures, ap (λ k. k.source_blocks) c.get_config.ensures) in
-    let some : 0 < c.loop-number.number = omega (arith, all, c.args.decoder.now.some) in
-    subst (Appends old new) (ap (written_parts s) all ∙ written_object s c.requires.whole (c.loop-number.invariant.whole some)) c.loop-number.invariant.bytes
+    subst (Appends old new) (ap (written_parts s) all ∙ written_object c.args.decoder.now c.requires.whole) c.loop-number.invariant.bytes

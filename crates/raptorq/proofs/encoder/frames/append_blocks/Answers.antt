@@ -12,7 +12,7 @@ use Rattle.raptorq.proofs.encoder.frames.append_blocks.Goals as goal
 pub returns-in_err-block-clause-begun : goal.returns-in_err-block-clause-begun
 returns-in_err-block-clause-begun c =
     let v = c.loop-number.invariant in
-    let p = err_from_is_err_and c.from_residual-in_err-block.result c.from_residual-in_err-block.ensures.1 in
+    let p = err_from_is_err_and c.from_residual.result c.from_residual.ensures.1 in
     rw p.1 (so_far-extends c.args.blocks c.loop-number.blocks c.args.repair c.loop-number.number c.args.bytes.now.items c.loop-number.bytes.items v.appends)
 
 pub append_packets-requires : goal.append_packets-requires

@@ -1,5 +1,6 @@
-use Rattle.std.proofs.Common.{◌≡◌, length, Ok, sym, ◌∙◌}
+use Rattle.std.proofs.Common.{◌≡◌, ◌++◌, length, Ok, sym, ap, ◌∙◌}
 use Rattle.std.proofs.lemmas.Result.{err_from_is_err_and}
+use Rattle.rq_standard.specs.Streams.{frames_of}
 use Rattle.rq_standard.specs.TableRows.{greatest_size}
 use Rattle.raptorq.specs.Appended.{no_encoder, too_many}
 use Rattle.raptorq.specs.BlockCutting.{StandsBefore}
@@ -15,18 +16,18 @@ module _ (c : In_ok-blocks) where
   taken : new_encoder (greatest_size c.args.table.now) c.args.config.now (length c.args.object.now) ≡ Ok tt
   taken = new_encoder-taken (greatest_size c.args.table.now) c.args.config.now (length c.args.object.now) (sym c.in_ok-check.ensures.refused) long
 
-pub returns-in_err-check_rows-clause-refused : goal.returns-in_err-check_rows-clause-refused
-returns-in_err-check_rows-clause-refused c =
-    let at = (goal.at.returns-in_err-check_rows-clause-refused c).In_ok-blocks in
+pub returns-in_err-check_rows-in-Err-clause-refused : goal.returns-in_err-check_rows-in-Err-clause-refused
+returns-in_err-check_rows-in-Err-clause-refused c =
+    let at = (goal.at.returns-in_err-check_rows-in-Err-clause-refused c).In_ok-blocks in
     let made = c.in_ok-blocks.ensures in
-    let p = err_from_is_err_and c.from_residual-in_err-check_rows.result c.from_residual-in_err-check_rows.ensures.1 in
-    rw (p.1, p.2) (no_encoder (refuses_singular c.args.table.now c.args.config.now (length c.args.object.now) c.in_err-check_rows.field-0.0 (taken at) (rw (made.table, made.config) at c.in_err-check_rows.ensures.refused)))
+    let p = err_from_is_err_and c.from_residual-in_err-check_rows-in-Err.result c.from_residual-in_err-check_rows-in-Err.ensures.1 in
+    rw (p.1, p.2) (no_encoder (refuses_singular c.args.table.now c.args.config.now (length c.args.object.now) c.in_err-check_rows-in-Err.field-0.0 (taken at) (rw (made.table, made.config) at c.in_err-check_rows-in-Err.ensures.refused)))
 
 pub returns-in-Err-clause-refused : goal.returns-in-Err-clause-refused
 returns-in-Err-clause-refused c =
     let at = (goal.at.returns-in-Err-clause-refused c).In_ok-blocks in
     let made = c.in_ok-blocks.ensures in
-    too_many (taken at) (rw (made.table, made.config) at c.in_ok-check_rows.ensures.nonsingular) (sym c.check_repair.ensures ∙ c.in-Err.is)
+    too_many (taken at) (rw (made.table, made.config) at c.in_ok-check_rows-in-Err.ensures.nonsingular) c.in-Err.ensures.refused
 
 pub returns-in-Err-append_blocks-clause-refused : goal.returns-in-Err-append_blocks-clause-refused
 returns-in-Err-append_blocks-clause-refused c =
@@ -39,13 +40,13 @@ returns-clause-packets c =
     let at = (goal.at.returns-clause-packets c).In_ok-blocks in
     let made = c.in_ok-blocks.ensures in
     let object = c.args.object.now in
-    let appends = c.in_default-append_blocks.ensures.packets in
+    let appends = c.in_default.ensures.packets in
     let stands : StandsBefore object 0 c.in_ok-blocks.blocks = rw made.config (made.whole ∙ from_first c.args.config.now object) in
     record {
       taken = taken at;
-      nonsingular = rw (made.table, made.config) at c.in_default-append_blocks.ensures.nonsingular;
-      enough = sym c.check_repair.ensures ∙ c.in_default.is;
+      nonsingular = rw (made.table, made.config) at c.in_default.ensures.nonsingular;
+      enough = c.in-Ok.ensures.enough;
       packets = appends.packets;
       encoded = rw (made.table, made.config) at (appends.encoded object (rw made.config (long at)) stands);
-      grown = appends.grown;
+      grown = appends.grown ∙ ap (λ xs. xs ++ frames_of appends.packets) c.reserve_exact.ensures.items;
     }

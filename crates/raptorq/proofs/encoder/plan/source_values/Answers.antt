@@ -12,7 +12,7 @@ returns-clause-values c =
     let row = c.args.row.now.numbers in
     let source = c.args.source.now in
     let size = source.symbol_size in
-    let fixed = row.ldpc_symbols + row.hdpc_symbols in
+    let precode_rows = row.ldpc_symbols + row.hdpc_symbols in
     slab_answered _ c.in_ok-among_zeros.field-0 c.in_ok-among_zeros.ensures
     ∙ ap (λ f. slab_of size (replicate f (zero_symbol size) ++ (source.values ++ replicate (c.intermediate_symbols.result - f - length source.values) (zero_symbol size)))) c.precode_rows.ensures.value
-    ∙ ap (λ k. slab_of size (replicate fixed (zero_symbol size) ++ (source.values ++ replicate (k - length source.values) (zero_symbol size)))) (let rest : c.intermediate_symbols.result - fixed ≡ row.extended_symbols = omega (arith, c.intermediate_symbols.ensures.value) in rest)
+    ∙ ap (λ k. slab_of size (replicate precode_rows (zero_symbol size) ++ (source.values ++ replicate (k - length source.values) (zero_symbol size)))) (let rest : c.intermediate_symbols.result - precode_rows ≡ row.extended_symbols = omega (arith, c.intermediate_symbols.ensures.value) in rest)

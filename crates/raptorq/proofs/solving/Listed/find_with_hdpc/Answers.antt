@@ -1,6 +1,4 @@
-use Rattle.std.proofs.Common.{◌+◌, length, ap, ◌∙◌, subst, arith}
-use Rattle.std.proofs.lemmas.List.{length-replicate}
-use Rattle.rq_bytes.specs.SymbolSlab.{Slab}
+use Rattle.std.proofs.Common.{subst, arith}
 use Rattle.rq_solver.specs.Solving.{SolvesOrShows, Solver}
 use Rattle.rq_solver.specs.declared.pi_solver.solved.Solved.TheVariants.{Operations, Undetermined}
 use Rattle.rq_solver.specs.SolverState.{solver_state}
@@ -11,17 +9,15 @@ use Rattle.raptorq.proofs.solving.Listed.find_with_hdpc.Goals as goal
 pub of_row-solver-requires : goal.of_row-solver-requires
 of_row-solver-requires g c =
     let m = c.in_ok-matrix in
-    let values = slab_answered _ c.in_ok-values.values c.in_ok-values.ensures in
-    let count = ap (λ (s : Slab). length s.values) values ∙ length-replicate _ _ ∙ ap (λ n. n + length c.args.self.now.ids.now) c.precode_rows-precode_rows.ensures.value in
-    handed_equations c.args.self.now.row.now.numbers c.args.self.now.ids.now (g.T.BinaryMatrix.content m.matrix) m.hdpc c.in_ok-values.values m.ensures.bits m.ensures.hdpc count c.args.self.now.enough (ap (λ (s : Slab). s.order) values)
+    let zeros = slab_answered _ c.in_ok-values.values c.in_ok-values.ensures in
+    handed_equations c.args.self.now.row.now.numbers c.args.self.now.ids.now (g.T.BinaryMatrix.content m.matrix) m.hdpc 0 c.precode_rows-precode_rows.result _ c.in_ok-values.values m.ensures.bits m.ensures.hdpc c.precode_rows-precode_rows.ensures.value zeros c.args.self.now.enough
 
 pub returns-in-Operations-clause-outcome : goal.returns-in-Operations-clause-outcome
 returns-in-Operations-clause-outcome g c =
     let m = c.in_ok-matrix in
-    let values = slab_answered _ c.in_ok-values.values c.in_ok-values.ensures in
+    let zeros = slab_answered _ c.in_ok-values.values c.in_ok-values.ensures in
     let bits = g.T.BinaryMatrix.content m.matrix in
-    let count = ap (λ (s : Slab). length s.values) values ∙ length-replicate _ _ ∙ ap (λ n. n + length c.args.self.now.ids.now) c.precode_rows-precode_rows.ensures.value in
-    let are = handed_equations c.args.self.now.row.now.numbers c.args.self.now.ids.now bits m.hdpc c.in_ok-values.values m.ensures.bits m.ensures.hdpc count c.args.self.now.enough (ap (λ (s : Slab). s.order) values) in
+    let are = handed_equations c.args.self.now.row.now.numbers c.args.self.now.ids.now bits m.hdpc 0 c.precode_rows-precode_rows.result _ c.in_ok-values.values m.ensures.bits m.ensures.hdpc c.precode_rows-precode_rows.ensures.value zeros c.args.self.now.enough in
     let found = subst (SolvesOrShows (solver_state c.of_row-solver.result)) c.in-Operations.is c.in_ok-operations.ensures.solved in
     rw c.precode_rows-precode_rows.ensures.value (record {
       found = record {
@@ -36,10 +32,9 @@ returns-in-Operations-clause-outcome g c =
 pub returns-in-Undetermined-clause-outcome : goal.returns-in-Undetermined-clause-outcome
 returns-in-Undetermined-clause-outcome g c =
     let m = c.in_ok-matrix in
-    let values = slab_answered _ c.in_ok-values.values c.in_ok-values.ensures in
+    let zeros = slab_answered _ c.in_ok-values.values c.in_ok-values.ensures in
     let bits = g.T.BinaryMatrix.content m.matrix in
-    let count = ap (λ (s : Slab). length s.values) values ∙ length-replicate _ _ ∙ ap (λ n. n + length c.args.self.now.ids.now) c.precode_rows-precode_rows.ensures.value in
-    let are = handed_equations c.args.self.now.row.now.numbers c.args.self.now.ids.now bits m.hdpc c.in_ok-values.values m.ensures.bits m.ensures.hdpc count c.args.self.now.enough (ap (λ (s : Slab). s.order) values) in
+    let are = handed_equations c.args.self.now.row.now.numbers c.args.self.now.ids.now bits m.hdpc 0 c.precode_rows-precode_rows.result _ c.in_ok-values.values m.ensures.bits m.ensures.hdpc c.precode_rows-precode_rows.ensures.value zeros c.args.self.now.enough in
     let found = subst (SolvesOrShows (solver_state c.of_row-solver.result)) c.in-Undetermined.is c.in_ok-operations.ensures.solved in
     let outcome = found_outcome c.args.self.now.row.now.numbers c.args.self.now.ids.now bits m.hdpc c.in_ok-values.values m.ensures.bits m.ensures.hdpc are (Undetermined c.in-Undetermined.column) (subst (λ (s : Solver). SolvesOrShows s (Undetermined c.in-Undetermined.column)) c.of_row-solver.ensures found) in
     record { found = outcome.0; shown = outcome.1 }

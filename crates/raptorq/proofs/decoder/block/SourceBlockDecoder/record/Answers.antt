@@ -8,7 +8,7 @@ use Rattle.raptorq.proofs.Payloads.{all-more, few-more}
 use Rattle.raptorq.proofs.MissingCounts.{missing_count-same, missing_count-step, missing-after}
 use Rattle.raptorq.specs.SourceBlockDecoder.{received_of}
 use Rattle.raptorq.proofs.TakenPackets.{recorded_packet, taken_size}
-use Rattle.raptorq.proofs.Waiting.{came-more, contradictory-later, contradictory-same, repeat-same, shown-more, shown-none, shown-same, waits-repeat, waits-same}
+use Rattle.raptorq.proofs.Waiting.{came-more, contradictory-later, contradictory-same, repeat-same, shown-more, shown-same, waits-repeat, waits-same}
 use Rattle.raptorq.proofs.decoder.block.SourceBlockDecoder.record.Goals as goal
 use Rattle.raptorq.proofs.decoder.block.SourceBlockDecoder.record.Goals.{After-after_new_payload-self}
 
@@ -30,7 +30,7 @@ invariant_of-self c = record {
 pub overflow_sub-self : goal.overflow_sub-self
 overflow_sub-self c = (missing-after c.args.self.now.missing _ _ c.from.result _ c.args.self.now.counted c.from.ensures (missing_count-step c.args.self.now.source_symbols c.encoding_symbol_id-esi.result (payload_of c.args.self.now.received) (payload_of c.keep_first.new.received) true c.split-id.result.1.items (c.in-Ok.ensures.kept ∙ ap not c.if-kept.true) c.in-Ok.ensures.ok)).0
 
--- which keeps the column, or drops it
+-- whose column is kept where it solves its equation too
 module _ (c : After-after_new_payload-self) where
   abbrev before : ℕ → Option (List ℕ)
   before = payload_of c.args.self.now.received
@@ -62,10 +62,11 @@ module _ (c : After-after_new_payload-self) where
   contradicted : c.after_new_payload-self.result ≡ Contradictory → IsContradictory (record (received_of c.args.self.now) { received = now })
   contradicted still = contradictory-later (received_of c.args.self.now) now esi payload c.in-Ok.ensures.ok (c.args.self.now.contradicted (c.after_new_payload-self.ensures.contradictory still))
 
-pub invariant_of-self-then-not-still_shown : goal.invariant_of-self-then-not-still_shown
-invariant_of-self-then-not-still_shown c =
+pub invariant_of-self-then-kept : goal.invariant_of-self-then-kept
+invariant_of-self-then-kept c =
     let d = c.args.self.now in
-    let state = (goal.at.invariant_of-self-then-not-still_shown c).After-after_new_payload-self in
+    let state = (goal.at.invariant_of-self-then-kept c).After-after_new_payload-self in
+    let kept = c.keep_where_it_solves.ensures in
     record {
       sized = sized state;
       bytes = bytes state;
@@ -75,24 +76,7 @@ invariant_of-self-then-not-still_shown c =
       few = few state;
       counted = left state;
       waits = λ still. absurd (c.after_new_payload-self.ensures.may_answer still);
-      shown = shown-none d.row.numbers d.source_symbols _;
-      contradicted = contradicted state;
-    }
-
-pub invariant_of-self-else-not-still_shown : goal.invariant_of-self-else-not-still_shown
-invariant_of-self-else-not-still_shown c =
-    let d = c.args.self.now in
-    let state = (goal.at.invariant_of-self-else-not-still_shown c).After-after_new_payload-self in
-    record {
-      sized = sized state;
-      bytes = bytes state;
-      positive = d.positive;
-      aligned = d.aligned;
-      fits = d.fits;
-      few = few state;
-      counted = left state;
-      waits = λ still. absurd (c.after_new_payload-self.ensures.may_answer still);
-      shown = shown-more d.row.numbers d.source_symbols _ _ (esi state) d.fits (came-more (before state) (now state) (esi state) (payload state) c.in-Ok.ensures.ok) d.column (c.column_solves-still_shown.ensures.0 c.if-not-still_shown.false) d.shown;
+      shown = shown-more d.row.numbers d.source_symbols _ _ (esi state) d.fits (came-more (before state) (now state) (esi state) (payload state) c.in-Ok.ensures.ok) c.keep_where_it_solves.new.column kept.solves (λ octets is. d.shown octets (kept.same octets is));
       contradicted = contradicted state;
     }
 
@@ -115,14 +99,8 @@ invariant_of-self-else-kept c =
       contradicted = λ still. contradictory-later (received_of c.args.self.now) (payload_of c.keep_first.new.received) c.encoding_symbol_id-esi.result c.split-id.result.1.items c.in-Ok.ensures.ok (c.args.self.now.contradicted still);
     }
 
-pub returns-then-not-still_shown-clause-ok : goal.returns-then-not-still_shown-clause-ok
-returns-then-not-still_shown-clause-ok c =
-    recorded_packet (received_of c.args.self.now) c.args.packet (payload_of c.keep_first.new.received) c.split-id.result.0 c.encoding_symbol_id-esi.result c.split-id.result.1.items c.split-id.ensures.id c.encoding_symbol_id-esi.ensures.value c.split-id.ensures.payload c.in-Ok.ensures.ok
-
-pub returns-else-not-still_shown-clause-ok : goal.returns-else-not-still_shown-clause-ok
-returns-else-not-still_shown-clause-ok c =
-    recorded_packet (received_of c.args.self.now) c.args.packet (payload_of c.keep_first.new.received) c.split-id.result.0 c.encoding_symbol_id-esi.result c.split-id.result.1.items c.split-id.ensures.id c.encoding_symbol_id-esi.ensures.value c.split-id.ensures.payload c.in-Ok.ensures.ok
+pub returns-then-kept-clause-ok : goal.returns-then-kept-clause-ok
+returns-then-kept-clause-ok c = recorded_packet (received_of c.args.self.now) c.args.packet (payload_of c.keep_first.new.received) c.split-id.result.0 c.encoding_symbol_id-esi.result c.split-id.result.1.items c.split-id.ensures.id c.encoding_symbol_id-esi.ensures.value c.split-id.ensures.payload c.in-Ok.ensures.ok
 
 pub returns-else-kept-clause-ok : goal.returns-else-kept-clause-ok
-returns-else-kept-clause-ok c =
-    recorded_packet (received_of c.args.self.now) c.args.packet (payload_of c.keep_first.new.received) c.split-id.result.0 c.encoding_symbol_id-esi.result c.split-id.result.1.items c.split-id.ensures.id c.encoding_symbol_id-esi.ensures.value c.split-id.ensures.payload c.in-Ok.ensures.ok
+returns-else-kept-clause-ok c = recorded_packet (received_of c.args.self.now) c.args.packet (payload_of c.keep_first.new.received) c.split-id.result.0 c.encoding_symbol_id-esi.result c.split-id.result.1.items c.split-id.ensures.id c.encoding_symbol_id-esi.ensures.value c.split-id.ensures.payload c.in-Ok.ensures.ok

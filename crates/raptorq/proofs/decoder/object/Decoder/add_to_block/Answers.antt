@@ -1,4 +1,4 @@
-use Rattle.std.proofs.Common.{◌≡◌, ◌<◌, length, set, sym, ap, ◌∙◌, subst, arith}
+use Rattle.std.proofs.Common.{◌≡◌, ◌<◌, set, sym, ap, ◌∙◌, subst, arith}
 use Rattle.std.proofs.lemmas.List.Elements.{All-set}
 use Rattle.std.proofs.Math.Seq.{map-set_same}
 use Rattle.rq_standard.specs.Cutting.{block_symbols}
@@ -7,26 +7,26 @@ use Rattle.raptorq.specs.SourceBlockDecoder.{received_of}
 use Rattle.raptorq.proofs.Numbered.{length-numbered, number_at}
 use Rattle.raptorq.proofs.ObjectBlocks.{state, number_of, IsBlockOf, block_of_packet, block_takes, IsCut, takes_at}
 use Rattle.raptorq.proofs.decoder.object.Decoder.add_to_block.Goals as goal
-use Rattle.raptorq.proofs.decoder.object.Decoder.add_to_block.Goals.{After-from-2, After-index_mut}
+use Rattle.raptorq.proofs.decoder.object.Decoder.add_to_block.Goals.{After-from, After-index_mut}
 
 -- the packet's block number, which is below the number of blocks
-module _ (c : After-from-2) where
-  number : c.from-2.result ≡ c.args.packet.id.block
-  number = c.from-2.ensures ∙ c.source_block_number-number.ensures ∙ ap (λ i. i.block) c.payload_id.ensures
+module _ (c : After-from) where
+  number : c.from.result ≡ c.args.packet.id.block
+  number = c.from.ensures ∙ c.source_block_number-number.ensures ∙ ap (λ i. i.block) c.payload_id.ensures
 
-  below : c.from-2.result < c.args.self.now.config.source_blocks
-  below = omega (arith, c.from-2.ensures, c.if-number-source_blocks.false, c.source_blocks.ensures)
+  below : c.from.result < c.args.self.now.config.source_blocks
+  below = omega (arith, c.from.ensures, c.if-number-source_blocks.false, c.source_blocks.ensures)
 
 module _ (c : After-index_mut) where
-  block : IsBlockOf c.args.self.now.blocks.items c.args.packet c.from-2.result c.index_mut.result.now
+  block : IsBlockOf c.args.self.now.blocks.items c.args.packet c.from.result c.index_mut.result.now
   block =
-      let at = (goal.at.After-index_mut c).After-from-2 in
-      block_of_packet c.args.self.now.blocks.items c.args.packet c.args.self.now.config.source_blocks c.from-2.result c.index_mut.result.now c.args.self.now.numbered (number at) (below at) c.index_mut.ensures.value
+      let at = (goal.at.After-index_mut c).After-from in
+      block_of_packet c.args.self.now.blocks.items c.args.packet c.args.self.now.config.source_blocks c.from.result c.index_mut.result.now c.args.self.now.numbered (number at) (below at) c.index_mut.ensures.value
 
 pub index_mut-requires : goal.index_mut-requires
 index_mut-requires c =
     let s = c.args.self.now in
-    let within = below (goal.at.index_mut-requires c).After-from-2 in
+    let within = below (goal.at.index_mut-requires c).After-from in
     let count = length-numbered number_of s.config.source_blocks s.blocks.items s.numbered in
     omega (arith, within, count, s.blocks.ok.0)
 
@@ -36,9 +36,8 @@ add_packet-requires c =
     let p = c.args.packet in
     let x = c.index_mut.result.now in
     let at = block (goal.at.add_packet-requires c).After-index_mut in
-    let within = below (goal.at.add_packet-requires c).After-from-2 in
-    block_takes s.config (received_of x.decoder) p (ap (λ b. (received_of b.decoder).configuration) at.is ∙ s.same p.id.block x at.below) (number_at number_of s.config.source_blocks s.blocks.items s.numbered p.id.block x (omega (arith, at.here, within)) at.is)
-    (sym (ap length c.data.ensures) ∙ c.if-data-from.false ∙ c.from.ensures ∙ c.symbol_size.ensures)
+    let within = below (goal.at.add_packet-requires c).After-from in
+    block_takes s.config (received_of x.decoder) p (ap (λ b. (received_of b.decoder).configuration) at.is ∙ s.same p.id.block x at.below) (number_at number_of s.config.source_blocks s.blocks.items s.numbered p.id.block x (omega (arith, at.here, within)) at.is) c.in_ok-check_size.ensures.size
 
 pub invariant_of-self : goal.invariant_of-self
 invariant_of-self c =
@@ -52,9 +51,9 @@ invariant_of-self c =
       positive = s.positive;
       aligned = s.aligned;
       some = s.some;
-      numbered = map-set_same number_of items c.from-2.result y x (c.add_packet.ensures.number ∙ ap number_of c.index_mut.ensures.value) ∙ s.numbered;
-      same = All-set (λ b. (received_of b.decoder).configuration ≡ s.config) items c.from-2.result y (c.add_packet.ensures.configuration ∙ ap (λ b. (received_of b.decoder).configuration) at.is ∙ s.same p.id.block x at.below) s.same;
-      cut = All-set (λ b. IsCut s.config (received_of b.decoder)) items c.from-2.result y (c.add_packet.ensures.symbols ∙ ap (λ b. (received_of b.decoder).source_symbols) at.is ∙ s.cut p.id.block x at.below ∙ ap (λ b. block_symbols s.config (received_of b.decoder).number) (sym at.is) ∙ ap (block_symbols s.config) (sym c.add_packet.ensures.number)) s.cut;
+      numbered = map-set_same number_of items c.from.result y x (c.add_packet.ensures.number ∙ ap number_of c.index_mut.ensures.value) ∙ s.numbered;
+      same = All-set (λ b. (received_of b.decoder).configuration ≡ s.config) items c.from.result y (c.add_packet.ensures.configuration ∙ ap (λ b. (received_of b.decoder).configuration) at.is ∙ s.same p.id.block x at.below) s.same;
+      cut = All-set (λ b. IsCut s.config (received_of b.decoder)) items c.from.result y (c.add_packet.ensures.symbols ∙ ap (λ b. (received_of b.decoder).source_symbols) at.is ∙ s.cut p.id.block x at.below ∙ ap (λ b. block_symbols s.config (received_of b.decoder).number) (sym at.is) ∙ ap (block_symbols s.config) (sym c.add_packet.ensures.number)) s.cut;
     }
 
 pub returns-clause-adds : goal.returns-clause-adds

@@ -1,16 +1,14 @@
 use Rattle.std.proofs.Common.{◌≡◌, ◌<◌, None, Some, length, get_or, take, ap, ◌∙◌, arith}
 use Rattle.std.specs.Prelude.{option_map, vec_items}
 use Rattle.raptorq.specs.Decoder.{state_of}
-use Rattle.raptorq.proofs.AnsweredParts.{answers_part, blocks_make_object, no_part, part_unanswered, part_lent}
-use Rattle.raptorq.proofs.Numbered.{length-numbered}
-use Rattle.raptorq.proofs.ObjectBlocks.{number_of, none_otherwise}
+use Rattle.raptorq.proofs.AnsweredParts.{answers_part, no_part, part_unanswered, part_lent}
+use Rattle.raptorq.proofs.ObjectBlocks.{has_number, none_otherwise}
 use Rattle.raptorq.proofs.decoder.object.Decoder.block_bytes.Goals as goal
 use Rattle.raptorq.proofs.decoder.object.Decoder.block_bytes.Goals.{After-from, After-index}
 
--- the block's number is below the number of blocks
 module _ (c : After-from) where
   below : c.args.source_block_number < length c.args.self.now.blocks.items
-  below = omega (arith, c.if-source_block_number-source_blocks.false, c.source_blocks.ensures, length-numbered number_of c.args.self.now.config.source_blocks c.args.self.now.blocks.items c.args.self.now.numbered)
+  below = let s = c.args.self.now in has_number s.config s.blocks.items c.args.source_block_number c.source_blocks.result s.numbered c.source_blocks.ensures c.if-source_block_number-source_blocks.false
 
 module _ (c : After-index) where
   is : c.index.result.now ≡ get_or c.args.self.now.blocks.items c.args.source_block_number c.index.result.now
@@ -26,11 +24,6 @@ returns-then-source_block_number-source_blocks-clause-bytes c =
     let s = c.args.self.now in
     no_part s.config s.blocks.items c.args.source_block_number s.numbered (omega (arith, c.if-source_block_number-source_blocks.true, c.source_blocks.ensures))
 
-pub returns-then-source_block_number-source_blocks-clause-whole : goal.returns-then-source_block_number-source_blocks-clause-whole
-returns-then-source_block_number-source_blocks-clause-whole c =
-    let s = c.args.self.now in
-    blocks_make_object s.config s.blocks.items s.numbered s.same s.cut
-
 pub returns-in_default-clause-object : goal.returns-in_default-clause-object
 returns-in_default-clause-object c =
     let s = c.args.self.now in
@@ -38,11 +31,6 @@ returns-in_default-clause-object c =
     let x = c.index.result.now in
     let at = goal.at.returns-in_default-clause-object c in
     answers_part (state_of s) n None (part_unanswered s.config s.blocks.items n x (below at.After-from) (is at.After-index) (none_otherwise x.answer (λ v e. c.in_default.not-Some v e)))
-
-pub returns-in_default-clause-whole : goal.returns-in_default-clause-whole
-returns-in_default-clause-whole c =
-    let s = c.args.self.now in
-    blocks_make_object s.config s.blocks.items s.numbered s.same s.cut
 
 pub returns-clause-bytes : goal.returns-clause-bytes
 returns-clause-bytes c =
@@ -53,8 +41,3 @@ returns-clause-bytes c =
 
 pub returns-clause-object : goal.returns-clause-object
 returns-clause-object c = answers_part (state_of c.args.self.now) c.args.source_block_number (Some (take c.min-length.result c.as_slice.result.now)) (returns-clause-bytes c)
-
-pub returns-clause-whole : goal.returns-clause-whole
-returns-clause-whole c =
-    let s = c.args.self.now in
-    blocks_make_object s.config s.blocks.items s.numbered s.same s.cut

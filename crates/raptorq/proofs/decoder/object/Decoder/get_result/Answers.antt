@@ -1,19 +1,16 @@
-use Rattle.std.proofs.Common.{◌≡◌, ℕ, false, List, Option, Some, None, refl, sym, ap, ◌∙◌}
+use Rattle.std.proofs.Common.{Some, None, sym, ap, ◌∙◌}
 use Rattle.std.specs.Prelude.{is_some}
 use Rattle.rq_standard.specs.DecoderState.{result_of}
 use Rattle.raptorq.specs.Decoder.{state_of}
+use Rattle.raptorq.proofs.MissingCounts.{none_is}
 use Rattle.raptorq.proofs.ObjectBlocks.{not_complete}
 use Rattle.raptorq.proofs.ResultAnswers.{result_answers}
 use Rattle.raptorq.proofs.decoder.object.Decoder.get_result.Goals as goal
 
-not_some : (o : Option (List ℕ)) → is_some o ≡ false → None ≡ o
-not_some None h = refl
-not_some (Some x) h = absurd (cc h)
-
 pub returns-then-not-is_complete-clause-answer : goal.returns-then-not-is_complete-clause-answer
 returns-then-not-is_complete-clause-answer c =
     let s = c.args.self.now in
-    result_answers (state_of s) None s.some s.positive s.aligned (not_some (result_of (state_of s)) (sym c.is_complete.ensures ∙ c.if-not-is_complete.true))
+    result_answers (state_of s) None s.some s.positive s.aligned (sym (none_is (result_of (state_of s)) (sym c.is_complete.ensures ∙ c.if-not-is_complete.true)))
 
 pub returns-clause-answer : goal.returns-clause-answer
 returns-clause-answer c =
