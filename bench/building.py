@@ -1,0 +1,44 @@
+"""What the scripts of bench/ share: programs built in scratch folders, and the table's rows after the built-in ones."""
+import os
+import re
+import shutil
+import subprocess
+import sys
+
+BENCH = os.path.dirname(os.path.abspath(__file__))
+TOP = os.path.dirname(BENCH)
+MANIFEST = '[package]\nname = "{}"\nversion = "0.0.0"\nedition = "2021"\n[dependencies]\nraptorq = {{ path = "{}", version = "=2.0.1" }}\n'
+
+
+def build_here(name, folder, processor):
+    """The program NAME.rt.txt over this repository's crates, which are proved first."""
+    shutil.copytree(f"{TOP}/crates", f"{folder}/crates")
+    os.makedirs(f"{folder}/crates/rq_bench/src")
+    shutil.copy(f"{BENCH}/{name}.rt.txt", f"{folder}/crates/rq_bench/src/main.rt")
+    with open(f"{TOP}/crates.txt") as crates, open(f"{folder}/crates.txt", "w") as all_crates:
+        all_crates.write(crates.read() + "rq_bench: raptorq anyhow\n")
+    # It runs without words or lines, and may end with an error then.
+    built = subprocess.run(["rt", "run", "--cpu", processor], cwd=f"{folder}/crates/rq_bench", stdin=subprocess.DEVNULL,
+                           capture_output=True, text=True)
+    program = f"{folder}/crates/rq_bench/out/rq_bench"
+    if not os.path.exists(program):
+        sys.exit(built.stdout + built.stderr)
+    return program
+
+
+def build_crate(name, folder, crate):
+    """The program NAME.rs.txt over the Rust crate in a folder."""
+    os.makedirs(f"{folder}/src")
+    with open(f"{folder}/Cargo.toml", "w") as manifest:
+        manifest.write(MANIFEST.format(name, os.path.abspath(crate)))
+    shutil.copy(f"{BENCH}/{name}.rs.txt", f"{folder}/src/main.rs")
+    subprocess.run(["cargo", "build", "--release", "--offline", "--quiet"], cwd=folder, check=True)
+    return f"{folder}/target/release/{name}"
+
+
+def further_rows(crate):
+    """The numbers of the rows above K' = 497, five a row, from the crate's source."""
+    with open(f"{crate}/src/systematic_constants.rs") as source:
+        table = source.read().split("SYSTEMATIC_INDICES_AND_PARAMETERS", 1)[1].split("];", 1)[0]
+    rows = [re.findall(r"\d+", row) for row in re.findall(r"\(((?:\d+,? *){5})\)", table)]
+    return [number for row in rows if int(row[0]) > 497 for number in row]
