@@ -10,6 +10,14 @@ TOP = os.path.dirname(BENCH)
 MANIFEST = '[package]\nname = "{}"\nversion = "0.0.0"\nedition = "2021"\n[dependencies]\nraptorq = {{ path = "{}", version = "=2.0.1" }}\n'
 
 
+def arguments(usage):
+    """The words that a script was called with. With none it prints its usage, and ends with 2."""
+    if len(sys.argv) < 2:
+        print(usage, file=sys.stderr)
+        sys.exit(2)
+    return sys.argv[1:]
+
+
 def build_here(name, folder, processor):
     """The program NAME.rt.txt over this repository's crates, which are proved first."""
     shutil.copytree(f"{TOP}/crates", f"{folder}/crates")
