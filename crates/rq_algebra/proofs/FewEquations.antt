@@ -5,7 +5,8 @@ use Rattle.rq_algebra.specs.Field.{Field}
 use Rattle.rq_algebra.specs.Arrangements.{ArePlaces, IsFewOn}
 use Rattle.rq_algebra.specs.Systems.{dot, HasHomogeneousColumn, HasElements}
 use Rattle.rq_algebra.proofs.Sums.{sum_same, mul_zero, zero_mul, redo_mul, dot_same, dot_fma, dot-suc, dot_zero, dot_one, dot_below_size}
-use Rattle.rq_algebra.proofs.Changes.{find_place, find_nonzero, with_at, with_at_same, with_at_other, without, without_below, without_onto}
+use Rattle.rq_algebra.specs.Changes.{with_at}
+use Rattle.rq_algebra.proofs.ChangeLaws.{find_place, find_nonzero, with_at_same, with_at_other, without, without_below, without_onto}
 use Rattle.rq_algebra.proofs.Places.{sum_places, spread, spread_at, spread_off}
 
 module _ (F : Field) where

@@ -1,10 +1,9 @@
-pub mod Changes
+pub mod ChangeLaws
 pub mod Elements
 pub mod FewEquations
 pub mod Found
 pub mod OperationRuns
 pub mod Parity
-pub mod PivotColumns
 pub mod Pivots
 pub mod Places
 pub mod Placewise

@@ -25,7 +25,7 @@ abbrev pub last_order : Option (List ℕ) → List Operation → Option (List �
 last_order order [] = order
 last_order order (operation ∷ operations) = last_order (order_after order operation) operations
 
-pub order-step : {X : Type 0} (S : Space X) (s : Store X) (operation : Operation) → (step S s operation).order ≡ order_after s.order operation
+order-step : {X : Type 0} (S : Space X) (s : Store X) (operation : Operation) → (step S s operation).order ≡ order_after s.order operation
 unfolding step
 order-step S s (AddAssign dest src) = refl
 order-step S s (MulAssign dest scalar) = refl

@@ -4,10 +4,10 @@ use Rattle.std.proofs.lemmas.List.Elements.{All-from_get_or, All-get_or}
 use Rattle.rq_algebra.specs.Field.{Field}
 use Rattle.rq_algebra.specs.Systems.{dot, Solves, IsColumn, HasHomogeneousColumn, at}
 use Rattle.rq_algebra.specs.Operations.{Operation, Reorder, Space, Store, step, run, plain, unordered, read, IsOrder, IsValues, IsUnread, found_by, FindsColumn}
-use Rattle.rq_algebra.proofs.PivotColumns.{HasPivots, ReadsPivots}
+use Rattle.rq_algebra.specs.PivotColumns.{HasPivots, ReadsPivots}
 use Rattle.rq_algebra.specs.Following.{Follows}
 use Rattle.rq_algebra.proofs.Sums.{dot_one, dot_zero, zero_mul}
-use Rattle.rq_algebra.proofs.Changes.{find_place}
+use Rattle.rq_algebra.proofs.ChangeLaws.{find_place}
 use Rattle.rq_algebra.proofs.FewEquations.{all_places}
 use Rattle.rq_algebra.proofs.Solutions.{solves_same}
 use Rattle.rq_algebra.proofs.OperationRuns.{run_push, AreAllowed-push, zero_values}
@@ -19,7 +19,7 @@ unfolding step
 found-reorder S operations order values k = ap (λ (t : Store _). read S t k) (run_push S operations (Reorder order) (unordered values))
 
 -- nor does it change the values
-pub values-reorder : {X : Type 0} (S : Space X) (operations : List Operation) (order : List ℕ) (values : List X) → (run S (operations ++ Reorder order ∷ []) (unordered values)).values ≡ (run S operations (unordered values)).values
+values-reorder : {X : Type 0} (S : Space X) (operations : List Operation) (order : List ℕ) (values : List X) → (run S (operations ++ Reorder order ∷ []) (unordered values)).values ≡ (run S operations (unordered values)).values
 unfolding step
 values-reorder S operations order values = ap (λ (t : Store _). t.values) (run_push S operations (Reorder order) (unordered values))
 

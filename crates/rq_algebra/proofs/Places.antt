@@ -5,7 +5,8 @@ use Rattle.rq_algebra.specs.Field.{Field}
 use Rattle.rq_algebra.specs.Arrangements.{ArePlaces, exchange}
 use Rattle.rq_algebra.specs.Systems.{sum_below}
 use Rattle.rq_algebra.proofs.Sums.{sum_same, sum_zero, sum_add, sum_one, add_zero}
-use Rattle.rq_algebra.proofs.Changes.{with_at, with_at_same, with_at_other}
+use Rattle.rq_algebra.specs.Changes.{with_at}
+use Rattle.rq_algebra.proofs.ChangeLaws.{with_at_same, with_at_other}
 
 -- all places but the last
 fewer_places : (n bound : ℕ) (places : ℕ → ℕ) → ArePlaces (suc n) bound places → ArePlaces n bound places

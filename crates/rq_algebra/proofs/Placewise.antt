@@ -16,7 +16,7 @@ pub record IsLinear {X Y : Type 0} (S : Space X) (T : Space Y) (f : X → Y) : T
   pub scale_is : (c : ℕ) (x : X) → f (S.scale c x) ≡ T.scale c (f x)
 
 -- each value mapped, in the same order
-abbrev pub map_store : {X Y : Type 0} → (X → Y) → Store X → Store Y
+abbrev map_store : {X Y : Type 0} → (X → Y) → Store X → Store Y
 map_store f s = record { values = map f s.values; order = s.order }
 
 module _ {X Y : Type 0} (S : Space X) (T : Space Y) (f : X → Y) (linear : IsLinear S T f) where

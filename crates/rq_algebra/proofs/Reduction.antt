@@ -1,14 +1,14 @@
 -- One column after another: rows that are cleared, pivots so far, and what follows at the last column or at one without a pivot.
-use Rattle.std.proofs.Common.{◌≡◌, ◌≢◌, ℕ, suc, ◌+◌, ◌<◌, ◌≤◌, sym, ap, ◌∙◌, refl, arith, inl, inr}
-use Rattle.std.proofs.lemmas.Bool.{cases_eq, cases_lt}
+use Rattle.std.proofs.Common.{◌≡◌, ◌≢◌, ℕ, ◌+◌, ◌<◌, ◌≤◌, sym, ap, ◌∙◌, refl, arith, inl, inr}
+use Rattle.std.proofs.lemmas.Bool.{cases_eq}
 use Rattle.rq_algebra.specs.Field.{Field}
-use Rattle.rq_algebra.specs.Arrangements.{ArePlaces, IsFewOn, exchange}
-use Rattle.rq_algebra.specs.Systems.{HasHomogeneousColumn, HasElements}
+use Rattle.rq_algebra.specs.Arrangements.{ArePlaces, exchange}
+use Rattle.rq_algebra.specs.Systems.{HasElements}
 use Rattle.rq_algebra.specs.Steps.{AddsRow, ScalesRow}
-use Rattle.rq_algebra.proofs.PivotColumns.{HasPivots, HasFirstPivots, ClearsColumn}
-use Rattle.rq_algebra.proofs.Sums.{add_zero, mul_zero, zero_mul, mul_one}
+use Rattle.rq_algebra.specs.PivotColumns.{HasPivots, HasFirstPivots, ClearsColumn}
+use Rattle.rq_algebra.proofs.Sums.{add_zero, mul_zero, mul_one}
 use Rattle.rq_algebra.proofs.Places.{exchange_other, exchange_below, exchange_twice}
-use Rattle.rq_algebra.proofs.FewEquations.{all_places, homogeneous_of_few}
+use Rattle.rq_algebra.proofs.FewEquations.{all_places}
 
 -- the rows that one column clears, row by row
 module _ (F : Field) (height width count pivot column : ℕ) (rows : ℕ → ℕ) (rows_are : ArePlaces count height rows) (in_width : column < width) where
@@ -19,17 +19,6 @@ module _ (F : Field) (height width count pivot column : ℕ) (rows : ℕ → ℕ
     -- the pivot's row stays
     pub clears_pivot : n ≡ pivot → ClearsColumn F count width pivot column (n + 1) rows a b
     clears_pivot e = record { kept = clears.kept; cleared = λ i k l m d. clears.cleared i k (omega arith) m d; rest = λ i k l m o. clears.rest i k (omega arith) m o }
-
-    -- so does a row that has 0 in the column
-    pub clears_zero : n < count → b (rows n) column ≡ 0 → ClearsColumn F count width pivot column (n + 1) rows a b
-    clears_zero l e = record {
-      kept = clears.kept;
-      cleared = λ i k m o d. elim (cases_eq i n) [
-        | inl s ↦ rw s (cc (clears.rest n k (omega arith) l o, clears.rest n column (omega arith) l in_width, e, zero_mul F (a (rows pivot) k), add_zero F (a (rows n) k)))
-        | inr f ↦ clears.cleared i k (omega arith) o d
-      ];
-      rest = λ i k m o q. clears.rest i k (omega arith) o q;
-    }
 
     pub clears_more : (c : ℕ → ℕ → ℕ) → n < count → pivot < count → n ≢ pivot → AddsRow F height width (rows n) (rows pivot) (b (rows n) column) b c → ClearsColumn F count width pivot column (n + 1) rows a c
     clears_more c l in_rows other adds =
@@ -44,11 +33,7 @@ module _ (F : Field) (height width count pivot column : ℕ) (rows : ℕ → ℕ
           rest = λ i k m o q. elsewhere i k o q (omega arith) ∙ clears.rest i k (omega arith) o q;
         }
 
--- the pivots so far
-pub first_pivots_none : (count : ℕ) (a : ℕ → ℕ → ℕ) (rows columns : ℕ → ℕ) → HasFirstPivots count 0 a rows columns
-first_pivots_none count a rows columns = record { ones = λ p l. absurd (omega arith); zeros = λ i p l m. absurd (omega arith) }
-
--- they stay where rows or columns that are left are exchanged
+-- the first pivots stay where rows or columns that are left are exchanged
 module _ (count done : ℕ) (a : ℕ → ℕ → ℕ) (rows columns : ℕ → ℕ) (first : HasFirstPivots count done a rows columns) (p q : ℕ) (left_p : done ≤ p) (left_q : done ≤ q) where
   pub first_pivots_rows : (new_rows : ℕ → ℕ) → p < count → q < count → done ≤ count → ((i : ℕ) → i < count → new_rows i ≡ rows (exchange p q i)) → HasFirstPivots count done a new_rows columns
   first_pivots_rows new_rows in_p in_q fits are = record {
@@ -56,14 +41,6 @@ module _ (count done : ℕ) (a : ℕ → ℕ → ℕ) (rows columns : ℕ → �
     zeros = λ i j l m d. ap (λ (r : ℕ). a r (columns j)) (are i l) ∙ first.zeros (exchange p q i) j (exchange_below p q count in_p in_q i l) m
         (λ e. d (sym (exchange_twice p q i) ∙ ap (exchange p q) e ∙ exchange_other p q j (omega arith) (omega arith)));
   }
-
-  pub first_pivots_columns : (new_columns : ℕ → ℕ) → ((k : ℕ) → k < done → new_columns k ≡ columns (exchange p q k)) → HasFirstPivots count done a rows new_columns
-  first_pivots_columns new_columns are =
-      let same : (k : ℕ) → k < done → new_columns k ≡ columns k = (λ (k : ℕ) (l : k < done). are k l ∙ ap columns (exchange_other p q k (omega arith) (omega arith))) in
-      record {
-        ones = λ j l. ap (λ (k : ℕ). a (rows j) k) (same j l) ∙ first.ones j l;
-        zeros = λ i j l m d. ap (λ (k : ℕ). a (rows i) k) (same j m) ∙ first.zeros i j l m d;
-      }
 
 -- one more pivot: its row has been scaled, and has cleared its column in the other rows
 module _ (F : Field) (height width count p : ℕ) (a b c : ℕ → ℕ → ℕ) (rows columns : ℕ → ℕ) (rows_are : ArePlaces count height rows) (columns_below : (k : ℕ) → k ≤ p → columns k < width) (in_rows : p < count)
@@ -115,22 +92,3 @@ pivots_of_first F height width count a rows columns rows_are fits columns_are fi
       ap (λ (j : ℕ). a (rows p) j) (sym q.2) ∙ first.zeros p q.0 (omega arith) q.1 (λ e. d (sym q.2 ∙ ap columns (sym e)));
   rest = λ i k l free m. let q = all_places F width columns columns_are k m in rw (← q.2) (rest i q.0 l free q.1);
 }
-
--- on n + 1 columns the rows from the n-th on are zero
-pub few_of_zeros : (F : Field) (height width n : ℕ) (a : ℕ → ℕ → ℕ) (rows columns : ℕ → ℕ) → ArePlaces height height rows → ArePlaces (suc n) width columns → n ≤ height → ((i j : ℕ) → n ≤ i → i < height → j < suc n → a (rows i) (columns j) ≡ 0) → IsFewOn height width n a rows columns
-few_of_zeros F height width n a rows columns rows_are columns_are fits zeros = record {
-  rows_below = λ p l. rows_are.below p (omega arith);
-  columns_are = columns_are;
-  zeros = λ i l free j m.
-      let q = all_places F height rows rows_are i l in
-      let after : n ≤ q.0 = elim (cases_lt q.0 n) [ inl o ↦ absurd (free q.0 o q.2) | inr o ↦ o ] in
-      ap (λ (r : ℕ). a r (columns j)) (sym q.2) ∙ zeros q.0 j after q.1 m;
-}
-
--- a column in which the rows that are left are zero
-pub homogeneous_of_stuck : (F : Field) (height width done : ℕ) (a : ℕ → ℕ → ℕ) (rows columns : ℕ → ℕ) → HasElements F height width a → ArePlaces height height rows → ArePlaces (suc done) width columns → done ≤ height → HasFirstPivots height done a rows columns → ((i : ℕ) → done ≤ i → i < height → a (rows i) (columns done) ≡ 0) → HasHomogeneousColumn F height width a
-homogeneous_of_stuck F height width done a rows columns elements rows_are columns_are fits first stuck =
-    homogeneous_of_few F height width done a rows columns elements (few_of_zeros F height width done a rows columns rows_are columns_are fits (λ i j l m o. elim (cases_eq j done) [
-      | inl e ↦ rw e (stuck i l m)
-      | inr d ↦ first.zeros i j m (omega arith) (omega arith)
-    ]))

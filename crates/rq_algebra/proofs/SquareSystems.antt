@@ -9,7 +9,8 @@ use Rattle.rq_algebra.specs.Field.{Field}
 use Rattle.rq_algebra.specs.Systems.{dot, IsColumn, IsDetermined, HasElements, HasHomogeneousColumn, HasSolution}
 use Rattle.rq_algebra.specs.Symbols.{IsSymbolColumn, HasSymbolSolution, slice_at}
 use Rattle.rq_algebra.proofs.Sums.{add_again, mul_zero, undo_mul, dot_same, dot_mul_column, dot_zero, dot-suc}
-use Rattle.rq_algebra.proofs.Changes.{with_at, with_at_same, with_at_other}
+use Rattle.rq_algebra.specs.Changes.{with_at}
+use Rattle.rq_algebra.proofs.ChangeLaws.{with_at_same, with_at_other}
 use Rattle.rq_algebra.proofs.FewEquations.{few_rows}
 use Rattle.rq_algebra.proofs.SymbolSums.{symbol_elements}
 

@@ -1,4 +1,5 @@
 pub mod Arrangements
+pub mod Changes
 pub mod Examples
 pub mod Field
 pub mod Following
@@ -6,6 +7,7 @@ pub mod FromLaws
 pub mod OperationLaws
 pub mod Operations
 pub mod Parities
+pub mod PivotColumns
 pub mod Steps
 pub mod SymbolLaws
 pub mod Symbols

@@ -14,7 +14,7 @@ use Rattle.rq_base.specs.BinaryRows.{HasRows, HasLdpc1Columns, HasLdpcRows}
 pub same_shape : {a b c : BitTable} → HasSameShape a b → HasSameShape b c → HasSameShape a c
 same_shape s t = record { height = t.height ∙ s.height; width = t.width ∙ s.width; boundary = t.boundary ∙ s.boundary; indexed = t.indexed ∙ s.indexed }
 
-pub rows_stay : {row : TableRow} {rows : ℕ} {old new : BitTable} → HasRows row rows old → HasSameShape old new → HasRows row rows new
+rows_stay : {row : TableRow} {rows : ℕ} {old new : BitTable} → HasRows row rows old → HasSameShape old new → HasRows row rows new
 rows_stay r s = record { height = s.height ∙ r.height; width = s.width ∙ r.width; boundary = s.boundary ∙ r.boundary; indexed = s.indexed ∙ r.indexed }
 
 -- ---- three bits that are set to one
@@ -85,7 +85,7 @@ three_there a b d x = rw (and_false d, and_false b, and_false a) refl
 
 -- ---- the columns of the first B symbols
 
-pub ldpc_1_more :
+ldpc_1_more :
     {row : TableRow} {rows column : ℕ} {old new : BitTable} → IsChecked row → row.ldpc_symbols ≤ rows → column < b_of row → HasLdpc1Columns row rows column old
     → SetsThree old new (column % row.ldpc_symbols) ((column + ldpc_step row column) % row.ldpc_symbols) ((column + 2 * ldpc_step row column) % row.ldpc_symbols) column column column
     → HasLdpc1Columns row rows (column + 1) new

@@ -4,7 +4,6 @@ use Rattle.std.proofs.lemmas.Bool.{cases_eq}
 use Rattle.std.proofs.lemmas.List.Elements.{All-head, All-tail}
 use Rattle.std.specs.Int.Bits.{bit_xor}
 use Rattle.rq_algebra.specs.Parities.{parity}
-use Rattle.rq_algebra.specs.Systems.{at}
 use Rattle.rq_algebra.proofs.Parity.{unit, unit_same, unit_other, parity-cons, parity_cases}
 use Rattle.rq_standard.specs.BitTable.{BitTable}
 use Rattle.rq_standard.specs.BitTableSteps.{HasSameShape, SetsBit, bit_of}

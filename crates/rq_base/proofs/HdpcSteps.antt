@@ -32,7 +32,7 @@ two_rows first step height below few same = elim (cases_lt (first + step + 1) he
 
 -- ---- the octets of a column from those of the next one
 
-abbrev pub flipped : List ℕ → ℕ → List ℕ
+abbrev flipped : List ℕ → ℕ → List ℕ
 flipped xs i = set xs i (bit_xor (get_or xs i 0) 1)
 
 flipped-at : (xs : List ℕ) (i j : ℕ) → i < length xs → get_or (flipped xs i) j 0 ≡ bit_xor (get_or xs j 0) (one_if (eqb j i))

@@ -41,7 +41,7 @@ pub record HasWalkEnds (p m step : ℕ) : Type 0 where
   pub near : m ≤ 2 * p
 
 -- each step comes nearer
-pub nearer : (p m step x : ℕ) → HasWalkEnds p m step → x < m → p ≤ x → steps_to p m step ((x + step) % m) < steps_to p m step x
+nearer : (p m step x : ℕ) → HasWalkEnds p m step → x < m → p ≤ x → steps_to p m step ((x + step) % m) < steps_to p m step x
 nearer p m step x ends hx le =
     ⊎_elim
     (λ (down : p < step).
@@ -61,7 +61,7 @@ nearer p m step x ends hx le =
     (cases_lt (x + step) m))
     (cases_lt p step)
 
-pub steps-lt : (p m step x : ℕ) → HasWalkEnds p m step → x < m → steps_to p m step x < m
+steps-lt : (p m step x : ℕ) → HasWalkEnds p m step → x < m → steps_to p m step x < m
 steps-lt p m step x ends hx =
     ⊎_elim
     (λ (there : x < p). rw (steps_below p m step x there) (omega (arith, ends.below)))
@@ -107,16 +107,6 @@ next_step p m step x ends hx le =
     next_enough p m step m (m - 1) ((x + step) % m) ends there (omega (arith, near, few)) (omega (arith, near, few))
     ∙ sym (next_later p m step (m - 1) x le)
     ∙ ap (λ (n : ℕ). next_below p m step n x) (sym fuel)
-
-pub next-lt : (p m step f x : ℕ) → HasWalkEnds p m step → x < m → steps_to p m step x < f → next_below p m step f x < p
-next-lt p m step zero x ends hx hf = absurd (omega arith)
-next-lt p m step (suc f) x ends hx hf =
-    ⊎_elim
-    (λ (there : x < p). rw (next_here p m step (suc f) x there) there)
-    (λ (le : p ≤ x).
-    let near = nearer p m step x ends hx le in
-    rw (next_later p m step f x le) (next-lt p m step f ((x + step) % m) ends (mod_below (x + step) m (omega (arith, ends.below))) (omega (arith, near))))
-    (cases_lt x p)
 
 -- ---- the values below p
 

@@ -1,8 +1,8 @@
 //! The equations of a block as matrices, and the indices of the intermediate symbols that make up an
 //! encoding symbol (RFC 6330, sections 5.3.3.3 and 5.3.5.3).
-ghost use Rattle.std.specs.Prelude.{◌≡◌, ◌+◌, ◌*◌, ◌^◌, ◌<◌, ◌≤◌, All, length, IfOk, IfErr};
+ghost use Rattle.std.specs.Prelude.{◌≡◌, ◌+◌, ◌^◌, ◌<◌, ◌≤◌, All, length, IfOk, IfErr};
 ghost use Rattle.std.specs.List.{FoldsTo};
-ghost use Rattle.rq_standard.specs.Tuple.{IsTuple, enc_indices};
+ghost use Rattle.rq_standard.specs.Tuple.{IsTupleOver, enc_indices};
 ghost use Rattle.rq_bytes.specs.declared.error.Error.TheVariants.{OutOfMemory};
 ghost use Rattle.rq_standard.specs.TableRows.{greatest_size, row_of, intermediate_symbols};
 ghost use Rattle.rq_standard.specs.Equations.{equation_count};
@@ -34,10 +34,7 @@ pub fn enc_indices<F: FnMut(usize)>(
     p1: u32,
     mut f: F,
 )
-    requires tuple { IsTuple lt_symbols p1 source_tuple }
-    requires some_pi { 3 ≤ pi_symbols }
-    requires p1_above { pi_symbols ≤ p1 }
-    requires p1_near { p1 ≤ 2 * pi_symbols }
+    requires tuple { IsTupleOver lt_symbols pi_symbols p1 source_tuple }
     requires callable { CallableAlong (λ p x. F.pre p x) (λ p x q. F.step p x tt q) f (enc_indices lt_symbols pi_symbols p1 source_tuple) }
     ensures calls { (last : F) × FoldsTo (λ p x q. F.step p x tt q) f (enc_indices lt_symbols pi_symbols p1 source_tuple) last }
     ensures below { All (λ index. index < lt_symbols + pi_symbols) (enc_indices lt_symbols pi_symbols p1 source_tuple) }

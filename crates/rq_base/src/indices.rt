@@ -3,7 +3,7 @@
 ghost use Rattle.std.specs.Prelude.{◌≡◌, ℕ, ◌+◌, ◌*◌, ◌%◌, ◌<◌, ◌≤◌, List, [], ◌∷◌, All, MatchOption};
 ghost use Rattle.rq_standard.specs.TableRows.{intermediate_symbols};
 ghost use Rattle.rq_standard.specs.Equations.{row_indices};
-ghost use Rattle.rq_standard.specs.Tuple.{IsTuple, enc_indices};
+ghost use Rattle.rq_standard.specs.Tuple.{IsTupleOver, enc_indices};
 ghost use Rattle.rq_base.specs.Indices.{next_below};
 
 use crate::base::intermediate_tuple;
@@ -45,10 +45,7 @@ impl Indices {
         pi_symbols: u32,
         p1: u32,
     ) -> Indices
-        requires tuple { IsTuple lt_symbols p1 source_tuple }
-        requires some_pi { 3 ≤ pi_symbols }
-        requires p1_above { pi_symbols ≤ p1 }
-        requires p1_near { p1 ≤ 2 * pi_symbols }
+        requires { IsTupleOver lt_symbols pi_symbols p1 source_tuple }
         ensures { result ≡ enc_indices lt_symbols pi_symbols p1 source_tuple }
     {
         let (lt_left, lt_step, lt_value, pi_left, pi_step, pi_value) = source_tuple;

@@ -12,13 +12,13 @@ use Rattle.rq_bytes.specs.declared.error.Error.{Error}
 use Rattle.rq_parts.specs.BitPairs.{sparse_pairs}
 use Rattle.rq_parts.specs.ImmutableListMap.{Pairs, values_of, lists_of}
 use Rattle.rq_parts.specs.SparseBinaryVec.{listed_bit}
-use Rattle.rq_parts.proofs.ListedBits.{listed-self, listed-other}
-use Rattle.rq_matrix.specs.SparseRows.{IsColumnIndex, AddsRowPairs, places_between}
+use Rattle.rq_parts.specs.ListedLaws.{listed-self, listed-other}
+use Rattle.rq_matrix.specs.SparseRows.{IsColumnIndex, AddsRowPairs}
 use Rattle.rq_matrix.proofs.FoundOnes.{places-skip, places-push}
 
 -- ---- the values of a column
 
-pub values-append : (pairs more : List (ℕ × ℕ)) (column : ℕ) → values_of (pairs ++ more) column ≡ values_of pairs column ++ values_of more column
+values-append : (pairs more : List (ℕ × ℕ)) (column : ℕ) → values_of (pairs ++ more) column ≡ values_of pairs column ++ values_of more column
 values-append pairs more column =
     ap (map (λ (pair : ℕ × ℕ). pair.1)) (filter-append (λ (pair : ℕ × ℕ). pair.0 == column) pairs more)
     ∙ map-append (λ (pair : ℕ × ℕ). pair.1) (filter (λ (pair : ℕ × ℕ). pair.0 == column) pairs) (filter (λ (pair : ℕ × ℕ). pair.0 == column) more)
@@ -58,7 +58,7 @@ places-add bit row column old new ones places adds is small =
 
 -- ---- the map of them
 
-pub index-built : (columns : ℕ) (rows : List (List ℕ)) (pairs : Pairs) (lists : List (List ℕ)) → pairs.keys ≡ columns → lists ≡ lists_of pairs
+index-built : (columns : ℕ) (rows : List (List ℕ)) (pairs : Pairs) (lists : List (List ℕ)) → pairs.keys ≡ columns → lists ≡ lists_of pairs
     → ((column : ℕ) → column < columns → ArePlacesOfOnes (λ row. listed_bit (get_or rows row []) column) 0 (length rows) (values_of pairs.pairs column)) → IsColumnIndex columns rows lists
 index-built columns rows pairs lists keys is each = record {
   count = ap length is ∙ length-map-range_with_len (values_of pairs.pairs) 0 pairs.keys ∙ keys;
@@ -71,33 +71,6 @@ pub index-answered : (columns : ℕ) (rows : List (List ℕ)) (pairs : Pairs) (r
     → ((column : ℕ) → column < columns → ArePlacesOfOnes (λ row. listed_bit (get_or rows row []) column) 0 (length rows) (values_of pairs.pairs column)) → IfOk result (IsColumnIndex columns rows)
 index-answered columns rows pairs (Ok lists) keys answer each = (let is : lists ≡ lists_of pairs = cc in index-built columns rows pairs lists keys is each)
 index-answered columns rows pairs (Err e) keys answer each = tt
-
--- ---- the places of rows
-
-module _ (rows places : List ℕ) (start end n place : ℕ) (within : n < length rows) (is : place ≡ get_or places (get_or rows n 0) 0) where
-  in_range : ℕ → List ℕ
-  in_range p = cond (not (nat_lt p start) && nat_lt p end) (p ∷ []) []
-
-  one_more : places_between (take (n + 1) rows) places start end ≡ places_between (take n rows) places start end ++ in_range place
-  unfolding in_range
-  one_more =
-      let test = λ (p : ℕ). not (nat_lt p start) && nat_lt p end in
-      ap (λ xs. filter test (map (λ k. get_or places k 0) xs)) (take_more rows n 0 within)
-      ∙ ap (filter test) (map-append (λ k. get_or places k 0) (take n rows) (get_or rows n 0 ∷ []))
-      ∙ filter-append test (map (λ k. get_or places k 0) (take n rows)) (get_or places (get_or rows n 0) 0 ∷ [])
-      ∙ ap (λ (p : ℕ). places_between (take n rows) places start end ++ cond (not (nat_lt p start) && nat_lt p end) (p ∷ []) []) (sym is)
-
-  pub between-push : start ≤ place → place < end → places_between (take (n + 1) rows) places start end ≡ places_between (take n rows) places start end ++ place ∷ []
-  unfolding in_range
-  between-push from below =
-      let holds : (not (nat_lt place start) && nat_lt place end) ≡ true = grind (arith, nat_tests, from, below) in
-      one_more ∙ ap (λ b. places_between (take n rows) places start end ++ cond b (place ∷ []) []) holds
-
-  pub between-skip : (place < start) ⊎ (end ≤ place) → places_between (take (n + 1) rows) places start end ≡ places_between (take n rows) places start end
-  unfolding in_range
-  between-skip outside =
-      let fails : (not (nat_lt place start) && nat_lt place end) ≡ false = elim outside [ inl low ↦ grind (arith, nat_tests, low) | inr high ↦ grind (arith, nat_tests, high) ] in
-      one_more ∙ ap (λ b. places_between (take n rows) places start end ++ cond b (place ∷ []) []) fails ∙ append-nil (places_between (take n rows) places start end)
 
 -- ---- the ones of a row that stand in a range
 

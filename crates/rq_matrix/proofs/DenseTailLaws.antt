@@ -11,7 +11,8 @@ use Rattle.std.proofs.lemmas.Nat.Bits.{bit_at_xor, bit_at-lt}
 use Rattle.rq_bytes.specs.BinaryOctetVec.{packed_bit}
 use Rattle.rq_parts.specs.SparseBinaryVec.{listed_bit}
 use Rattle.rq_parts.proofs.BitPairLaws.{packed_bit-at, sum_of_bits}
-use Rattle.rq_parts.proofs.ListedBits.{listed-append, listed-self, listed-other}
+use Rattle.rq_parts.specs.ListedLaws.{listed-self, listed-other}
+use Rattle.rq_parts.proofs.ListedBits.{listed-append}
 use Rattle.rq_matrix.specs.BitRows.{with_word_added, IsLastOne}
 use Rattle.rq_matrix.specs.DenseTails.{Tail, tail_bit, IsTail, SetsTailBit, MarksRows, AddsTailRow, PushesColumn}
 use Rattle.rq_matrix.proofs.Words.{packed_bit-zeros}

@@ -34,7 +34,7 @@ count_ones-bit (suc zero) lt = ones-ones 1
 count_ones-bit (suc (suc b)) lt = absurd (omega arith)
 
 -- the count of the lowest bits of a number
-pub count_ones-mod : (n c : ℕ) → count_ones (n % 2 ^ c) ≡ ones_below (bit_at n) c
+count_ones-mod : (n c : ℕ) → count_ones (n % 2 ^ c) ≡ ones_below (bit_at n) c
 count_ones-mod n zero = ap count_ones (let e : n % 1 ≡ 0 = omega arith in e) ∙ ones-ones 0
 count_ones-mod n (suc c) =
     let next : suc c ≡ 1 + c = omega arith in

@@ -106,7 +106,7 @@ ones-ascend words start (suc count) =
     ]
 
 -- the places of a row's ones, as the pairs give them
-abbrev pub places_of_ones : List ℕ → ℕ → ℕ → List ℕ
+abbrev places_of_ones : List ℕ → ℕ → ℕ → List ℕ
 places_of_ones words start end = map (λ (pair : ℕ × ℕ). pair.0) (ones_among (bit_pairs words start start (end - start)))
 
 pub places-ascend : (words : List ℕ) (start end : ℕ) → IsStrictlyIncreasing (places_of_ones words start end)

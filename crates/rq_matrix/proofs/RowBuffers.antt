@@ -30,14 +30,14 @@ second_kept xs i j n ys apart i_in j_in long =
     apart
 
 -- the buffer `words` of `count` rows of `size` words, and what callers see of it
-pub record Holds (words : List ℕ) (count size : ℕ) (rows : List (List ℕ)) : Type 0 where
+pub record HoldsRows (words : List ℕ) (count size : ℕ) (rows : List (List ℕ)) : Type 0 where
   pub view : cut count size words ≡ rows
   pub long : length words ≡ count * size
 
-pub holds : (inside : Inside) (rows : List (List ℕ)) → the_view inside ≡ rows → the_invariant inside → Holds inside.words.items inside.count inside.row_len rows
-holds inside rows view invariant = record { view = view; long = sym inside.words.ok.0 ∙ invariant }
+pub holds_rows : (inside : Inside) (rows : List (List ℕ)) → the_view inside ≡ rows → the_invariant inside → HoldsRows inside.words.items inside.count inside.row_len rows
+holds_rows inside rows view invariant = record { view = view; long = sym inside.words.ok.0 ∙ invariant }
 
-module _ {words : List ℕ} {count size : ℕ} {rows : List (List ℕ)} (is : Holds words count size rows) where
+module _ {words : List ℕ} {count size : ℕ} {rows : List (List ℕ)} (is : HoldsRows words count size rows) where
   pub count_is : count ≡ length rows
   count_is = sym (length-cut count size words) ∙ ap length is.view
 
@@ -52,7 +52,7 @@ module _ {words : List ℕ} {count size : ℕ} {rows : List (List ℕ)} (is : Ho
   length-row i below = ap length (sym (row_at i below)) ∙ length-range words (i * size) size (within i below)
 
   -- the rows after a write of the words of one of them
-  pub row_written : (i : ℕ) (ws : List ℕ) → i < length rows → length ws ≡ size → Holds (with_range words (i * size) ws) count size (set rows i ws)
+  pub row_written : (i : ℕ) (ws : List ℕ) → i < length rows → length ws ≡ size → HoldsRows (with_range words (i * size) ws) count size (set rows i ws)
   row_written i ws below long =
       let count_is_there = count_is in
       record {
@@ -83,20 +83,20 @@ module _ {words : List ℕ} {count size : ℕ} {rows : List (List ℕ)} (is : Ho
 -- a row that callers see stands in the buffer
 module _ (inside : Inside) (rows : List (List ℕ)) (view : the_view inside ≡ rows) (invariant : the_invariant inside) (i : ℕ) (below : i < length rows) where
   pub row_in : (words : List ℕ) → words ≡ inside.words.items → i * inside.row_len + inside.row_len ≤ length words
-  row_in words is = omega (arith, within (holds inside rows view invariant) i below, ap length is)
+  row_in words is = omega (arith, within (holds_rows inside rows view invariant) i below, ap length is)
 
   pub row_starts : i * inside.row_len < 2 ^ 64
-  row_starts = omega (arith, within (holds inside rows view invariant) i below, inside.words.small, inside.words.ok)
+  row_starts = omega (arith, within (holds_rows inside rows view invariant) i below, inside.words.small, inside.words.ok)
 
   pub row_ends : i * inside.row_len + inside.row_len < 2 ^ 64
-  row_ends = omega (arith, within (holds inside rows view invariant) i below, inside.words.small, inside.words.ok)
+  row_ends = omega (arith, within (holds_rows inside rows view invariant) i below, inside.words.small, inside.words.ok)
 
 -- what `==` compares
-pub compared : (a b : Inside) (left right : List (List ℕ)) → the_view a ≡ left → the_invariant a → the_view b ≡ right → the_invariant b
+pub compared_rows : (a b : Inside) (left right : List (List ℕ)) → the_view a ≡ left → the_invariant a → the_view b ≡ right → the_invariant b
     → same_rows left right ≡ (a.count == b.count && pointwise ◌==◌ a.words.items b.words.items)
-compared a b left right av ai bv bi =
-    let first = holds a left av ai in
-    let second = holds b right bv bi in
+compared_rows a b left right av ai bv bi =
+    let first = holds_rows a left av ai in
+    let second = holds_rows b right bv bi in
     ap (λ n. n == length right && pointwise ◌==◌ (joined_pieces left) (joined_pieces right)) (sym (count_is first))
     ∙ ap (λ n. a.count == n && pointwise ◌==◌ (joined_pieces left) (joined_pieces right)) (sym (count_is second))
     ∙ ap (λ l. a.count == b.count && pointwise ◌==◌ l (joined_pieces right)) (joined_is first)
@@ -126,8 +126,8 @@ cut-next (suc n) s xs =
     ap (λ l. take s xs ∷ l) (cut-next n s (drop s xs))
     ∙ ap (λ l. take s xs ∷ (cut n s (drop s xs) ++ take s l ∷ [])) (drop-drop (n * s) s xs ∙ ap (λ k. drop k xs) next)
 
-pub truncated : (words : List ℕ) (count size height : ℕ) (rows : List (List ℕ)) → Holds words count size rows → height ≤ length rows
-    → Holds (take (height * size) words) height size (take height rows)
+pub truncated : (words : List ℕ) (count size height : ℕ) (rows : List (List ℕ)) → HoldsRows words count size rows → height ≤ length rows
+    → HoldsRows (take (height * size) words) height size (take height rows)
 truncated words count size height rows is le =
     let few : height ≤ count = omega (arith, count_is is) in
     let fits : height * size ≤ length words = omega (arith, mul-le-mul_right size few, is.long) in

@@ -161,15 +161,6 @@ module _ (height width boundary : ℕ) (indexed : Bool) (rows : List (List ℕ))
     apart : (a : ℕ) → a < height → a ≢ dest → get_or row_order.order a 0 ≢ d
     apart a in_a other same = order_apart row_order a dest is_rows (omega arith) (omega arith) other (same ∙ at_d)
 
-    pub adds_dense : AddsRowFrom (table height width boundary indexed rows row_order columns tail) dest src boundary (table height width boundary indexed rows row_order columns new)
-    adds_dense = record {
-      shape = record { height = refl; width = refl; boundary = refl; indexed = refl };
-      sum = λ k from below. dense_sum rows k from below;
-      before = λ k low _. inl (bit-before width boundary rows row_order columns new dest k low ∙ sym (bit-before width boundary rows row_order columns tail dest k low));
-      other_rows = λ a k in_a _ other.
-          ap (λ (b : ℕ). cond (nat_lt k boundary) (listed_bit (get_or rows (get_or row_order.order a 0) []) (get_or columns.order k 0)) b) (adds.other_rows (get_or row_order.order a 0) (width - 1 - k) (apart a in_a other));
-    }
-
     module _ (changed : List (List ℕ)) (row : List ℕ) (in_rows : d < length rows) (is : changed ≡ set rows d row) (sums : IsListedSum (get_or rows d []) (get_or rows s []) row) where
       now : get_or changed d [] ≡ row
       now = ap (λ (l : List (List ℕ)). get_or l d []) is ∙ get_or-set_same rows d row [] in_rows

@@ -15,15 +15,16 @@ use Rattle.rq_standard.specs.BitTableSteps.{ones_at, ones_below, ones_between, A
 use Rattle.rq_standard.proofs.BitTableLaws.{is_one_at, is_one_at-other, is_one_at-one, ones_at-cons}
 use Rattle.rq_parts.specs.BitPairs.{sparse_pairs}
 use Rattle.rq_parts.specs.SparseBinaryVec.{listed_bit, listed_octet, SetsListed, IsListedSum}
-use Rattle.rq_parts.proofs.ListedBits.{listed-self, listed-other, listed-found, ones_below_all}
+use Rattle.rq_parts.specs.ListedLaws.{listed-self, listed-other}
+use Rattle.rq_parts.proofs.ListedBits.{listed-found, ones_below_all}
 use Rattle.rq_matrix.specs.Orders.{Order, IsPlacedOrder}
 use Rattle.rq_matrix.specs.SparseRows.{IsSparseRow, places_between}
 use Rattle.rq_matrix.proofs.Ones.{ones_below-same}
 
 -- what is there is some value
-pub some_of : {X : Type 0} (o : Option X) → is_some o ≡ true → (x : X) × (o ≡ Some x)
-some_of None on = absurd (false≢true on)
-some_of (Some x) on = (x, refl)
+pub value_of_some : {X : Type 0} (o : Option X) → is_some o ≡ true → (x : X) × (o ≡ Some x)
+value_of_some None on = absurd (false≢true on)
+value_of_some (Some x) on = (x, refl)
 
 -- ---- stored rows
 
@@ -31,10 +32,10 @@ unlisted-above : (n : ℕ) (xs : List ℕ) (k : ℕ) → All (λ one. one < n) x
 unlisted-above n [] k below above = refl
 unlisted-above n (x ∷ xs) k below above = listed-other x xs k (λ same. omega (arith, same, below 0 x (omega arith))) ∙ unlisted-above n xs k (λ i d l. below (suc i) d (omega arith)) above
 
-pub unlisted : (n : ℕ) (row : List ℕ) (k : ℕ) → IsSparseRow n row → n ≤ k → listed_bit row k ≡ 0
+unlisted : (n : ℕ) (row : List ℕ) (k : ℕ) → IsSparseRow n row → n ≤ k → listed_bit row k ≡ 0
 unlisted n row k is above = unlisted-above n row k is.below above
 
-pub sparse_row : (n : ℕ) (row : List ℕ) → IsStrictlyIncreasing row → ((k : ℕ) → n ≤ k → listed_bit row k ≡ 0) → IsSparseRow n row
+sparse_row : (n : ℕ) (row : List ℕ) → IsStrictlyIncreasing row → ((k : ℕ) → n ≤ k → listed_bit row k ≡ 0) → IsSparseRow n row
 sparse_row n row rises none = record { rises = rises; below = ones_below_all row n none }
 
 -- rows without ones

@@ -1,28 +1,18 @@
 -- That a sparse matrix is a table of bits.
-use Rattle.std.proofs.Common.{◌≡◌, ℕ, ◌+◌, ◌-◌, ◌*◌, ◌/◌, ◌%◌, ◌<◌, ◌≤◌, List, [], ◌∷◌, All, length, get_or, cond, Bool, sym, ap, subst, ◌∙◌, arith, inl, inr}
+use Rattle.std.proofs.Common.{◌≡◌, ℕ, ◌+◌, ◌-◌, ◌*◌, ◌/◌, ◌%◌, ◌<◌, ◌≤◌, List, [], All, length, get_or, cond, Bool, sym, ap, subst, ◌∙◌, arith, inl, inr}
 use Rattle.std.specs.Option.{is_some}
-use Rattle.std.specs.List.Sorted.{IsStrictlyIncreasing}
 use Rattle.std.proofs.Math.ListN.{get_or-eq_default}
-use Rattle.std.proofs.lemmas.Bool.{cases_lt, cases_eq, lt-ltb, le-ltb}
+use Rattle.std.proofs.lemmas.Bool.{cases_lt, lt-ltb, le-ltb}
 use Rattle.std.proofs.lemmas.Nat.Bits.{bit_at-lt}
 use Rattle.rq_standard.specs.BitTable.{IsBitTable}
 use Rattle.rq_standard.specs.BitTableSteps.{IsUnchanged}
 use Rattle.rq_parts.specs.SparseBinaryVec.{listed_bit}
-use Rattle.rq_parts.proofs.ListedBits.{listed-other, listed-first, rises-tail}
+use Rattle.rq_parts.specs.ListedLaws.{listed-small}
 use Rattle.rq_matrix.specs.DenseTails.{Tail, tail_bit}
 use Rattle.rq_matrix.specs.Orders.{Order}
 use Rattle.rq_matrix.specs.SparseBinaryMatrix.{sparse_bit, sparse_content, IsSparseCopy}
 use Rattle.rq_matrix.specs.SparseRows.{IsSparseRow}
 use Rattle.rq_matrix.specs.declared.sparse_matrix.SparseBinaryMatrix.{SparseBinaryMatrix}
-
--- an ascending list has each index once at most
-pub listed-small : (xs : List ℕ) (k : ℕ) → IsStrictlyIncreasing xs → listed_bit xs k < 2
-listed-small [] k up = omega arith
-listed-small (x ∷ xs) k up =
-    elim (cases_eq k x) [
-      | inl e ↦ omega (arith, ap (listed_bit (x ∷ xs)) e ∙ listed-first x xs up)
-      | inr d ↦ omega (arith, listed-other x xs k d, listed-small xs k (rises-tail x xs up))
-    ]
 
 pub stored-small : (columns : ℕ) (rows : List (List ℕ)) (row k : ℕ) → All (IsSparseRow columns) rows → listed_bit (get_or rows row []) k < 2
 stored-small columns rows row k sparse =

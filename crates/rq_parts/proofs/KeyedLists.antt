@@ -71,7 +71,7 @@ same_key key pair = same_number key pair.0
     same_number a b = grind (arith, nat_tests)
 
 -- the values between starts are those of the pairs as they were before they were sorted
-pub values_stay :
+values_stay :
     (old : List (ℕ × ℕ)) {sorted : List (ℕ × ℕ)} {values : List ℕ} {key a b : ℕ} → IsStableByKey (λ (pair : ℕ × ℕ). pair.0) nat_cmp old sorted → values ≡ map (λ pair. pair.1) sorted
     → IsStart sorted key a → IsStart sorted (key + 1) b → slice_range values a b ≡ values_of old key
 values_stay old {sorted} {values} {key} {a} {b} stable is low high =

@@ -1,5 +1,5 @@
 -- The bits of an ascending list of ones.
-use Rattle.std.proofs.Common.{◌≡◌, ◌≢◌, ℕ, zero, suc, ◌+◌, ◌-◌, ◌<◌, ◌≤◌, ◌==◌, List, [], ◌∷◌, ◌++◌, length, take, drop, get_or, Bool, cond, not, true, false, filter, refl, sym, ap, subst, ◌∙◌, inl, inr, arith, if◌then◌else◌, All, Contains, None, Some, Result, Ok, Err, IfOk, IfErr, zero-add}
+use Rattle.std.proofs.Common.{◌≡◌, ◌≢◌, ℕ, zero, suc, ◌+◌, ◌-◌, ◌<◌, ◌≤◌, ◌==◌, List, [], ◌∷◌, ◌++◌, length, take, drop, get_or, Bool, cond, not, true, false, filter, refl, sym, ap, subst, ◌∙◌, inl, inr, arith, if◌then◌else◌, All, Contains, None, Some, Result, Ok, Err, IfOk, IfErr}
 use mathlib.Core.Bool.{false≢true}
 use Rattle.std.specs.List.Sorted.{IsStrictlyIncreasing, IsBinarySearchResult}
 use Rattle.std.specs.Ordering.{nat_cmp}
@@ -10,56 +10,21 @@ use Rattle.std.proofs.lemmas.List.Elements.{All-cons, filter-append, filter_pass
 use Rattle.std.proofs.lemmas.List.Filters.{sum_by-filter_both}
 use Rattle.std.proofs.lemmas.Bool.{cases_lt}
 use Rattle.std.proofs.lemmas.Bool.Decides.{eqb_tells}
-use Rattle.std.proofs.lemmas.List.Sums.{sum_by-cons, sum_by-append, sum_by-insert, sum_by-remove}
+use Rattle.std.proofs.lemmas.List.Sums.{sum_by-append, sum_by-insert, sum_by-remove}
 use Rattle.std.proofs.lemmas.List.{get_or_append_left, get_or_default, length-append, take-append-drop}
 use Rattle.std.proofs.lemmas.List.Edits.{length-insert, length-remove, get_or-insert_below, get_or-insert_at, get_or-insert_above, get_or-remove_below, get_or-remove_above}
 use Rattle.std.proofs.Math.Seq.{get_or-append_right}
+use Rattle.rq_parts.specs.ListedLaws.{listed-self, listed-other, rises-tail, listed-first, test-self, test-other, listed_more}
 use Rattle.rq_parts.specs.SparseBinaryVec.{listed_bit, listed_octet, SetsListed, IsListed, IsGap, IsInsertionPlace}
 use Rattle.rq_standard.specs.BitTableSteps.{bit_of}
 
-test-self : (x k : ℕ) → x ≡ k → ◌≡◌ {A = ℕ} (cond (x == k) 1 0) 1
-test-self x k same = elim (eqb_tells x k) [ inl e ↦ ap (λ b. cond b 1 0) e.0 | inr e ↦ absurd (e.1 same) ]
-
-test-other : (x k : ℕ) → x ≢ k → ◌≡◌ {A = ℕ} (cond (x == k) 1 0) 0
-test-other x k other = elim (eqb_tells x k) [ inl e ↦ absurd (other e.1) | inr e ↦ ap (λ b. cond b 1 0) e.0 ]
-
-nonzero_bit : (octet : ℕ) → octet ≢ 0 → bit_of octet ≡ 1
+pub nonzero_bit : (octet : ℕ) → octet ≢ 0 → bit_of octet ≡ 1
 nonzero_bit octet some = elim (eqb_tells octet 0) [ inl e ↦ absurd (some e.1) | inr e ↦ ap (λ b. if b then 0 else 1) e.0 ]
-
-module _ (x : ℕ) (xs : List ℕ) where
-  pub listed-self : (k : ℕ) → k ≡ x → listed_bit (x ∷ xs) k ≡ 1 + listed_bit xs k
-  listed-self k same = sum_by-cons (λ one. cond (one == k) 1 0) x xs ∙ ap (λ n. n + listed_bit xs k) (test-self x k (sym same))
-
-  pub listed-other : (k : ℕ) → k ≢ x → listed_bit (x ∷ xs) k ≡ listed_bit xs k
-  listed-other k other =
-      sum_by-cons (λ one. cond (one == k) 1 0) x xs ∙ ap (λ n. n + listed_bit xs k) (test-other x k (λ same. other (sym same))) ∙ zero-add (listed_bit xs k)
-
-  listed_more : (k : ℕ) → listed_bit (x ∷ xs) k ≡ cond (x == k) 1 0 + listed_bit xs k
-  listed_more k = sum_by-cons (λ one. cond (one == k) 1 0) x xs
-
-  pub rises-tail : IsStrictlyIncreasing (x ∷ xs) → IsStrictlyIncreasing xs
-  rises-tail up j l =
-      let same : get_or (x ∷ xs) (suc j + 1) 0 ≡ get_or (x ∷ xs) (suc (j + 1)) 0 = ap (λ n. get_or (x ∷ xs) n 0) {y = suc (j + 1)} (omega arith) in
-      omega (arith, same, up (suc j) (omega arith))
 
 rises-next : (xs : List ℕ) → IsStrictlyIncreasing xs → (j : ℕ) → suc j < length xs → get_or xs j 0 < get_or xs (suc j) 0
 rises-next xs up j l =
     let same : get_or xs (suc j) 0 ≡ get_or xs (j + 1) 0 = ap (λ n. get_or xs n 0) (omega arith) in
     omega (arith, same, up j (omega arith))
-
--- no bit is set below the first one
-pub listed-below : (xs : List ℕ) (k : ℕ) → IsStrictlyIncreasing xs → (0 < length xs → k < get_or xs 0 0) → listed_bit xs k ≡ 0
-listed-below [] k up first = refl
-listed-below (x ∷ xs) k up first =
-    listed-other x xs k (λ same. omega (arith, same, first (omega arith)))
-    ∙ listed-below xs k (rises-tail x xs up) (λ some. omega (arith, up 0 (omega arith), first (omega arith)))
-
-module _ (x : ℕ) (xs : List ℕ) (up : IsStrictlyIncreasing (x ∷ xs)) where
-  pub listed-behind : listed_bit xs x ≡ 0
-  listed-behind = listed-below xs x (rises-tail x xs up) (λ some. up 0 (omega arith))
-
-  pub listed-first : listed_bit (x ∷ xs) x ≡ 1
-  listed-first = listed-self x xs x refl ∙ ap (λ n. 1 + n) listed-behind
 
 -- ---- two rows one after the other
 

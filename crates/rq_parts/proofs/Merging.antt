@@ -1,12 +1,12 @@
 -- Two ascending lists of ones that are merged into their sum.
-use Rattle.std.proofs.Common.{◌≡◌, ◌≢◌, ℕ, ◌+◌, ◌-◌, ◌<◌, ◌≤◌, ◌⊎◌, List, [], ◌∷◌, ◌++◌, Bool, true, false, length, get_or, take, drop, refl, sym, ap, subst, ◌∙◌, inl, inr, arith, append-nil, zero-add}
+use Rattle.std.proofs.Common.{◌≡◌, ◌≢◌, ℕ, ◌+◌, ◌-◌, ◌<◌, ◌≤◌, ◌⊎◌, List, [], ◌∷◌, ◌++◌, Bool, true, length, get_or, take, drop, refl, sym, ap, subst, ◌∙◌, inl, inr, arith, append-nil}
 use Rattle.std.proofs.lemmas.List.{drop_more, take_all, length-drop}
-use mathlib.Core.Bool.{false≢true}
 use Rattle.std.specs.List.Sorted.{IsStrictlyIncreasing}
 use Rattle.std.specs.Int.Bits.{bit_xor, xor_zero_l, xor_zero_r}
 use Rattle.std.proofs.lemmas.Bool.Decides.{eqb_tells}
 use Rattle.rq_parts.specs.SparseBinaryVec.{listed_bit, IsListedSum, HasOtherOne}
-use Rattle.rq_parts.proofs.ListedBits.{listed-append, listed-self, listed-other, listed-first, listed-behind, listed-below, rises-join, rises-one, rises-tail, last-more}
+use Rattle.rq_parts.specs.ListedLaws.{listed-self, listed-other, listed-first, listed-behind, listed-below, rises-tail}
+use Rattle.rq_parts.proofs.ListedBits.{listed-append, rises-join, rises-one, last-more}
 
 -- what is merged ends below what is left of a list
 abbrev EndsBelow : List ℕ → List ℕ → Type 0
@@ -22,18 +22,6 @@ pub record Merges (row other sum : List ℕ) (added : Bool) (left right : List �
   pub bits : (k : ℕ) → listed_bit sum k + bit_xor (listed_bit left k) (listed_bit right k) ≡ bit_xor (listed_bit row k) (listed_bit other k)
   pub some : (added ≡ true) ⊎ HasOtherOne left right → HasOtherOne row other
   pub none : HasOtherOne row other → (added ≡ true) ⊎ HasOtherOne left right
-
-pub merges_none : (row other : List ℕ) → IsStrictlyIncreasing row → IsStrictlyIncreasing other → Merges row other [] false row other
-merges_none row other row_up other_up = record {
-  sum_rises = λ k l. absurd (omega arith);
-  left_rises = row_up;
-  right_rises = other_up;
-  left_above = λ some left. absurd (omega arith);
-  right_above = λ some right. absurd (omega arith);
-  bits = λ k. zero-add (bit_xor (listed_bit row k) (listed_bit other k));
-  some = λ s. elim s [ inl e ↦ absurd (false≢true e) | inr h ↦ h ];
-  none = inr;
-}
 
 -- one more that is merged, with what its bit then is
 module _ (sum : List ℕ) (x : ℕ) where
@@ -59,9 +47,6 @@ module _ (x : ℕ) (xs : List ℕ) (up : IsStrictlyIncreasing (x ∷ xs)) where
   -- what isn't in the whole isn't in the rest
   none_behind : (k : ℕ) → listed_bit (x ∷ xs) k ≡ 0 → listed_bit xs k ≡ 0
   none_behind k none = elim (eqb_tells k x) [ inl e ↦ first_behind k e.1 | inr e ↦ sym (listed-other x xs k e.1) ∙ none ]
-
-  above_first : (j : ℕ) → 0 < length xs → x < get_or xs 0 0
-  above_first j some = up 0 (omega arith)
 
 two_bits : {a b c d : ℕ} → a ≡ c → b ≡ d → bit_xor a b ≡ bit_xor c d
 two_bits {a} {b} {c} {d} first second = ap (λ n. bit_xor n b) first ∙ ap (bit_xor c) second

@@ -13,14 +13,6 @@ pub record AreDistinctOf (numbers : List ℕ) (i : ℕ) (distinct : List ℕ) : 
   pub from : (n : ℕ) → Contains distinct n → Contains numbers n
   pub last : 0 < length distinct → (0 < i) × (get_or distinct (length distinct - 1) 0 ≡ get_or numbers (i - 1) 0)
 
-pub distinct_none : (numbers : List ℕ) → AreDistinctOf numbers 0 []
-distinct_none numbers = record {
-  ascending = λ k lt. absurd (omega arith);
-  known = λ k lt. absurd (omega arith);
-  from = λ n found. absurd (omega (arith, found.1));
-  last = λ lt. absurd (omega arith);
-}
-
 -- a number that is there already
 pub distinct_known :
     {numbers distinct : List ℕ} {i : ℕ} (x : ℕ) → AreDistinctOf numbers i distinct → x ≡ get_or numbers i 0 → (0 < length distinct) × (get_or distinct (length distinct - 1) 0 ≡ x)

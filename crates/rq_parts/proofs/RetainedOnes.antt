@@ -5,7 +5,8 @@ use Rattle.std.specs.List.Retain.{RetainsInTurn}
 use Rattle.std.proofs.lemmas.Bool.{cases_lt}
 use Rattle.std.proofs.lemmas.Bool.Decides.{eqb_tells}
 use Rattle.rq_parts.specs.SparseBinaryVec.{listed_bit}
-use Rattle.rq_parts.proofs.ListedBits.{listed-self, listed-other, listed-first, listed-below, listed-found, rises-tail, rises-join, rises-one}
+use Rattle.rq_parts.specs.ListedLaws.{listed-self, listed-other, listed-first, listed-below, rises-tail}
+use Rattle.rq_parts.proofs.ListedBits.{listed-found, rises-join, rises-one}
 
 module _ (Answers : ℕ → Bool → Type 0) where
   pub record AreRetained (xs ys : List ℕ) : Type 0 where

@@ -2,6 +2,7 @@ pub mod ArrayMaps
 pub mod BitPairs
 pub mod ConnectedComponentGraph
 pub mod ImmutableListMap
+pub mod ListedLaws
 pub mod OctetIter
 pub mod SparseBinaryVec
 pub mod DenseOctetMatrix

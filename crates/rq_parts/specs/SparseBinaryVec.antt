@@ -1,5 +1,5 @@
 -- A row of bits as the ascending list of the indices that have a one.
-use Rattle.std.specs.Prelude.{◌≡◌, ◌≢◌, ℕ, ◌<◌, ◌≤◌, ◌==◌, List, [], ◌∷◌, ◌++◌, length, slice_index, Option, None, Some, if◌then◌else◌, count_by}
+use Rattle.std.specs.Prelude.{◌≡◌, ◌≢◌, ℕ, ◌<◌, ◌≤◌, ◌==◌, List, [], ◌∷◌, ◌++◌, length, slice_index, Option, None, Some, Result, OnOk, OnErr, if◌then◌else◌, count_by}
 use Rattle.std.specs.List.{insert}
 use Rattle.std.specs.List.Sorted.{IsStrictlyIncreasing}
 use Rattle.std.specs.Int.Bits.{bit_xor}
@@ -17,6 +17,11 @@ listed_octet ones k = if listed_bit ones k == 0 then None else Some 1
 pub record SetsListed (old : List ℕ) (i octet : ℕ) (new : List ℕ) : Type 0 where
   pub here : listed_bit new i ≡ bit_of octet
   pub elsewhere : (k : ℕ) → k ≢ i → listed_bit new k ≡ listed_bit old k
+
+-- an index is listed behind all others, or the list is as it was where that is refused
+pub record IsPushed {T E : Type 0} (old : List ℕ) (one : ℕ) (new : List ℕ) (result : Result T E) : Type 0 where
+  pub ok : OnOk result (new ≡ old ++ one ∷ [])
+  pub refused : OnErr result (new ≡ old)
 
 -- the sum of two rows
 abbrev pub IsListedSum : List ℕ → List ℕ → List ℕ → Type 0

@@ -9,7 +9,7 @@ ghost use Rattle.std.specs.List.{insert};
 ghost use Rattle.std.specs.List.Sorted.{IsStrictlyIncreasing};
 ghost use Rattle.std.specs.Int.Bits.{bit_xor};
 ghost use Rattle.rq_bytes.specs.declared.error.Error.TheVariants.{OutOfMemory};
-ghost use Rattle.rq_parts.specs.SparseBinaryVec.{listed_bit, listed_octet, SetsListed, IsListedSum, HasOtherOne, IsListed, IsGap, InsertsLast};
+ghost use Rattle.rq_parts.specs.SparseBinaryVec.{listed_bit, listed_octet, SetsListed, IsListedSum, HasOtherOne, IsListed, IsGap, IsPushed, InsertsLast};
 
 use rq_bytes::error::Error;
 use rq_bytes::octet::Octet;
@@ -239,8 +239,7 @@ impl SparseBinaryVec {
 // that the others don't carry its code.
 #[inline(always)]
 fn push(ones: &mut SmallVec<u16, INLINE_ONES>, one: u16) -> Result<(), AllocError>
-    ensures ok { OnOk result (ones.new.items ≡ ones.old.items ++ one ∷ []) }
-    ensures refused { OnErr result (ones.new.items ≡ ones.old.items) }
+    ensures { IsPushed ones.old.items one ones.new.items result }
 {
     if ones.len() < ones.capacity() {
         ones.push_reserved(one);
@@ -252,8 +251,7 @@ fn push(ones: &mut SmallVec<u16, INLINE_ONES>, one: u16) -> Result<(), AllocErro
 // Lists an index behind all others, and makes room first.
 #[inline(never)]
 fn push_growing(ones: &mut SmallVec<u16, INLINE_ONES>, one: u16) -> Result<(), AllocError>
-    ensures ok { OnOk result (ones.new.items ≡ ones.old.items ++ one ∷ []) }
-    ensures refused { OnErr result (ones.new.items ≡ ones.old.items) }
+    ensures { IsPushed ones.old.items one ones.new.items result }
 {
     ones.push(one)?;
     Ok(())

@@ -1,5 +1,5 @@
 -- Pairs of places and bits, one after another: after each pair, how often each place has come with a one. Proofs of crates above rest on these laws.
-use Rattle.std.proofs.Common.{◌≡◌, ◌≢◌, ℕ, ◌+◌, ◌<◌, ◌≤◌, cond, List, [], ◌∷◌, ◌++◌, length, refl, sym, ap, ◌∙◌, subst, arith, append_assoc, append-nil, inl, inr, eq-eqb, zero-add, add-zero}
+use Rattle.std.proofs.Common.{◌≡◌, ◌≢◌, ℕ, ◌+◌, ◌<◌, ◌≤◌, cond, List, [], ◌∷◌, ◌++◌, length, refl, sym, ap, ◌∙◌, subst, arith, append_assoc, inl, inr, eq-eqb, zero-add, add-zero}
 use Rattle.std.specs.Prelude.{◌&&◌, ◌==◌}
 use Rattle.std.proofs.lemmas.List.Sums.{sum_by-append}
 use Rattle.std.proofs.lemmas.Bool.Decides.{eqb_tells}
@@ -66,11 +66,3 @@ is_next_pair bit start end taken rest pair bits ones =
           let other = e.1 in
           record { place = place; first = λ f. absurd (other f); here = omega arith; elsewhere = elsewhere }
     ]
-
--- before the first pair no place has come, and after the last each has come as often as its bit says
-pub ones_at-none : (k : ℕ) → ones_at k [] ≡ 0
-ones_at-none k = refl
-
-pub ones_at-all : (bit : ℕ → ℕ) (start end : ℕ) (taken rest : List (ℕ × ℕ)) (k : ℕ) → rest ≡ [] → start ≤ k → k < end → AreOnesOf bit start end (taken ++ rest) → ones_at k taken ≡ bit k
-ones_at-all bit start end taken rest k none from below ones =
-    ap (ones_at k) (sym (append-nil taken) ∙ ap (λ l. taken ++ l) (sym none)) ∙ ones.once k from below

@@ -15,7 +15,7 @@ use Rattle.rq_standard.specs.OctetField.{octets}
 use Rattle.rq_standard.specs.TableRows.{intermediate_symbols, pi_symbols, IsChecked}
 use Rattle.rq_standard.specs.Tuple.{Tuple, degree, seed_of, tuple_of, lt_indices, pi_indices, enc_indices}
 use Rattle.rq_standard.specs.Rand.{rand}
-use Rattle.rq_standard.specs.Equations.{fixed_equations, symbol_coefficient, equations, equation_count, equation_values, zero_symbol, row_indices, tuple_sum, internal_id, extended_ids}
+use Rattle.rq_standard.specs.Equations.{precode_equations, symbol_coefficient, equations, equation_count, equation_values, zero_symbol, row_indices, tuple_sum, internal_id, extended_ids}
 use Rattle.rq_standard.specs.ReceivedBlock.{ReceivedBlock, SolvesReceived}
 use Rattle.rq_standard.proofs.PlaceLaws.{row_indices_below, enough_lt}
 use Rattle.rq_standard.proofs.TupleLaws.{between}
@@ -67,12 +67,12 @@ sum_same row i x y checked same = listed_same (intermediate_symbols row) (row_in
 -- ---- the symbol equations of a list of ids
 
 -- a column that solves the equations of ids has their values as sums
-pub solved_sum : (row : TableRow) (size j : ℕ) (ids : List ℕ) (carried : List (List ℕ)) (column : ℕ → List ℕ) → IsChecked row → IsSymbolColumn octets size (intermediate_symbols row) column
+solved_sum : (row : TableRow) (size j : ℕ) (ids : List ℕ) (carried : List (List ℕ)) (column : ℕ → List ℕ) → IsChecked row → IsSymbolColumn octets size (intermediate_symbols row) column
     → SolvesSymbols octets (equation_count row ids) (intermediate_symbols row) (equations row ids) column (equation_values row size carried) → j < length ids → length (get_or carried j (zero_symbol size)) ≡ size
     → tuple_sum row column (at ids j) ≡ get_or carried j (zero_symbol size)
 solved_sum row size j ids carried column checked are solves below long =
     let f : ℕ = row.ldpc_symbols + row.hdpc_symbols in
-    let own = solves_symbols_below octets f (length ids) (intermediate_symbols row) (fixed_equations row) (rows_of (symbol_coefficient row) ids) column (λ _. zero_symbol size) (λ i. get_or carried i (zero_symbol size)) solves in
+    let own = solves_symbols_below octets f (length ids) (intermediate_symbols row) (precode_equations row) (rows_of (symbol_coefficient row) ids) column (λ _. zero_symbol size) (λ i. get_or carried i (zero_symbol size)) solves in
     ext_get_or 0 (tuple_sum row column (at ids j)) (get_or carried j (zero_symbol size)) ((sum_symbol row size (at ids j) column checked are).size_is ∙ sym long)
     (λ p _. sum_at row size (at ids j) column checked are p ∙ (own.at_place p).at j below)
 
@@ -94,12 +94,12 @@ only_column row size source column nonsingular is = record {
 }
 
 -- so each encoding symbol is a sum of any intermediate symbols of its block
-pub encoding_sum : (row : TableRow) (size esi : ℕ) (source : List (List ℕ)) (column : ℕ → List ℕ) (payload : List ℕ) → IsChecked row → IsIntermediateColumn row size source column → IsEncodingSymbol row size source esi payload
+encoding_sum : (row : TableRow) (size esi : ℕ) (source : List (List ℕ)) (column : ℕ → List ℕ) (payload : List ℕ) → IsChecked row → IsIntermediateColumn row size source column → IsEncodingSymbol row size source esi payload
     → payload ≡ tuple_sum row column (internal_id row (length source) esi)
 encoding_sum row size esi source column payload checked is symbol =
     symbol.is_sum ∙ sum_same row (internal_id row (length source) esi) symbol.column column checked (λ k below. sym (symbol.is_only.only column is k below))
 
-pub if_some-weaker : {X : Type 0} (o : Option X) (P Q : X → Type 0) → ((x : X) → P x → Q x) → IfSome o P → IfSome o Q
+if_some-weaker : {X : Type 0} (o : Option X) (P Q : X → Type 0) → ((x : X) → P x → Q x) → IfSome o P → IfSome o Q
 if_some-weaker None P Q weaker h = tt
 if_some-weaker (Some x) P Q weaker h = weaker x h
 
@@ -112,7 +112,7 @@ solves_received h source column checked long are is honest =
     let f : ℕ = row.ldpc_symbols + row.hdpc_symbols in
     record {
       symbols = is.symbols;
-      fixed = solves_symbols_above octets f (length (extended_ids row)) (intermediate_symbols row) (fixed_equations row) (rows_of (symbol_coefficient row) (extended_ids row)) column (λ _. zero_symbol size) (λ i. get_or source i (zero_symbol size)) is.solves;
+      precode = solves_symbols_above octets f (length (extended_ids row)) (intermediate_symbols row) (precode_equations row) (rows_of (symbol_coefficient row) (extended_ids row)) column (λ _. zero_symbol size) (λ i. get_or source i (zero_symbol size)) is.solves;
       padding = λ x from below. source_sum row size x source column checked is are below ∙ get_or_past source x (zero_symbol size) (omega arith);
       received = λ e. if_some-weaker (h.received e) _ _ (λ payload symbol. encoding_sum row size e source column payload checked is symbol ∙ ap (λ k. tuple_sum row column (internal_id row k e)) long) (honest e);
     }

@@ -36,7 +36,7 @@ determined_by_ids one other row symbols same = (
 solves_less : (h : ReceivedBlock) (esi : ℕ) (payload : List ℕ) (column : ℕ → List ℕ) → SolvesReceived (with_received h esi payload) column → SolvesReceived h column
 solves_less h esi payload column s = record {
   symbols = s.symbols;
-  fixed = s.fixed;
+  precode = s.precode;
   padding = s.padding;
   received = λ e. less (h.received e) (cond (eqb esi e) (Some payload) None) _ (s.received e);
 }
@@ -99,7 +99,7 @@ keeps_same old new same b c = subst (λ s. IsBlockContradictory s b) (sym same) 
 -- ---- an object's packets
 
 -- what was received of them has a solution
-pub honest_solution : (table : List TableRow) (c : Configuration) (object : List ℕ) (packets : List Packet) (b : ℕ) (h : ReceivedBlock) (column : ℕ → List ℕ) → AllByRecursion (IsPacketOf table c object) packets → IsReceivedOf table c b h → HasReceivedFirsts b packets h
+honest_solution : (table : List TableRow) (c : Configuration) (object : List ℕ) (packets : List Packet) (b : ℕ) (h : ReceivedBlock) (column : ℕ → List ℕ) → AllByRecursion (IsPacketOf table c object) packets → IsReceivedOf table c b h → HasReceivedFirsts b packets h
     → IsIntermediateColumn (block_row table c b) c.symbol_size (block_source c object b) column → HasReceivedSolution h
 honest_solution table c object packets b h column honest shape reads is =
     let same = received_is table c b h shape in

@@ -13,7 +13,7 @@ use Rattle.rq_algebra.proofs.SymbolSums.{add_zeros, same_symbol, add_is_symbol}
 use Rattle.rq_standard.specs.declared.row.TableRow.{TableRow}
 use Rattle.rq_standard.specs.OctetField.{octets}
 use Rattle.rq_standard.specs.TableRows.{IsChecked, intermediate_symbols}
-use Rattle.rq_standard.specs.Equations.{fixed_equations, symbol_coefficient, equations, equation_count, equation_values, zero_symbol, tuple_sum, internal_id, extended_ids}
+use Rattle.rq_standard.specs.Equations.{precode_equations, symbol_coefficient, equations, equation_count, equation_values, zero_symbol, tuple_sum, internal_id, extended_ids}
 use Rattle.rq_standard.specs.Headline.{IsNonsingular, IsIntermediateColumn, IsEncodingSymbol, SolvesZeros, known_ids}
 use Rattle.rq_standard.specs.Differences.{plain_sum}
 use Rattle.rq_standard.proofs.Columns.{sum_symbol, sum_at, only_column}
@@ -129,14 +129,14 @@ module _ (size : ℕ) (pos : 0 < size) where
           let n = intermediate_symbols row in
           elim (cases_lt i f) [
             | inl lt ↦ stacked_above f (λ _. zero_symbol size) (λ j. get_or source j (zero_symbol size)) i lt ∙ sym zero_octet
-                ∙ ap (first_octet size) (sym (ap (λ (r : ℕ → ℕ). dot octets n r x) (stacked_above f (fixed_equations row) (rows_of (symbol_coefficient row) (extended_ids row)) i lt) ∙ solves.fixed.at i lt))
+                ∙ ap (first_octet size) (sym (ap (λ (r : ℕ → ℕ). dot octets n r x) (stacked_above f (precode_equations row) (rows_of (symbol_coefficient row) (extended_ids row)) i lt) ∙ solves.precode.at i lt))
             | inr past ↦
                 let j : ℕ = i - f in
                 let e : f + j ≡ i = omega arith in
                 let in_ids : j < row.extended_symbols = omega (arith, length-range_with_len 0 row.extended_symbols) in
                 let id : at (extended_ids row) j ≡ j = range_at 0 row.extended_symbols j in_ids ∙ omega arith in
                 rw (← e) (stacked_below f (λ _. zero_symbol size) (λ j. get_or source j (zero_symbol size)) j ∙ symbol_value j in_ids
-                ∙ ap (first_octet size) (sym (ap (λ (r : ℕ → ℕ). dot octets n r x) (stacked_below f (fixed_equations row) (rows_of (symbol_coefficient row) (extended_ids row)) j ∙ ap (symbol_coefficient row) id))))
+                ∙ ap (first_octet size) (sym (ap (λ (r : ℕ → ℕ). dot octets n r x) (stacked_below f (precode_equations row) (rows_of (symbol_coefficient row) (extended_ids row)) j ∙ ap (symbol_coefficient row) id))))
           ] where
             symbol_value : (j : ℕ) → j < row.extended_symbols → get_or source j (zero_symbol size) ≡ first_octet size (plain_sum row x j)
             symbol_value j in_ids = elim (cases_lt j k) [
@@ -174,7 +174,7 @@ zero_dot row r = dot_zero octets (intermediate_symbols row) r (λ _. 0) (λ k l.
 
 pub zeros_solve : (row : TableRow) (known : ℕ → Bool) → SolvesZeros row known (λ _. 0)
 zeros_solve row known = record {
-  fixed = record { at = λ i l. zero_dot row (fixed_equations row i) };
+  precode = record { at = λ i l. zero_dot row (precode_equations row i) };
   each = λ e _. zero_dot row (symbol_coefficient row e);
 }
 
@@ -192,7 +192,7 @@ zeros_encode row size k source e pos checked nonsingular fits long zeros =
 module _ (row : TableRow) (k : ℕ) (x : ℕ → ℕ) (has : ℕ → Bool) (nonsingular : IsNonsingular row) (is : IsColumn octets (intermediate_symbols row) x) (solves : SolvesZeros row (known_ids row k has) x) where
   pub no_change_is_zero : ((e : ℕ) → e < k → plain_sum row x e ≡ 0) → (j : ℕ) → j < intermediate_symbols row → x j ≡ 0
   no_change_is_zero none = nonsingular x is (record {
-    fixed = solves.fixed;
+    precode = solves.precode;
     each = λ e l. elim (cases_lt e k) [
       | inl source ↦ none e source
       | inr padding ↦ solves.each e (known_padding row k e has padding (ltb-true e row.extended_symbols l))

@@ -113,7 +113,7 @@ module _ (c : Configuration) (pos : 0 < c.symbol_size) (aligned : IsAligned c) w
 abbrev pub first_octets_object : Configuration → (ℕ → ℕ → ℕ) → List ℕ
 first_octets_object c octet = take c.transfer_length (pieces (λ b. first_octets_block c (block_symbols c b) (octet b)) c.source_blocks)
 
-pub length-first_octets_block : (c : Configuration) (k : ℕ) (octet : ℕ → ℕ) → length (first_octets_block c k octet) ≡ k * c.symbol_size
+length-first_octets_block : (c : Configuration) (k : ℕ) (octet : ℕ → ℕ) → length (first_octets_block c k octet) ≡ k * c.symbol_size
 unfolding first_octets_block
 length-first_octets_block c k octet = length-map-range_with_len _ 0 (k * c.symbol_size)
 

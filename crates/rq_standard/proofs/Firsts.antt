@@ -16,7 +16,7 @@ or_later-none None = refl
 or_later-none (Some x) = refl
 
 -- one packet more
-pub first_payload-push : (b : ℕ) (packets : List Packet) (p : Packet) (e : ℕ) → first_payload b (packets ++ p ∷ []) e ≡ or_later (first_payload b packets e) (payload_for b p e)
+first_payload-push : (b : ℕ) (packets : List Packet) (p : Packet) (e : ℕ) → first_payload b (packets ++ p ∷ []) e ≡ or_later (first_payload b packets e) (payload_for b p e)
 first_payload-push b [] p e = or_later-none (payload_for b p e)
 first_payload-push b (x ∷ packets) p e = ap (or_later (payload_for b x e)) (first_payload-push b packets p e) ∙ sym (or_later-assoc (payload_for b x e) (first_payload b packets e) (payload_for b p e))
 

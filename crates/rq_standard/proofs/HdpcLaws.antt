@@ -21,7 +21,7 @@ pub cond-lt : (b : Bool) (x y : ℕ) → x < 256 → y < 256 → cond b x y < 25
 cond-lt true x y hx hy = hx
 cond-lt false x y hx hy = hy
 
-pub mt-lt : (row : TableRow) (i j : ℕ) → mt row i j < 256
+mt-lt : (row : TableRow) (i j : ℕ) → mt row i j < 256
 unfolding mt
 mt-lt row i j = cond-lt (eqb j (before_hdpc row - 1)) (octet_power i) _ (power-lt i) (one_if-lt _)
 

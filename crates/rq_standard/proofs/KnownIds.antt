@@ -13,7 +13,7 @@ use Rattle.rq_algebra.proofs.Sums.{sum_below_size}
 use Rattle.rq_standard.specs.declared.row.TableRow.{TableRow}
 use Rattle.rq_standard.specs.OctetField.{octets}
 use Rattle.rq_standard.specs.TableRows.{intermediate_symbols, b_of, pi_symbols}
-use Rattle.rq_standard.specs.Equations.{fixed_equations, symbol_coefficient, equations, equation_count, ldpc_coefficient, hdpc_coefficient, before_hdpc, mt, gamma, is_ldpc_row, row_indices, one_if, extended_ids}
+use Rattle.rq_standard.specs.Equations.{precode_equations, symbol_coefficient, equations, equation_count, ldpc_coefficient, hdpc_coefficient, before_hdpc, mt, gamma, is_ldpc_row, row_indices, one_if, extended_ids}
 use Rattle.rq_standard.specs.IdLists.{IsListOf, HasDeterminedRows}
 use Rattle.rq_standard.specs.Headline.{IsNonsingular, SolvesZeros, AreDetermined, known_ids, DetermineBlock}
 use Rattle.rq_standard.specs.Received.{HasSourceSymbols}
@@ -26,11 +26,11 @@ module _ (row : TableRow) (known : ℕ → Bool) (ids : List ℕ) (column : ℕ 
       let f : ℕ = row.ldpc_symbols + row.hdpc_symbols in
       record {
         at = λ i below. elim (cases_lt i f) [
-          | inl lt ↦ ap (λ (r : ℕ → ℕ). dot octets (intermediate_symbols row) r column) (stacked_above f (fixed_equations row) (rows_of (symbol_coefficient row) ids) i lt) ∙ z.fixed.at i lt
+          | inl lt ↦ ap (λ (r : ℕ → ℕ). dot octets (intermediate_symbols row) r column) (stacked_above f (precode_equations row) (rows_of (symbol_coefficient row) ids) i lt) ∙ z.precode.at i lt
           | inr past ↦
               let j : ℕ = i - f in
               let e : f + j ≡ i = omega arith in
-              rw (← e) (ap (λ (r : ℕ → ℕ). dot octets (intermediate_symbols row) r column) (stacked_below f (fixed_equations row) (rows_of (symbol_coefficient row) ids) j) ∙ z.each (at ids j) (listed j (omega arith)))
+              rw (← e) (ap (λ (r : ℕ → ℕ). dot octets (intermediate_symbols row) r column) (stacked_below f (precode_equations row) (rows_of (symbol_coefficient row) ids) j) ∙ z.each (at ids j) (listed j (omega arith)))
         ];
       }
 
@@ -39,10 +39,10 @@ module _ (row : TableRow) (known : ℕ → Bool) (ids : List ℕ) (column : ℕ 
   from_list list s =
       let f : ℕ = row.ldpc_symbols + row.hdpc_symbols in
       record {
-        fixed = record { at = λ i lt. ap (λ (r : ℕ → ℕ). dot octets (intermediate_symbols row) r column) (sym (stacked_above f (fixed_equations row) (rows_of (symbol_coefficient row) ids) i lt)) ∙ s.at i (omega arith) };
+        precode = record { at = λ i lt. ap (λ (r : ℕ → ℕ). dot octets (intermediate_symbols row) r column) (sym (stacked_above f (precode_equations row) (rows_of (symbol_coefficient row) ids) i lt)) ∙ s.at i (omega arith) };
         each = λ x is.
             let q = list.place x is in
-            ap (λ (r : ℕ → ℕ). dot octets (intermediate_symbols row) r column) (ap (symbol_coefficient row) (sym q.2) ∙ sym (stacked_below f (fixed_equations row) (rows_of (symbol_coefficient row) ids) q.0))
+            ap (λ (r : ℕ → ℕ). dot octets (intermediate_symbols row) r column) (ap (symbol_coefficient row) (sym q.2) ∙ sym (stacked_below f (precode_equations row) (rows_of (symbol_coefficient row) ids) q.0))
             ∙ s.at (f + q.0) (omega (arith, q.1));
       }
 
@@ -56,7 +56,7 @@ determined_list row known ids list d column is s = d column is (from_list row kn
 
 -- more known ids determine too
 pub determined_more : (row : TableRow) (known more : ℕ → Bool) → ((x : ℕ) → known x ≡ true → more x ≡ true) → AreDetermined row known → AreDetermined row more
-determined_more row known more within d column is z = d column is (record { fixed = z.fixed; each = λ x k. z.each x (within x k) })
+determined_more row known more within d column is z = d column is (record { precode = z.precode; each = λ x k. z.each x (within x k) })
 
 -- ---- the ids of a block
 
@@ -154,16 +154,16 @@ equations_below row ids i k =
     let f : ℕ = row.ldpc_symbols + row.hdpc_symbols in
     elim (cases_lt i f) [
       | inl lt ↦ elim (cases_lt i row.ldpc_symbols) [
-        | inl l ↦ subst (λ (r : ℕ → ℕ). r k < 256) (sym (stacked_above f (fixed_equations row) (rows_of (symbol_coefficient row) ids) i lt ∙ stacked_above row.ldpc_symbols (ldpc_coefficient row) (hdpc_coefficient row) i l)) (ldpc_below row i k)
+        | inl l ↦ subst (λ (r : ℕ → ℕ). r k < 256) (sym (stacked_above f (precode_equations row) (rows_of (symbol_coefficient row) ids) i lt ∙ stacked_above row.ldpc_symbols (ldpc_coefficient row) (hdpc_coefficient row) i l)) (ldpc_below row i k)
         | inr g ↦
             let j : ℕ = i - row.ldpc_symbols in
             let e : row.ldpc_symbols + j ≡ i = omega arith in
-            subst (λ (r : ℕ → ℕ). r k < 256) (sym (stacked_above f (fixed_equations row) (rows_of (symbol_coefficient row) ids) i lt ∙ ap (fixed_equations row) (sym e) ∙ stacked_below row.ldpc_symbols (ldpc_coefficient row) (hdpc_coefficient row) j)) (hdpc_below row j k)
+            subst (λ (r : ℕ → ℕ). r k < 256) (sym (stacked_above f (precode_equations row) (rows_of (symbol_coefficient row) ids) i lt ∙ ap (precode_equations row) (sym e) ∙ stacked_below row.ldpc_symbols (ldpc_coefficient row) (hdpc_coefficient row) j)) (hdpc_below row j k)
       ]
       | inr past ↦
           let j : ℕ = i - f in
           let e : f + j ≡ i = omega arith in
-          subst (λ (r : ℕ → ℕ). r k < 256) (sym (ap (equations row ids) (sym e) ∙ stacked_below f (fixed_equations row) (rows_of (symbol_coefficient row) ids) j)) (parity_below (row_indices row (at ids j)) k)
+          subst (λ (r : ℕ → ℕ). r k < 256) (sym (ap (equations row ids) (sym e) ∙ stacked_below f (precode_equations row) (rows_of (symbol_coefficient row) ids) j)) (parity_below (row_indices row (at ids j)) k)
     ]
 
 -- fewer equations than intermediate symbols determine nothing

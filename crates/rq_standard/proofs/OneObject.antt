@@ -14,7 +14,7 @@ use Rattle.rq_standard.specs.TableRows.{IsChecked, intermediate_symbols}
 use Rattle.rq_standard.specs.Packet.{Packet}
 use Rattle.rq_standard.specs.Configuration.{Configuration, IsAligned}
 use Rattle.rq_standard.specs.Cutting.{block_symbols, block_bytes}
-use Rattle.rq_standard.specs.Equations.{fixed_equations, symbol_coefficient, zero_symbol, internal_id, tuple_sum}
+use Rattle.rq_standard.specs.Equations.{precode_equations, symbol_coefficient, zero_symbol, internal_id, tuple_sum}
 use Rattle.rq_standard.specs.Received.{or_later, first_payload, has_id}
 use Rattle.rq_standard.specs.Headline.{SolvesZeros, DetermineBlock, block_row, block_source, known_ids, IsEncodingSymbol, IsPacketOf, IsHonestRun, IsAnswerable}
 use Rattle.rq_standard.specs.ReceivedBlock.{ReceivedBlock, has_received, SolvesReceived, ReceivedDetermine}
@@ -54,11 +54,11 @@ module _ (h : ReceivedBlock) (x y : ℕ → List ℕ) (checked : IsChecked h.row
   sum_solves p =
       let n = intermediate_symbols h.row in
       record {
-        fixed = record {
+        precode = record {
           at = λ i l.
-              dot_add_column octets n (fixed_equations h.row i) (slice_at p x) (slice_at p y)
-              ∙ ap (λ s. octets.add s (dot octets n (fixed_equations h.row i) (slice_at p y))) ((solves_x.fixed.at_place p).at i l)
-              ∙ ap (octets.add (slice_at p (λ _. zero_symbol h.configuration.symbol_size) i)) ((solves_y.fixed.at_place p).at i l)
+              dot_add_column octets n (precode_equations h.row i) (slice_at p x) (slice_at p y)
+              ∙ ap (λ s. octets.add s (dot octets n (precode_equations h.row i) (slice_at p y))) ((solves_x.precode.at_place p).at i l)
+              ∙ ap (octets.add (slice_at p (λ _. zero_symbol h.configuration.symbol_size) i)) ((solves_y.precode.at_place p).at i l)
               ∙ octets.add_self (slice_at p (λ _. zero_symbol h.configuration.symbol_size) i);
         };
         each = λ i known.

@@ -41,7 +41,7 @@ pub record HasRow (row : TableRow) (k : ℕ) : Type 0 where
   pub checked : IsChecked row
   pub fits : k ≤ row.extended_symbols
 
-pub row_of_shape : (table : List TableRow) (c : Configuration) (b : ℕ) (h : ReceivedBlock) → IsReceivedOf table c b h → HasRow (block_row table c b) (block_symbols c b)
+row_of_shape : (table : List TableRow) (c : Configuration) (b : ℕ) (h : ReceivedBlock) → IsReceivedOf table c b h → HasRow (block_row table c b) (block_symbols c b)
 row_of_shape table c b h shape = record {
   checked = subst IsChecked shape.row shape.checked;
   fits = subst (λ (r : TableRow). block_symbols c b ≤ r.extended_symbols) shape.row (subst (λ n. n ≤ h.row.extended_symbols) shape.source_symbols shape.fits);
@@ -128,7 +128,7 @@ module _ (table : List TableRow) (c : Configuration) (rows : (b : ℕ) → b < c
   }
 
 -- what changes nothing is zero
-pub xor-same : (x y : List ℕ) → xor_bytes x y ≡ x → (i : ℕ) → get_or y i 0 ≡ 0
+xor-same : (x y : List ℕ) → xor_bytes x y ≡ x → (i : ℕ) → get_or y i 0 ≡ 0
 xor-same x y same i = sym (add_twice octets (get_or x i 0) (get_or y i 0)) ∙ ap (octets.add (get_or x i 0)) (sym (add_symbols_at octets i x y) ∙ ap (λ l. get_or l i 0) same) ∙ octets.add_self (get_or x i 0)
 
 -- ---- bytes made of plain columns, one for each block
@@ -139,7 +139,7 @@ pub record AreColumns (row : ℕ → TableRow) (k : ℕ → ℕ) (has : ℕ → 
   pub solves : (b : ℕ) → b < count → SolvesZeros (row b) (known_ids (row b) (k b) (has b)) (columns b)
 
 -- the bytes that they make
-abbrev pub bytes_of : Configuration → (ℕ → TableRow) → (ℕ → ℕ → ℕ) → List ℕ
+abbrev bytes_of : Configuration → (ℕ → TableRow) → (ℕ → ℕ → ℕ) → List ℕ
 bytes_of c row columns = first_octets_object c (λ b e. plain_sum (row b) (columns b) e)
 
 module _ (c : Configuration) (row : ℕ → TableRow) (columns : ℕ → ℕ → ℕ) (pos : 0 < c.symbol_size) (some : 0 < c.source_blocks) (aligned : IsAligned c) where

@@ -6,7 +6,7 @@ use Rattle.std.proofs.lemmas.List.{take_at, drop_at}
 use Rattle.rq_standard.specs.Packet.{SymbolId, Packet, IsSymbolId, id_number, id_bytes, id_of_bytes, packet_bytes, packet_of_bytes}
 
 -- the id that stands behind a number
-pub id_of_number : (n : ℕ) (i : SymbolId) → n ≡ id_number i → IsSymbolId i → record { block = n / 2 ^ 24; esi = n % 2 ^ 24 } ≡ i
+id_of_number : (n : ℕ) (i : SymbolId) → n ≡ id_number i → IsSymbolId i → record { block = n / 2 ^ 24; esi = n % 2 ^ 24 } ≡ i
 id_of_number n i e h =
     let is_block : n / 2 ^ 24 ≡ i.block = omega (arith, h.esi_fits) in
     let is_esi : n % 2 ^ 24 ≡ i.esi = omega (arith, h.esi_fits) in

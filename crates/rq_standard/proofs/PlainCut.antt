@@ -21,13 +21,6 @@ map-range_is_take xs f a n h each =
 pub piece_within : (p n size : ℕ) → p < n → p * size + size ≤ n * size
 piece_within p n size lt = let more : p + 1 ≤ n = omega arith in omega (arith, mul-le-mul_right size more)
 
--- a symbol has its size
-pub length-plain_symbol : (size k : ℕ) (xs : List ℕ) (e : ℕ) → length xs ≡ k * size → e < k → length (plain_symbol size xs e) ≡ size
-unfolding plain_symbol
-length-plain_symbol size k xs e l h =
-    let b : e + 1 ≤ k = omega arith in
-    length-take-le size (drop (e * size) xs) (omega (arith, mul-le-mul_right size b, length-drop (e * size) xs))
-
 -- a symbol before the end stays
 plain_symbol-append : (size k : ℕ) (xs ys : List ℕ) → (k + 1) * size ≤ length xs → plain_symbol size (xs ++ ys) k ≡ plain_symbol size xs k
 unfolding plain_symbol
@@ -42,7 +35,7 @@ unfolding plain_symbol
 plain_symbol-last size k xs ys h l = ap (take size) (drop_at xs ys (k * size) h) ∙ take_all size ys (omega arith)
 
 -- one symbol more
-pub plain_symbols-push : (f : ℕ → Option (List ℕ)) (size e : ℕ) (xs ys : List ℕ) → length xs ≡ e * size → length ys ≡ size → ((k : ℕ) → k < e → f k ≡ Some (plain_symbol size xs k)) → f e ≡ Some ys
+plain_symbols-push : (f : ℕ → Option (List ℕ)) (size e : ℕ) (xs ys : List ℕ) → length xs ≡ e * size → length ys ≡ size → ((k : ℕ) → k < e → f k ≡ Some (plain_symbol size xs k)) → f e ≡ Some ys
     → (k : ℕ) → k < e + 1 → f k ≡ Some (plain_symbol size (xs ++ ys) k)
 plain_symbols-push f size e xs ys h l each last = below_more (λ k. f k ≡ Some (plain_symbol size (xs ++ ys) k)) e
     (λ k below. each k below ∙ ap (λ s. Some s) (sym (plain_symbol-append size k xs ys (let b : k + 1 ≤ e = omega arith in omega (arith, mul-le-mul_right size b)))))

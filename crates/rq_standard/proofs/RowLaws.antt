@@ -36,7 +36,7 @@ passes place row e =
     let seven = first_passed _ _ _ six.1 in
     record { size = one.0; odd = two.0; ldpc = three.0; hdpc = four.0; pi = five.0; columns = six.0; index = seven.0 }
 
-pub passes_checked : (place : ℕ) (row : TableRow) → first_failing_check place row ≡ None → IsChecked row
+passes_checked : (place : ℕ) (row : TableRow) → first_failing_check place row ≡ None → IsChecked row
 passes_checked place row e =
     let p = passes place row e in
     let ldpc = and_parts _ _ p.ldpc in
@@ -109,7 +109,7 @@ finds_later : (first : TableRow) (rest : List TableRow) (k : ℕ) (other : Table
 finds_later first rest k other e found = rw e (suc found.0, found.1, found.2)
 
 -- a block that the greatest size holds has a row
-pub row_found : (rows : List TableRow) (k : ℕ) → k ≤ greatest_size rows → 0 < length rows → Finds rows k (row_of rows k)
+row_found : (rows : List TableRow) (k : ℕ) → k ≤ greatest_size rows → 0 < length rows → Finds rows k (row_of rows k)
 unfolding greatest_size row_of
 row_found [] k le some = absurd (omega arith)
 row_found (row ∷ []) k le some = finds_here row [] k _ (le-leb _ _ le)
@@ -119,7 +119,7 @@ row_found (row ∷ next ∷ rest) k le some =
     (λ (later : leb k row.extended_symbols ≡ false). finds_later row (next ∷ rest) k _ later (row_found (next ∷ rest) k le (omega arith)))
     (cases_Bool (leb k row.extended_symbols))
 
-pub length-built_in_rows : length built_in_rows ≡ 74
+length-built_in_rows : length built_in_rows ≡ 74
 unfolding built_in_rows rows_from
 length-built_in_rows = refl
 

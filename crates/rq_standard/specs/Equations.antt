@@ -74,12 +74,12 @@ tuple_sum row column x = sum_listed (symbols octets) (row_indices row x) column
 -- ---- systems
 
 -- the equations without an id: S LDPC and H HDPC ones
-abbrev pub fixed_equations : TableRow → ℕ → ℕ → ℕ
-fixed_equations row = stacked row.ldpc_symbols (ldpc_coefficient row) (hdpc_coefficient row)
+abbrev pub precode_equations : TableRow → ℕ → ℕ → ℕ
+precode_equations row = stacked row.ldpc_symbols (ldpc_coefficient row) (hdpc_coefficient row)
 
 -- the equations of a list of internal symbol ids: those, and then one for each id
 abbrev pub equations : TableRow → List ℕ → ℕ → ℕ → ℕ
-equations row ids = stacked (row.ldpc_symbols + row.hdpc_symbols) (fixed_equations row) (rows_of (symbol_coefficient row) ids)
+equations row ids = stacked (row.ldpc_symbols + row.hdpc_symbols) (precode_equations row) (rows_of (symbol_coefficient row) ids)
 
 -- how many equations there are
 abbrev pub equation_count : TableRow → List ℕ → ℕ

@@ -10,13 +10,13 @@ use Rattle.rq_standard.specs.Configuration.{Configuration}
 use Rattle.rq_standard.specs.Cutting.{block_symbols, source_symbol}
 use Rattle.rq_standard.specs.Packet.{Packet}
 use Rattle.rq_standard.specs.Received.{has_id}
-use Rattle.rq_standard.specs.Equations.{fixed_equations, symbol_coefficient, equations, equation_count, equation_values, extended_ids, tuple_sum, internal_id}
+use Rattle.rq_standard.specs.Equations.{precode_equations, symbol_coefficient, equations, equation_count, equation_values, extended_ids, tuple_sum, internal_id}
 
 -- ---- which symbols determine a block
 
 -- a column of octets solves the LDPC and HDPC equations, and those of the known internal symbol ids, with all values zero
 pub record SolvesZeros (row : TableRow) (known : ℕ → Bool) (column : ℕ → ℕ) : Type 0 where
-  pub fixed : Solves octets (row.ldpc_symbols + row.hdpc_symbols) (intermediate_symbols row) (fixed_equations row) column (λ _. 0)
+  pub precode : Solves octets (row.ldpc_symbols + row.hdpc_symbols) (intermediate_symbols row) (precode_equations row) column (λ _. 0)
   pub each : (x : ℕ) → known x ≡ true → dot octets (intermediate_symbols row) (symbol_coefficient row x) column ≡ 0
 
 -- The known internal symbol ids determine the intermediate symbols: only a column of zeros solves these equations with all values zero.

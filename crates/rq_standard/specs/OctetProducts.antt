@@ -11,8 +11,8 @@ unfolding octet_double
 double-zero = refl
 
 -- two sums of two, regrouped
-pub xor_swap : (a b c d : ℕ) → bit_xor (bit_xor a b) (bit_xor c d) ≡ bit_xor (bit_xor a c) (bit_xor b d)
-xor_swap a b c d =
+pub xor_pairs : (a b c d : ℕ) → bit_xor (bit_xor a b) (bit_xor c d) ≡ bit_xor (bit_xor a c) (bit_xor b d)
+xor_pairs a b c d =
     xor_assoc a b (bit_xor c d)
     ∙ ap (bit_xor a) (sym (xor_assoc b c d) ∙ ap (λ x. bit_xor x d) (xor_comm b c) ∙ xor_assoc c b d)
     ∙ sym (xor_assoc a c (bit_xor b d))
@@ -49,7 +49,7 @@ times-xor_left (suc n) a c b ha hc =
     ap (λ x. bit_xor (if_set b (bit_xor a c)) (octet_double x)) (times-xor_left n a c (b / 2) ha hc)
     ∙ ap (λ x. bit_xor (if_set b (bit_xor a c)) x) (double-xor s t (times-lt n a (b / 2) ha) (times-lt n c (b / 2) hc))
     ∙ ap (λ x. bit_xor x (bit_xor (octet_double s) (octet_double t))) (cond-xor_left (eqb (b % 2) 1) a c)
-    ∙ xor_swap (if_set b a) (if_set b c) (octet_double s) (octet_double t)
+    ∙ xor_pairs (if_set b a) (if_set b c) (octet_double s) (octet_double t)
 
 -- x passes through a product
 cond-double : (t : Bool) (a : ℕ) → cond t (octet_double a) 0 ≡ octet_double (cond t a 0)

@@ -7,7 +7,7 @@ use Rattle.rq_standard.specs.OctetField.{octets}
 use Rattle.rq_standard.specs.TableRows.{intermediate_symbols}
 use Rattle.rq_standard.specs.Configuration.{Configuration}
 use Rattle.rq_standard.specs.Cutting.{symbol_of_block}
-use Rattle.rq_standard.specs.Equations.{fixed_equations, tuple_sum, zero_symbol, internal_id}
+use Rattle.rq_standard.specs.Equations.{precode_equations, tuple_sum, zero_symbol, internal_id}
 use Rattle.rq_standard.specs.Received.{or_later, HasSourceSymbols}
 use Rattle.rq_standard.specs.Headline.{SolvesZeros, DetermineBlock, known_ids}
 
@@ -34,12 +34,12 @@ with_received h esi payload = record h { received = λ e. or_later (h.received e
 -- a column of symbols of this size solves the LDPC and HDPC equations of a row
 abbrev pub SolvesPrecode : TableRow → ℕ → (ℕ → List ℕ) → Type 0
 SolvesPrecode row size column =
-    SolvesSymbols octets (row.ldpc_symbols + row.hdpc_symbols) (intermediate_symbols row) (fixed_equations row) column (λ _. zero_symbol size)
+    SolvesSymbols octets (row.ldpc_symbols + row.hdpc_symbols) (intermediate_symbols row) (precode_equations row) column (λ _. zero_symbol size)
 
 -- a column of symbols that solves all that was received of a block: its LDPC and HDPC equations, its padding and what was received
 pub record SolvesReceived (h : ReceivedBlock) (column : ℕ → List ℕ) : Type 0 where
   pub symbols : IsSymbolColumn octets h.configuration.symbol_size (intermediate_symbols h.row) column
-  pub fixed : SolvesPrecode h.row h.configuration.symbol_size column
+  pub precode : SolvesPrecode h.row h.configuration.symbol_size column
   pub padding : (x : ℕ) → h.source_symbols ≤ x → x < h.row.extended_symbols → tuple_sum h.row column x ≡ zero_symbol h.configuration.symbol_size
   pub received : (e : ℕ) → IfSome (h.received e) (λ payload. payload ≡ tuple_sum h.row column (internal_id h.row h.source_symbols e))
 

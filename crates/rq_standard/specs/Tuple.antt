@@ -52,6 +52,13 @@ pub record IsTuple (w p1 : ℕ) (t : Tuple) : Type 0 where
   pub pi_step_below : t.4 < p1
   pub pi_start_below : t.5 < p1
 
+-- a tuple over W LT and P PI symbols, where P1 isn't below P nor over twice as much
+pub record IsTupleOver (w p p1 : ℕ) (t : Tuple) : Type 0 where
+  pub ranges : IsTuple w p1 t
+  pub some_pi : 3 ≤ p
+  pub p1_above : p ≤ p1
+  pub p1_near : p1 ≤ 2 * p
+
 -- the indices of a tuple among the LT symbols: (b + a*j) mod W for j below d
 abbrev pub lt_indices : ℕ → Tuple → List ℕ
 lt_indices w t = map (λ j. (t.2 + t.1 * j) % w) (range_with_len 0 t.0)

@@ -59,7 +59,7 @@ greatest_none (first ∷ next ∷ rest) is =
 
 -- ---- the first refused row
 
-pub first_refused-drop : (rows : List RowNumbers) (place : ℕ) (d : RowNumbers) → place < length rows →
+first_refused-drop : (rows : List RowNumbers) (place : ℕ) (d : RowNumbers) → place < length rows →
     first_refused place (drop place rows) ≡ first_failure (first_failing_check (74 + place) (row_of_numbers (74 + place) (get_or rows place d))) place (first_refused (place + 1) (drop (place + 1) rows))
 unfolding first_refused
 first_refused-drop rows place d lt =

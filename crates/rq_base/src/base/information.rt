@@ -18,6 +18,10 @@ pub use parameters::DEFAULT_DECODER_MEMORY;
 // The greatest transfer length, in bytes: 65535 bytes in each of 56403 symbols of 255 blocks.
 const MAX_TRANSFER_LENGTH: u64 = 942574504275;
 
+/// How many bytes a configuration has as it is sent: 8 of the common part and 4 of that of the scheme
+/// (RFC 6330, 3.3.2 and 3.3.3). Not in the Rust crate.
+pub const CONFIGURATION_LENGTH: usize = 12;
+
 /// What encoder and decoder both know of an object: its length and how it is cut.
 #[derive(Clone, Copy, Debug, PartialEq, Eq, PartialOrd, Ord, Hash)]
 pub struct ObjectTransmissionInformation {
@@ -112,15 +116,14 @@ impl ObjectTransmissionInformation {
         if self.symbol_size == 0 {
             return Err(Error::SymbolSizeZero);
         }
-        check_alignment(self.symbol_size, self.symbol_alignment)?;
-        Ok(())
+        check_alignment(self.symbol_size, self.symbol_alignment)
     }
 
     /// The configuration that twelve bytes spell, most significant byte first: five of transfer
     /// length, a reserved one that is ignored, two of symbol size, one of source blocks, two of
     /// sub-blocks, one of alignment.
     #[tactic(auto, unfolding(rq_standard::specs::Configuration::configuration_of_bytes))]
-    pub fn deserialize(bytes: &[u8; 12]) -> ObjectTransmissionInformation
+    pub fn deserialize(bytes: &[u8; CONFIGURATION_LENGTH]) -> ObjectTransmissionInformation
         ensures { result ≡ configuration_of_bytes bytes.now }
     {
         ObjectTransmissionInformation {
@@ -136,7 +139,7 @@ impl ObjectTransmissionInformation {
 
     /// The twelve bytes that spell the configuration; the reserved one is 0.
     #[tactic(auto, unfolding(rq_standard::specs::Configuration::header_bytes))]
-    pub fn serialize(&self) -> [u8; 12]
+    pub fn serialize(&self) -> [u8; CONFIGURATION_LENGTH]
         ensures value { result ≡ header_bytes self.now }
         ensures read { configuration_of_bytes result ≡ self.now }
         ensures reserved { slice_index result 5 ≡ 0 }

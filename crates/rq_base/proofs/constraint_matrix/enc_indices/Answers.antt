@@ -7,4 +7,4 @@ pub loop-index-init : goal.loop-index-init
 loop-index-init g c = rw c.new-indices.ensures (c.requires.callable, λ last calls. calls)
 
 pub returns-clause-below : goal.returns-clause-below
-returns-clause-below g c = places_below c.args.lt_symbols c.args.pi_symbols c.args.p1 c.args.source_tuple (omega (arith, c.requires.tuple.step_below))
+returns-clause-below g c = places_below c.args.lt_symbols c.args.pi_symbols c.args.p1 c.args.source_tuple (omega (arith, c.requires.tuple.ranges.step_below))

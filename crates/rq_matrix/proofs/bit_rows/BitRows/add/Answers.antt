@@ -6,7 +6,7 @@ use Rattle.std.proofs.lemmas.Simd.{length-zip2}
 use Rattle.rq_bytes.specs.Ranges.{range_of, with_range, cut}
 use Rattle.rq_bytes.proofs.Cuts.{pieces_apart}
 use Rattle.rq_standard.specs.Rows.{row_sum}
-use Rattle.rq_matrix.proofs.RowBuffers.{holds, row_in, row_starts, row_at, length-row, row_written}
+use Rattle.rq_matrix.proofs.RowBuffers.{holds_rows, row_in, row_starts, row_at, length-row, row_written}
 use Rattle.rq_matrix.proofs.bit_rows.BitRows.add.Goals as goal
 
 pub overflow_mul-dest : goal.overflow_mul-dest
@@ -31,7 +31,7 @@ returns c =
     let size = c.self.inside.row_len in
     let dest = c.args.dest in
     let src = c.args.src in
-    let is = holds c.self.inside rows c.self.view_is c.self.invariant in
+    let is = holds_rows c.self.inside rows c.self.view_is c.self.invariant in
     let first = get_or rows dest [] in
     let second = get_or rows src [] in
     let items =

@@ -1,6 +1,6 @@
 -- What the check leaves to show of `bit_rows::BitRows::len`.
-use Rattle.rq_matrix.proofs.RowBuffers.{holds, count_is}
+use Rattle.rq_matrix.proofs.RowBuffers.{holds_rows, count_is}
 use Rattle.rq_matrix.proofs.bit_rows.BitRows.len.Goals as goal
 
 pub returns : goal.returns
-returns c = count_is (holds c.self.inside c.args.self.now c.self.view_is c.self.invariant)
+returns c = count_is (holds_rows c.self.inside c.args.self.now c.self.view_is c.self.invariant)

@@ -4,7 +4,7 @@ use Rattle.std.proofs.Math.Nat.{mul-le-mul_right}
 use Rattle.std.proofs.lemmas.List.{with_items_is}
 use Rattle.rq_bytes.specs.Ranges.{cut}
 use Rattle.rq_matrix.specs.BitRows.{word_count}
-use Rattle.rq_matrix.proofs.RowBuffers.{holds, cut-front, cut_short}
+use Rattle.rq_matrix.proofs.RowBuffers.{holds_rows, cut-front, cut_short}
 use Rattle.rq_matrix.proofs.bit_rows.BitRows.narrow.Goals as goal
 
 pub returns : goal.returns
@@ -15,7 +15,7 @@ returns c =
     let width = word_count c.args.width in
     let kept = c.min-kept.result in
     let gathered = c.gather_starts.new.words in
-    let is = holds c.self.inside c.args.self.now c.self.view_is c.self.invariant in
+    let is = holds_rows c.self.inside c.args.self.now c.self.view_is c.self.invariant in
     let fits : count * kept ≤ length gathered =
     omega (arith, mul-le-mul_right count (let less : kept ≤ size = omega (arith, c.min-kept.ensures) in less), c.gather_starts.auto.words, c.as_mut_slice-words.ensures.len, c.self.invariant)
     in

@@ -5,7 +5,7 @@ use Rattle.std.proofs.lemmas.List.{with_items_is, length-set, set-get_or}
 use Rattle.std.proofs.lemmas.List.Edits.{swap_is}
 use Rattle.rq_bytes.specs.Ranges.{range_of, with_range, cut}
 use Rattle.rq_bytes.proofs.Cuts.{pieces_apart}
-use Rattle.rq_matrix.proofs.RowBuffers.{holds, row_in, row_starts, row_at, length-row, row_written}
+use Rattle.rq_matrix.proofs.RowBuffers.{holds_rows, row_in, row_starts, row_at, length-row, row_written}
 use Rattle.rq_matrix.proofs.bit_rows.BitRows.swap.Goals as goal
 
 pub overflow_mul-i : goal.overflow_mul-i
@@ -31,7 +31,7 @@ returns-then-i-j c =
     let size = c.self.inside.row_len in
     let i = c.args.i in
     let j = c.args.j in
-    let is = holds c.self.inside rows c.self.view_is c.self.invariant in
+    let is = holds_rows c.self.inside rows c.self.view_is c.self.invariant in
     let first = get_or rows i [] in
     let second = get_or rows j [] in
     let items =

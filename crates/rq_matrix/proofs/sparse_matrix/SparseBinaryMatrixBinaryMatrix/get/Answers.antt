@@ -3,7 +3,8 @@ use Rattle.std.proofs.Common.{ℕ, List, [], Option, get_or, sym, ap, ◌∙◌}
 use Rattle.std.specs.Prelude.{unwrap_or}
 use Rattle.std.proofs.lemmas.List.{get_or_read}
 use Rattle.rq_parts.specs.SparseBinaryVec.{listed_bit, listed_octet}
-use Rattle.rq_matrix.specs.SparseTables.{bit-before, listed-small}
+use Rattle.rq_parts.specs.ListedLaws.{listed-small}
+use Rattle.rq_matrix.specs.SparseTables.{bit-before}
 use Rattle.rq_matrix.proofs.SparseRowLaws.{octet_or_zero}
 use Rattle.rq_matrix.proofs.sparse_matrix.SparseBinaryMatrixBinaryMatrix.get.Goals as goal
 

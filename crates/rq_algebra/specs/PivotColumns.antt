@@ -1,6 +1,5 @@
--- Rows that have pivots, and the steps to them, for the proofs of this crate and of those above it.
-use Rattle.std.proofs.Common.{◌≡◌, ◌≢◌, ℕ, ◌<◌, ◌≤◌, List, length}
-use Rattle.std.specs.Prelude.{slice_index}
+-- Rows that have pivots, and the steps to them.
+use Rattle.std.specs.Prelude.{◌≡◌, ◌≢◌, ℕ, ◌<◌, ◌≤◌, List, length, slice_index}
 use Rattle.rq_algebra.specs.Field.{Field}
 use Rattle.rq_algebra.specs.Arrangements.{ArePlaces}
 
@@ -22,7 +21,7 @@ pub record HasFirstPivots (count done : ℕ) (a : ℕ → ℕ → ℕ) (rows col
   pub ones : (p : ℕ) → p < done → a (rows p) (columns p) ≡ 1
   pub zeros : (i p : ℕ) → i < count → p < done → i ≢ p → a (rows i) (columns p) ≡ 0
 
--- Of these rows the first n, but for row `rows pivot`, have had a multiple of it added: what they had in the column times the row.
+-- Of rows `rows 0` to `rows (count - 1)` the first n, but for row `rows pivot`, have had a multiple of it added: what they had in the column times the row.
 pub record ClearsColumn (F : Field) (count width pivot column n : ℕ) (rows : ℕ → ℕ) (old new : ℕ → ℕ → ℕ) : Type 0 where
   pub kept : (k : ℕ) → k < width → new (rows pivot) k ≡ old (rows pivot) k
   pub cleared : (i k : ℕ) → i < n → k < width → i ≢ pivot → new (rows i) k ≡ F.add (old (rows i) k) (F.mul (old (rows i) column) (old (rows pivot) k))

@@ -1,6 +1,7 @@
 -- Functions of a place, changed at one place, and places that are looked for.
 use Rattle.std.proofs.Common.{◌≡◌, ◌≢◌, ℕ, zero, suc, ◌<◌, ◌⊎◌, cond, eqb, sym, ap, ◌∙◌, refl, arith, inl, inr}
 use Rattle.std.proofs.lemmas.Bool.{cases_eq, eq-eqb, ne_eqb}
+use Rattle.rq_algebra.specs.Changes.{with_at}
 
 -- a place below n where f is i, or there is none
 pub find_place : (n : ℕ) (f : ℕ → ℕ) (i : ℕ) → ((p : ℕ) × (p < n) × (f p ≡ i)) ⊎ ((k : ℕ) → k < n → f k ≢ i)
@@ -26,10 +27,6 @@ find_nonzero (suc n) f =
       ]
     ]
 
--- f, but x at n; the entries may be numbers, or rows
-pub with_at : {X : Type 0} → (ℕ → X) → ℕ → X → ℕ → X
-with_at f n x k = cond (eqb k n) x (f k)
-
 pub with_at_same : {X : Type 0} (f : ℕ → X) (n : ℕ) (x : X) (k : ℕ) → k ≡ n → with_at f n x k ≡ x
 unfolding with_at
 with_at_same f n x k e = rw (eq-eqb k n e)
@@ -41,10 +38,6 @@ with_at_other f n x k d = rw (ne_eqb k n d)
 -- which row stands at place i once row p is dropped and the last row, h, put in its place
 pub without : ℕ → ℕ → ℕ → ℕ
 without p h i = cond (eqb i p) h i
-
-pub without_apart : (p h i : ℕ) → i < h → without p h i ≢ p
-unfolding without
-without_apart p h i l = elim (cases_eq i p) [ inl e ↦ rw (eq-eqb i p e) (omega arith) | inr d ↦ rw (ne_eqb i p d) d ]
 
 pub without_below : (p h i : ℕ) → i < h → without p h i < suc h
 unfolding without
