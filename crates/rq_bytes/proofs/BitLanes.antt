@@ -156,14 +156,14 @@ byte_of first (suc n) (suc i) word l = let same : suc first + i ≡ first + suc 
 lowest_bits : (n i : ℕ) → i < 8 → bit_at (n % 256) i ≡ bit_at n i
 lowest_bits n i l = let whole : n / 256 * 2 ^ 8 + n % 256 ≡ n = omega arith in sym (bit_at_cat_low (n / 256) 8 (n % 256) i l) ∙ ap (λ x. bit_at x i) whole
 
-octet_power : (n : ℕ) → 256 ^ n ≡ 2 ^ (8 * n)
-octet_power zero = refl
-octet_power (suc n) =
+power_of_256 : (n : ℕ) → 256 ^ n ≡ 2 ^ (8 * n)
+power_of_256 zero = refl
+power_of_256 (suc n) =
     let one_more : suc n ≡ n + 1 = omega arith in
     let eight_more : 8 * n + 8 ≡ 8 * suc n = omega arith in
     ap (λ k. 256 ^ k) one_more
     ∙ pow-add 256 n 1
-    ∙ ap (λ x. x * 256) (octet_power n)
+    ∙ ap (λ x. x * 256) (power_of_256 n)
     ∙ sym (pow-add 2 (8 * n) 8)
     ∙ ap (λ k. 2 ^ k) eight_more
 
@@ -171,7 +171,7 @@ byte_bits : (octet word i : ℕ) → i < 8 → bit_at (byte_at octet word) i ≡
 byte_bits zero word i l = let same : i ≡ 8 * 0 + i = omega arith in lowest_bits word i l ∙ ap (bit_at word) same
 byte_bits (suc octet) word i l =
     lowest_bits (word / 256 ^ suc octet) i l
-    ∙ ap (λ d. bit_at (word / d) i) (octet_power (suc octet))
+    ∙ ap (λ d. bit_at (word / d) i) (power_of_256 (suc octet))
     ∙ ap (λ x. x % 2) (shr-shr word (8 * suc octet) i)
 
 -- the bits of its octets

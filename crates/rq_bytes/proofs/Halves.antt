@@ -12,9 +12,6 @@ module _ {X : Type 0} (xs front back : List X) (n : ℕ) (is : xs ≡ front ++ b
   pub set-front : (i : ℕ) (x : X) → i < n → set xs i x ≡ set front i x ++ back
   set-front i x lt = ap (λ ys. set ys i x) is ∙ set-append_left front back i x (omega arith)
 
-  pub set-back : (y : X) → set xs n y ≡ front ++ set back 0 y
-  set-back y = ap (λ ys. set ys n y) is ∙ set-append_right front back n n y long (omega arith) ∙ ap (λ k. front ++ set back k y) (omega arith)
-
   -- both
   pub set_both : (i : ℕ) (x y : X) → i < n → set front i x ++ set back 0 y ≡ set (set xs i x) n y
   set_both i x y lt =

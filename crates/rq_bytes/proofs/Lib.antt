@@ -9,10 +9,12 @@ pub mod Multiples
 pub mod PackedRows
 pub mod PlaneFacts
 pub mod ProductSteps
+pub mod RangeDoublings
 pub mod RangeFacts
 pub mod RangeLoans
 pub mod RangeMultiples
 pub mod RangeSumLaws
+pub mod SlabDoublings
 pub mod SlabFacts
 pub mod SlabMultiples
 pub mod SlabSums

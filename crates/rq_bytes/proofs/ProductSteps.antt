@@ -10,7 +10,7 @@ one_bit : (n term rest : ℕ) → term < 256 → octet_times (suc n) term rest �
 unfolding octet_times
 one_bit n term rest h = ap (bit_xor (if_set rest term)) (sym (times-double_left n term (rest / 2) h))
 
-pub step : (k m sum term rest p : ℕ) → k < 8 → m ≡ k + 1 → term < 256 → bit_xor sum (octet_times (8 - k) term rest) ≡ p
+step : (k m sum term rest p : ℕ) → k < 8 → m ≡ k + 1 → term < 256 → bit_xor sum (octet_times (8 - k) term rest) ≡ p
     → bit_xor (bit_xor sum (if_set rest term)) (octet_times (8 - m) (octet_double term) (rest / 2)) ≡ p
 step k m sum term rest p lt e h is =
     xor_assoc sum (if_set rest term) (octet_times (8 - m) (octet_double term) (rest / 2))

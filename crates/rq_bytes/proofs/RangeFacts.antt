@@ -138,3 +138,12 @@ length-with_range xs i ys within =
       length-take-le i xs (omega arith),
       length-drop (i + length ys) xs,
     )
+
+-- what was written is read
+pub range-written : {X : Type 0} (xs : List X) (i n : ℕ) (ys : List X) → length ys ≡ n → i ≤ length xs → range_of (with_range xs i ys) i n ≡ ys
+range-written xs i n ys long within =
+    let rest = ys ++ drop (i + length ys) xs in
+    ap (λ k. take n (drop k (take i xs ++ rest))) (sym (length-take-le i xs within))
+    ∙ ap (take n) (drop-append_seam (take i xs) rest)
+    ∙ ap (λ k. take k rest) (sym long)
+    ∙ take-append_seam ys (drop (i + length ys) xs)

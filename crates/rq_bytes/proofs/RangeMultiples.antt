@@ -18,7 +18,7 @@ use Rattle.rq_bytes.proofs.RangeSumLaws.{range-join}
 -- ---- a row, added to the elements from a place on
 
 -- the same as `with_row_added`, as far as there are elements
-abbrev plus : List ℕ → ℕ → List ℕ → List ℕ
+abbrev pub plus : List ℕ → ℕ → List ℕ → List ℕ
 plus [] i ys = []
 plus (x ∷ xs) zero [] = x ∷ xs
 plus (x ∷ xs) zero (y ∷ ys) = bit_xor x y ∷ plus xs zero ys
@@ -30,7 +30,7 @@ length-plus (x ∷ xs) zero [] = refl
 length-plus (x ∷ xs) zero (y ∷ ys) = ap suc (length-plus xs zero ys)
 length-plus (x ∷ xs) (suc i) ys = ap suc (length-plus xs i ys)
 
-plus-none : (xs : List ℕ) (i : ℕ) → plus xs i [] ≡ xs
+pub plus-none : (xs : List ℕ) (i : ℕ) → plus xs i [] ≡ xs
 plus-none [] i = refl
 plus-none (x ∷ xs) zero = refl
 plus-none (x ∷ xs) (suc i) = ap (λ zs. x ∷ zs) (plus-none xs i)
@@ -47,7 +47,7 @@ plus-front [] (y ∷ ys) le = absurd (omega arith)
 plus-front (x ∷ xs) [] le = refl
 plus-front (x ∷ xs) (y ∷ ys) le = ap (λ zs. bit_xor x y ∷ zs) (plus-front xs ys (omega arith))
 
-plus-is : (xs : List ℕ) (i : ℕ) (ys : List ℕ) → i + length ys ≤ length xs → with_row_added xs i ys ≡ plus xs i ys
+pub plus-is : (xs : List ℕ) (i : ℕ) (ys : List ℕ) → i + length ys ≤ length xs → with_row_added xs i ys ≡ plus xs i ys
 plus-is xs i ys le =
     let n = length ys in
     let rest = drop i xs in
@@ -87,7 +87,7 @@ plus-swap (x ∷ xs) (suc i) us zero (v ∷ vs) = ap (λ zs. bit_xor x v ∷ zs)
 plus-swap (x ∷ xs) (suc i) us (suc j) vs = ap (λ zs. x ∷ zs) (plus-swap xs i us j vs)
 
 -- two that follow each other are one
-plus-join : (xs : List ℕ) (i : ℕ) (us : List ℕ) (j : ℕ) (vs : List ℕ) → j ≡ i + length us → plus (plus xs i us) j vs ≡ plus xs i (us ++ vs)
+pub plus-join : (xs : List ℕ) (i : ℕ) (us : List ℕ) (j : ℕ) (vs : List ℕ) → j ≡ i + length us → plus (plus xs i us) j vs ≡ plus xs i (us ++ vs)
 plus-join [] i us j vs e = refl
 plus-join (x ∷ xs) zero [] j vs e = ap (λ k. plus (x ∷ xs) k vs) (let same : j ≡ zero = omega arith in same)
 plus-join (x ∷ xs) zero (u ∷ us) zero vs e = absurd (omega arith)
@@ -110,7 +110,7 @@ take-plus (x ∷ xs) i ys zero le = refl
 take-plus (x ∷ xs) zero ys (suc k) le = absurd (omega arith)
 take-plus (x ∷ xs) (suc i) ys (suc k) le = ap (λ zs. x ∷ zs) (take-plus xs i ys k (omega arith))
 
-range-plus : (xs : List ℕ) (i : ℕ) (ys : List ℕ) (j m : ℕ) → (j + m ≤ i) ⊎ (i + length ys ≤ j) → range_of (plus xs i ys) j m ≡ range_of xs j m
+pub range-plus : (xs : List ℕ) (i : ℕ) (ys : List ℕ) (j m : ℕ) → (j + m ≤ i) ⊎ (i + length ys ≤ j) → range_of (plus xs i ys) j m ≡ range_of xs j m
 range-plus xs i ys j m apart =
     ⊎_elim
     (λ before. sym (drop-take j m (plus xs i ys)) ∙ ap (drop j) (take-plus xs i ys (j + m) before) ∙ drop-take j m xs)
@@ -119,17 +119,17 @@ range-plus xs i ys j m apart =
 
 -- ---- a row's multiples
 
-abbrev all_plus : List ℕ → List ℕ → ℕ → List (ℕ × ℕ) → List ℕ
+abbrev pub all_plus : List ℕ → List ℕ → ℕ → List (ℕ × ℕ) → List ℕ
 all_plus xs row at targets = fold (λ sum target. plus sum (target.0 + at) (row_multiple target.1 row)) xs targets
 
 -- a list of `count` elements has `len` of them from the start of each target on
-abbrev HaveRoom : ℕ → ℕ → List (ℕ × ℕ) → Type 0
+abbrev pub HaveRoom : ℕ → ℕ → List (ℕ × ℕ) → Type 0
 HaveRoom count len targets = All (λ target. target.0 + len ≤ count) targets
 
 pub length-multiple : (a : ℕ) (row : List ℕ) → length (row_multiple a row) ≡ length row
 length-multiple a row = length-map row (octet_mul a)
 
-all_plus-is : (xs row : List ℕ) (at : ℕ) (targets : List (ℕ × ℕ)) → HaveRoom (length xs) (at + length row) targets → with_multiples_added xs row at targets ≡ all_plus xs row at targets
+pub all_plus-is : (xs row : List ℕ) (at : ℕ) (targets : List (ℕ × ℕ)) → HaveRoom (length xs) (at + length row) targets → with_multiples_added xs row at targets ≡ all_plus xs row at targets
 all_plus-is xs row at [] room = refl
 all_plus-is xs row at (t ∷ targets) room =
     let P = λ (target : ℕ × ℕ). target.0 + (at + length row) ≤ length xs in
@@ -139,17 +139,17 @@ all_plus-is xs row at (t ∷ targets) room =
     ∙ all_plus-is one row at targets
     (All-weaker P (λ target. target.0 + (at + length row) ≤ length one) (λ target le. omega (arith, length-plus xs (t.0 + at) (row_multiple t.1 row))) targets (All-tail P t targets room))
 
-length-all_plus : (xs row : List ℕ) (at : ℕ) (targets : List (ℕ × ℕ)) → length (all_plus xs row at targets) ≡ length xs
+pub length-all_plus : (xs row : List ℕ) (at : ℕ) (targets : List (ℕ × ℕ)) → length (all_plus xs row at targets) ≡ length xs
 length-all_plus xs row at [] = refl
 length-all_plus xs row at (t ∷ targets) =
     length-all_plus (plus xs (t.0 + at) (row_multiple t.1 row)) row at targets ∙ length-plus xs (t.0 + at) (row_multiple t.1 row)
 
-all_plus-none : (xs : List ℕ) (at : ℕ) (targets : List (ℕ × ℕ)) → all_plus xs [] at targets ≡ xs
+pub all_plus-none : (xs : List ℕ) (at : ℕ) (targets : List (ℕ × ℕ)) → all_plus xs [] at targets ≡ xs
 all_plus-none xs at [] = refl
 all_plus-none xs at (t ∷ targets) = ap (λ ys. all_plus ys [] at targets) (plus-none xs (t.0 + at)) ∙ all_plus-none xs at targets
 
 -- a row that is added before them may as well be added after them
-plus-all_plus : (xs row : List ℕ) (at : ℕ) (targets : List (ℕ × ℕ)) (j : ℕ) (us : List ℕ) → plus (all_plus xs row at targets) j us ≡ all_plus (plus xs j us) row at targets
+pub plus-all_plus : (xs row : List ℕ) (at : ℕ) (targets : List (ℕ × ℕ)) (j : ℕ) (us : List ℕ) → plus (all_plus xs row at targets) j us ≡ all_plus (plus xs j us) row at targets
 plus-all_plus xs row at [] j us = refl
 plus-all_plus xs row at (t ∷ targets) j us =
     let part = row_multiple t.1 row in
@@ -157,7 +157,7 @@ plus-all_plus xs row at (t ∷ targets) j us =
     ∙ ap (λ ys. all_plus ys row at targets) (plus-swap xs (t.0 + at) part j us)
 
 -- those of a row and of the one that follows it
-all_plus-join : (xs row more : List ℕ) (at b : ℕ) (targets : List (ℕ × ℕ)) → b ≡ at + length row → all_plus (all_plus xs row at targets) more b targets ≡ all_plus xs (row ++ more) at targets
+pub all_plus-join : (xs row more : List ℕ) (at b : ℕ) (targets : List (ℕ × ℕ)) → b ≡ at + length row → all_plus (all_plus xs row at targets) more b targets ≡ all_plus xs (row ++ more) at targets
 all_plus-join xs row more at b [] e = refl
 all_plus-join xs row more at b (t ∷ targets) e =
     let first = row_multiple t.1 row in
@@ -169,7 +169,7 @@ all_plus-join xs row more at b (t ∷ targets) e =
     plus-join xs (t.0 + at) first (t.0 + b) second (omega (arith, length-multiple t.1 row))
     ∙ ap (plus xs (t.0 + at)) (sym (map-append (octet_mul t.1) row more)))
 
-range-all_plus : (xs row : List ℕ) (at : ℕ) (targets : List (ℕ × ℕ)) (j m : ℕ) → All (λ target. (j + m ≤ target.0 + at) ⊎ (target.0 + at + length row ≤ j)) targets
+pub range-all_plus : (xs row : List ℕ) (at : ℕ) (targets : List (ℕ × ℕ)) (j m : ℕ) → All (λ target. (j + m ≤ target.0 + at) ⊎ (target.0 + at + length row ≤ j)) targets
     → range_of (all_plus xs row at targets) j m ≡ range_of xs j m
 range-all_plus xs row at [] j m apart = refl
 range-all_plus xs row at (t ∷ targets) j m apart =

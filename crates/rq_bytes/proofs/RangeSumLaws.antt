@@ -30,7 +30,7 @@ rows_added-same f g x (src ∷ sources) same =
     ap (λ y. rows_added f (row_sum x y) sources) (All-head (λ s. f s ≡ g s) src sources same)
     ∙ rows_added-same f g (row_sum x (g src)) sources (All-tail (λ s. f s ≡ g s) src sources same)
 
-zip2-join : (xs ys us vs : List ℕ) → length xs ≡ length us → row_sum (xs ++ ys) (us ++ vs) ≡ row_sum xs us ++ row_sum ys vs
+pub zip2-join : (xs ys us vs : List ℕ) → length xs ≡ length us → row_sum (xs ++ ys) (us ++ vs) ≡ row_sum xs us ++ row_sum ys vs
 zip2-join [] ys [] vs e = refl
 zip2-join [] ys (u ∷ us) vs e = absurd (omega arith)
 zip2-join (x ∷ xs) ys [] vs e = absurd (omega arith)

@@ -24,15 +24,15 @@ abbrev pub ranges_exchanged : List ℕ → ℕ → ℕ → ℕ → List ℕ
 ranges_exchanged xs i j len = with_range (with_range xs i (range_of xs j len)) j (range_of xs i len)
 
 -- the buffer `bytes` of `count` symbols of `size` octets, and what callers see of it
-pub record Holds (bytes : List ℕ) (count size : ℕ) (order : Option (List ℕ)) (slab : Slab) : Type 0 where
+pub record HoldsSlab (bytes : List ℕ) (count size : ℕ) (order : Option (List ℕ)) (slab : Slab) : Type 0 where
   pub view : ◌≡◌ {A = Slab} (record { values = cut count size bytes; symbol_size = size; order = order }) slab
   pub long : length bytes ≡ count * size
 
-pub holds : (inside : Inside) (slab : Slab) → the_view inside ≡ slab → the_invariant inside
-    → Holds inside.data.items inside.count inside.symbol_size (option_map (λ o. o.items) inside.order) slab
-holds inside slab view invariant = record { view = view; long = sym inside.data.ok.0 ∙ invariant.0 }
+pub holds_slab : (inside : Inside) (slab : Slab) → the_view inside ≡ slab → the_invariant inside
+    → HoldsSlab inside.data.items inside.count inside.symbol_size (option_map (λ o. o.items) inside.order) slab
+holds_slab inside slab view invariant = record { view = view; long = sym inside.data.ok.0 ∙ invariant.0 }
 
-module _ {bytes : List ℕ} {count size : ℕ} {order : Option (List ℕ)} {slab : Slab} (is : Holds bytes count size order slab) where
+module _ {bytes : List ℕ} {count size : ℕ} {order : Option (List ℕ)} {slab : Slab} (is : HoldsSlab bytes count size order slab) where
   pub count_is : count ≡ length slab.values
   count_is = sym (length-cut count size bytes) ∙ ap (λ (v : Slab). length v.values) is.view
 
@@ -87,7 +87,7 @@ module _ {bytes : List ℕ} {count size : ℕ} {order : Option (List ℕ)} {slab
   range_in p a old lt e same = ap (λ xs. range_of xs a size) same ∙ ap (λ k. range_of bytes k size) e ∙ range_at p lt
 
   -- the buffer again, of what callers see
-  joined_is : joined_pieces slab.values ≡ bytes
+  pub joined_is : joined_pieces slab.values ≡ bytes
   joined_is = sym (ap (λ (v : Slab). joined_pieces v.values) is.view) ∙ joined-cut count size bytes is.long
 
   -- what callers see after a write of any octets from one symbol on, in a buffer that keeps its length
@@ -197,24 +197,20 @@ meant_below inside slab view invariant i =
 pub entry_below : (inside : Inside) (slab : Slab) → the_view inside ≡ slab → the_invariant inside → (order : Vec ℕ Global) (x i : ℕ)
     → ◌≡◌ {A = Option (Vec ℕ Global)} inside.order (Some order) → HasPlace slab i → x ≡ get_or order.items i x → x < length slab.values
 entry_below inside slab view invariant order x i some place e =
-    let is = holds inside slab view invariant in
+    let is = holds_slab inside slab view invariant in
     let set : ◌≡◌ {A = Option (List ℕ)} slab.order (Some order.items) = sym (order_is is) ∙ ap (option_map (λ o. o.items)) some in
     let lt = subst (λ o. IsPlace (length slab.values) o i) set place in
     subst (λ n. n < length slab.values) (ap (λ o. meant_at o i) set ∙ sym (get_or_read order.items i x lt e 0)) (meant_below inside slab view invariant i place)
 
 -- how many places are defined where no order is set
-pub all_places : (inside : Inside) (slab : Slab) → the_view inside ≡ slab → the_invariant inside → ◌≡◌ {A = Option (Vec ℕ Global)} inside.order None
+pub count_unordered : (inside : Inside) (slab : Slab) → the_view inside ≡ slab → the_invariant inside → ◌≡◌ {A = Option (Vec ℕ Global)} inside.order None
     → inside.count ≡ length (symbols_in slab)
-all_places inside slab view invariant none =
-    let is = holds inside slab view invariant in
+count_unordered inside slab view invariant none =
+    let is = holds_slab inside slab view invariant in
     let unset : ◌≡◌ {A = Option (List ℕ)} slab.order None = sym (order_is is) ∙ ap (option_map (λ o. o.items)) none in
     count_is is ∙ ap (λ o. length (values_in (symbols octets) slab.values o)) (sym unset)
 
 -- the symbols at the defined places, one by one
-pub defined : (values : List (List ℕ)) (order : Option (List ℕ)) (i : ℕ) → i < length (values_in (symbols octets) values order) → IsPlace (length values) order i
-defined values None i lt = lt
-defined values (Some o) i lt = omega (arith, length-map o (λ k. get_or values k []))
-
 pub get_or-values_in : (values : List (List ℕ)) (order : Option (List ℕ)) (i : ℕ) → i < length (values_in (symbols octets) values order)
     → get_or (values_in (symbols octets) values order) i [] ≡ get_or values (meant_at order i) []
 get_or-values_in values None i lt = refl
@@ -228,10 +224,10 @@ same_order (Some x) None = refl
 same_order (Some x) (Some y) = refl
 
 -- what `==` of two slabs compares
-pub compared : (a b : Inside) (left right : Slab) → the_view a ≡ left → the_invariant a → the_view b ≡ right → the_invariant b
+pub compared_slabs : (a b : Inside) (left right : Slab) → the_view a ≡ left → the_invariant a → the_view b ≡ right → the_invariant b
     → same_slab left right
     ≡ (a.symbol_size == b.symbol_size && (a.count == b.count && (option_eq (λ x y. pointwise ◌==◌ x.items y.items) a.order b.order && pointwise ◌==◌ a.«data».items b.«data».items)))
-compared a b left right av ai bv bi =
+compared_slabs a b left right av ai bv bi =
     let octets_a = joined-cut a.count a.symbol_size a.«data».items (sym a.«data».ok.0 ∙ ai.0) in
     let octets_b = joined-cut b.count b.symbol_size b.«data».items (sym b.«data».ok.0 ∙ bi.0) in
     let sizes = a.symbol_size == b.symbol_size in
@@ -298,10 +294,10 @@ filled_around size start count n all bytes one two three long fits length_two fi
 
 -- a symbol ends within its slab's buffer
 pub symbol_within : (inside : Inside) (i a : ℕ) → the_invariant inside → meant_at (the_view inside).order i < length (the_view inside).values → a ≡ meant_at (the_view inside).order i * (the_view inside).symbol_size → a + inside.symbol_size ≤ length inside.data.items
-symbol_within inside i a invariant below start = within_slice (holds inside (the_view inside) refl invariant) (meant_at (the_view inside).order i) a inside.data.items below start refl
+symbol_within inside i a invariant below start = within_slice (holds_slab inside (the_view inside) refl invariant) (meant_at (the_view inside).order i) a inside.data.items below start refl
 
 -- and begins at a place in memory
 pub start_fits : (inside : Inside) (slab : Slab) → the_view inside ≡ slab → the_invariant inside → (p : ℕ) → p < length slab.values → p * inside.symbol_size < 2 ^ 64
 start_fits inside slab view invariant p below =
-    let is = holds inside slab view invariant in
+    let is = holds_slab inside slab view invariant in
     omega (arith, within is p below, ap (λ s. p * s) (size_is is), inside.data.small, inside.data.ok)

@@ -18,13 +18,13 @@ use Rattle.rq_bytes.specs.declared.range_multiples.Target.{Target}
 use Rattle.rq_bytes.specs.declared.symbol_slab.multiples.Multiple.{Multiple}
 use Rattle.rq_bytes.specs.declared.symbol_slab.SymbolSlab.TheInside.{Inside}
 use Rattle.rq_bytes.proofs.RangeMultiples.{length-multiple, length-row_added}
-use Rattle.rq_bytes.proofs.SlabFacts.{Holds, apart, range_at, length-range_at, within, one_written, meant_below, length-after}
+use Rattle.rq_bytes.proofs.SlabFacts.{HoldsSlab, apart, range_at, length-range_at, within, one_written, meant_below, length-after}
 
 abbrev pub fma_of : ℕ → Multiple → Operation
 fma_of src m = Fma m.dest src m.scalar
 
 -- it is added to a symbol, and to another one than the one that is multiplied
-abbrev IsTarget : Slab → ℕ → Multiple → Type 0
+abbrev pub IsTarget : Slab → ℕ → Multiple → Type 0
 IsTarget slab src m = (meant_at slab.order m.dest < length slab.values) × (meant_at slab.order src ≢ meant_at slab.order m.dest) × (m.scalar < 256)
 
 abbrev pub AreTargets : Slab → ℕ → List Multiple → Type 0
@@ -48,15 +48,15 @@ pub after_all-none : (slab : Slab) → after_all [] slab ≡ slab
 unfolding run
 after_all-none slab = refl
 
-after_all-first : (operation : Operation) (operations : List Operation) (slab : Slab) → after_all (operation ∷ operations) slab ≡ after_all operations (after operation slab)
+pub after_all-first : (operation : Operation) (operations : List Operation) (slab : Slab) → after_all (operation ∷ operations) slab ≡ after_all operations (after operation slab)
 unfolding run
 after_all-first operation operations slab = refl
 
 -- ---- one multiple
 
-module _ {bytes : List ℕ} {count size : ℕ} {order : Option (List ℕ)} {slab : Slab} (is : Holds bytes count size order slab) (src dest scalar : ℕ)
+module _ {bytes : List ℕ} {count size : ℕ} {order : Option (List ℕ)} {slab : Slab} (is : HoldsSlab bytes count size order slab) (src dest scalar : ℕ)
     (to : meant_at slab.order dest < length slab.values) (from : meant_at slab.order src < length slab.values) (octet : scalar < 256) where
-  multiple_written : (row : List ℕ) → row ≡ symbol_in slab src → Holds (with_row_added bytes (meant_at slab.order dest * slab.symbol_size + 0) (row_multiple scalar row)) count size order (after (Fma dest src scalar) slab)
+  multiple_written : (row : List ℕ) → row ≡ symbol_in slab src → HoldsSlab (with_row_added bytes (meant_at slab.order dest * slab.symbol_size + 0) (row_multiple scalar row)) count size order (after (Fma dest src scalar) slab)
   unfolding step
   multiple_written row e =
       let d = meant_at slab.order dest in
@@ -91,10 +91,10 @@ module _ {bytes : List ℕ} {count size : ℕ} {order : Option (List ℕ)} {slab
 -- ---- several
 
 module _ {count size : ℕ} {order : Option (List ℕ)} (src : ℕ) (row : List ℕ) where
-  all_written : {bytes : List ℕ} {slab : Slab} (is : Holds bytes count size order slab) (multiples : List Multiple) → meant_at slab.order src < length slab.values → row ≡ symbol_in slab src → AreTargets slab src multiples
-      → Holds (with_multiples_added bytes row 0 (map (start_and_octet_in slab) multiples)) count size order (after_all (map (fma_of src) multiples) slab)
+  pub all_written : {bytes : List ℕ} {slab : Slab} (is : HoldsSlab bytes count size order slab) (multiples : List Multiple) → meant_at slab.order src < length slab.values → row ≡ symbol_in slab src → AreTargets slab src multiples
+      → HoldsSlab (with_multiples_added bytes row 0 (map (start_and_octet_in slab) multiples)) count size order (after_all (map (fma_of src) multiples) slab)
   unfolding step
-  all_written {bytes} {slab} is [] from e all = subst (Holds bytes count size order) (sym (after_all-none slab)) is
+  all_written {bytes} {slab} is [] from e all = subst (HoldsSlab bytes count size order) (sym (after_all-none slab)) is
   all_written {bytes} {slab} is (m ∷ multiples) from e all =
       let P = IsTarget slab src in
       let first = All-head P m multiples all in
@@ -104,9 +104,9 @@ module _ {count size : ℕ} {order : Option (List ℕ)} (src : ℕ) (row : List 
       let rest = all_written {bytes = new} {slab = next} (multiple_written is src m.dest m.scalar first.0 from first.2 row e) multiples (omega arith)
       (e ∙ sym (source_stays is src m.dest m.scalar first.0 from first.2 first.1))
       (All-weaker P (IsTarget next src) (λ u t. (omega (arith, t.0), t.1, t.2)) multiples (All-tail P m multiples all)) in
-      subst (Holds (with_multiples_added new row 0 (map (start_and_octet_in slab) multiples)) count size order) (sym (after_all-first (fma_of src m) (map (fma_of src) multiples) slab)) rest
+      subst (HoldsSlab (with_multiples_added new row 0 (map (start_and_octet_in slab) multiples)) count size order) (sym (after_all-first (fma_of src m) (map (fma_of src) multiples) slab)) rest
 
-module _ {bytes : List ℕ} {count size : ℕ} {order : Option (List ℕ)} {slab : Slab} (is : Holds bytes count size order slab) (src : ℕ) (from : meant_at slab.order src < length slab.values)
+module _ {bytes : List ℕ} {count size : ℕ} {order : Option (List ℕ)} {slab : Slab} (is : HoldsSlab bytes count size order slab) (src : ℕ) (from : meant_at slab.order src < length slab.values)
     (multiples : List Multiple) (all : AreTargets slab src multiples) where
   abbrev begin : ℕ
   begin = meant_at slab.order src * slab.symbol_size

@@ -13,7 +13,7 @@ use Rattle.rq_bytes.specs.Ranges.{range_of, with_range, cut}
 use Rattle.rq_bytes.specs.RangeSums.{with_ranges_added, sum_of_ranges, IsRangeBeside}
 use Rattle.rq_bytes.specs.SymbolSlab.{Slab, store_of, after, after_all, HasPlace, Allows, symbol_in, with_symbols_added}
 use Rattle.rq_bytes.proofs.RangeSumLaws.{summed, length-summed}
-use Rattle.rq_bytes.proofs.SlabFacts.{Holds, apart, range_at, length-range_at, size_is, within, one_written, meant_below, length-after, order-after}
+use Rattle.rq_bytes.proofs.SlabFacts.{HoldsSlab, apart, range_at, length-range_at, size_is, within, one_written, meant_below, length-after, order-after}
 use Rattle.rq_bytes.specs.contracts.symbol_slab.SymbolSlab.{the_view, the_invariant}
 use Rattle.rq_bytes.specs.declared.symbol_slab.SymbolSlab.TheInside.{Inside}
 
@@ -105,11 +105,11 @@ module _ (slab : Slab) (dest : ℕ) (to : meant_at slab.order dest < length slab
       ∙ unfold run in additions sum sources (All-tail P src sources others)
 
 -- where the symbol that a place means begins
-abbrev start_in : Slab → ℕ → ℕ
+abbrev pub start_in : Slab → ℕ → ℕ
 start_in slab i = meant_at slab.order i * slab.symbol_size
 
 -- a place that means a symbol, and another one than `dest` does
-abbrev IsSource : Slab → ℕ → ℕ → Type 0
+abbrev pub IsSource : Slab → ℕ → ℕ → Type 0
 IsSource slab dest src = (meant_at slab.order src < length slab.values) × (meant_at slab.order src ≢ meant_at slab.order dest)
 
 abbrev pub AreSources : Slab → ℕ → List ℕ → Type 0
@@ -123,7 +123,7 @@ pub sources_of : (inside : Inside) (slab : Slab) → the_view inside ≡ slab �
 sources_of inside slab view invariant dest sources allowed =
     All-weaker (λ src. Allows slab (AddAssign dest src)) (IsSource slab dest) (λ src a. (meant_below inside slab view invariant src a.1, a.2)) sources allowed
 
-module _ {bytes : List ℕ} {count size : ℕ} {order : Option (List ℕ)} {slab : Slab} (is : Holds bytes count size order slab) where
+module _ {bytes : List ℕ} {count size : ℕ} {order : Option (List ℕ)} {slab : Slab} (is : HoldsSlab bytes count size order slab) where
   -- ranges added to a row are symbols added to it
   ranges_are_symbols : (row places : List ℕ) → All (λ p. meant_at slab.order p < length slab.values) places
       → with_ranges_added row bytes (map (start_in slab) places) 0 size ≡ with_symbols_added slab row places

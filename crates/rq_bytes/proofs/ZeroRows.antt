@@ -12,16 +12,16 @@ zeros_read xs e i = ap (λ ys. get_or ys i 0) e ∙ at-zeros (length xs) i
 pub zeros_made : (xs : List ℕ) → ((i : ℕ) → i < length xs → get_or xs i 0 ≡ 0) → xs ≡ replicate (length xs) 0
 zeros_made xs zeros = ext_get_or 0 xs (replicate (length xs) 0) (sym (length-replicate (length xs) 0)) (λ i l. zeros i l ∙ sym (at-zeros (length xs) i))
 
-zeros_more : (x : ℕ) (xs : List ℕ) → x ≡ 0 → ((i : ℕ) → get_or xs i 0 ≡ 0) → (i : ℕ) → get_or (x ∷ xs) i 0 ≡ 0
-zeros_more x xs first rest zero = first
-zeros_more x xs first rest (suc i) = rest i
+zeros_prepended : (x : ℕ) (xs : List ℕ) → x ≡ 0 → ((i : ℕ) → get_or xs i 0 ≡ 0) → (i : ℕ) → get_or (x ∷ xs) i 0 ≡ 0
+zeros_prepended x xs first rest zero = first
+zeros_prepended x xs first rest (suc i) = rest i
 
 -- where no bit is set in some bits and in elements together, all of these are zero
 all_zeros : (a : ℕ) (xs : List ℕ) → fold_l bit_or a xs ≡ 0 → (a ≡ 0) × ((i : ℕ) → get_or xs i 0 ≡ 0)
 all_zeros a [] e = (e, λ i. refl)
 all_zeros a (x ∷ xs) e =
     let rest = all_zeros (bit_or a x) xs e in
-    (omega (arith, rest.0, le_or_l a x), zeros_more x xs (omega (arith, rest.0, le_or_r a x)) rest.1)
+    (omega (arith, rest.0, le_or_l a x), zeros_prepended x xs (omega (arith, rest.0, le_or_r a x)) rest.1)
 
 pub or_none : (xs : List ℕ) → fold_l bit_or 0 xs ≡ 0 → (i : ℕ) → get_or xs i 0 ≡ 0
 or_none xs e = (all_zeros 0 xs e).1

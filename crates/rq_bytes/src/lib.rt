@@ -11,6 +11,7 @@ pub mod octet;
 pub mod octets;
 pub mod operation_vector;
 pub mod products;
+mod range_doublings;
 mod range_multiples;
 mod range_sums;
 pub mod slices;

@@ -7,16 +7,17 @@ ghost use Rattle.rq_algebra.specs.Operations.{AddAssign, MulAssign, Fma, Reorder
 ghost use Rattle.rq_algebra.specs.Symbols.{AreSymbols};
 ghost use Rattle.rq_standard.specs.OctetField.{octets};
 ghost use Rattle.std.specs.Borrow.{sem};
-ghost use Rattle.rq_bytes.specs.Ranges.{cut, whole_symbols, with_range};
+ghost use Rattle.rq_bytes.specs.Ranges.{cut, joined_pieces, whole_symbols, with_range};
 ghost use Rattle.rq_bytes.specs.declared.error.Error.TheVariants.{OutOfMemory};
 ghost use Rattle.rq_bytes.specs.Refusals.{IsAnswer};
-ghost use Rattle.rq_bytes.specs.SymbolSlab.{slab_of, among_zeros, after, after_all, HasPlace, Allows, symbol_in, symbols_in, same_slab, IsZeroUnread, IsZeroUnmarked};
+ghost use Rattle.rq_bytes.specs.SymbolSlab.{slab_of, among_zeros, after, HasPlace, Allows, symbol_in, symbols_in, same_slab, IsZeroUnread, IsZeroUnmarked};
 
+mod doublings;
 mod multiples;
 mod sums;
 
 use crate::error::Error;
-use crate::factor::{add_row_multiple, double_and_add, multiply_row};
+use crate::factor::{add_row_multiple, multiply_row};
 use crate::marks::marks_of;
 use crate::octet::Octet;
 use crate::octets;
@@ -136,6 +137,13 @@ impl SymbolSlab {
         Ok(symbols)
     }
 
+    /// The octets of the symbols, one after another, whatever the order. Not in the Rust crate.
+    pub fn into_bytes(self) -> Vec<u8>
+        ensures { result.items ≡ joined_pieces self.values }
+    {
+        self.data
+    }
+
     /// The number of symbols, whatever the order.
     pub fn len(&self) -> usize
         ensures count { result ≡ length self.now.values }
@@ -188,16 +196,6 @@ impl SymbolSlab {
     {
         let (dest, src) = self.get_pair_mut(dest, src);
         add_row_multiple(dest, src, scalar);
-    }
-
-    /// Multiplies a symbol by 2 and adds another one to it, in one pass over their octets. Not in the
-    /// Rust crate.
-    pub fn double_and_add(&mut self, dest: usize, src: usize)
-        requires { Allows self.old (AddAssign dest src) }
-        ensures { self.new ≡ after_all (MulAssign dest 2 ∷ AddAssign dest src ∷ []) self.old }
-    {
-        let (dest, src) = self.get_pair_mut(dest, src);
-        double_and_add(dest, src);
     }
 
     /// Exchanges the octets of the symbols that two places mean. Not in the Rust crate.

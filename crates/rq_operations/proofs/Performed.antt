@@ -1,5 +1,5 @@
 -- A slab after some of its operations, and after more.
-use Rattle.std.proofs.Common.{◌≡◌, ℕ, suc, ◌+◌, ◌<◌, List, [], ◌∷◌, ◌++◌, Option, All, map, length, take, drop, get_or, set, refl, sym, ap, ◌∙◌, subst, arith}
+use Rattle.std.proofs.Common.{◌≡◌, ℕ, suc, ◌+◌, ◌<◌, ◌≤◌, List, [], ◌∷◌, ◌++◌, Option, All, map, length, take, drop, get_or, set, refl, sym, ap, ◌∙◌, subst, arith}
 use Rattle.std.proofs.lemmas.List.{length-set, length-map, get_or-map, take-append-drop, drop-drop, length-drop, map-append, take_more_set}
 use Rattle.std.proofs.lemmas.List.Elements.{All-nil, All-cons}
 use Rattle.std.proofs.Math.Seq.{drop-cons, take-add}
@@ -78,28 +78,38 @@ module _ (operations : List Operation) (i : ℕ) (op : Operation) (there : range
     performed = e ∙ sym (ap (λ l. after_all l old) there ∙ after_all-one op old);
   }
 
-  -- with the one behind it
-  pub two_performed : (next : Operation) (old new : Slab) → i + 1 < length operations → range_of operations (i + 1) 1 ≡ next ∷ []
-      → new ≡ after_all (op ∷ next ∷ []) old → PerformsNext operations i 2 old new
-  two_performed next old new room is_next e = record {
+  -- with the one behind it, and more behind that
+  pub pair_performed : (next : Operation) (more : List Operation) (count : ℕ) (old new : Slab) → range_of operations (i + 1) 1 ≡ next ∷ [] → range_of operations (i + 2) count ≡ more
+      → i + 2 + count ≤ length operations → new ≡ after_all (op ∷ next ∷ more) old → PerformsNext operations i (2 + count) old new
+  pair_performed next more count old new is_next are_more room e = record {
     some = omega arith;
     within = omega arith;
     performed = e ∙ sym (ap (λ l. after_all l old) (
+        take-add 2 count (drop i operations)
+        ∙ ap (λ l. l ++ take count (drop 2 (drop i operations))) (
         take-add 1 1 (drop i operations)
         ∙ ap (λ l. l ++ take 1 (drop 1 (drop i operations))) there
         ∙ ap (λ l. op ∷ take 1 l) (drop-drop 1 i operations)
-        ∙ ap (λ l. op ∷ l) is_next));
+        ∙ ap (λ l. op ∷ l) is_next)
+        ∙ ap (λ l. op ∷ next ∷ take count l) (drop-drop 2 i operations)
+        ∙ ap (λ l. op ∷ next ∷ l) are_more));
   }
 
-  pub next_allowed : (n : ℕ) (order : Option (List ℕ)) (dest scalar : ℕ) (next : Operation) → op ≡ MulAssign dest scalar
-      → range_of operations (i + 1) 1 ≡ next ∷ [] → AreAllowed n order (drop i operations) → IsAllowed n order next
-  next_allowed n order dest scalar next is_op is_next allowed =
-      let rest = drop 1 (drop (i + 1) operations) in
+  -- what a multiplication, an addition to the same value and those behind them ask
+  pub pair_allowed : (n : ℕ) (order : Option (List ℕ)) (dest scalar src : ℕ) → op ≡ MulAssign dest scalar → range_of operations (i + 1) 1 ≡ AddAssign dest src ∷ []
+      → AreAllowed n order (drop i operations) → IsAllowed n order (AddAssign dest src) × AreAllowed n order (drop (i + 2) operations)
+  pair_allowed n order dest scalar src is_op is_next allowed =
+      let next = AddAssign dest src in
+      let rest = drop (i + 2) operations in
       let split : drop i operations ≡ MulAssign dest scalar ∷ next ∷ rest =
       rest_is
       ∙ ap (λ o. o ∷ drop 1 (drop i operations)) is_op
-      ∙ ap (λ l. MulAssign dest scalar ∷ l) (drop-drop 1 i operations ∙ sym (take-append-drop 1 (drop (i + 1) operations)) ∙ ap (λ l. l ++ rest) is_next) in
-      (subst (AreAllowed n order) split allowed).1.0
+      ∙ ap (λ l. MulAssign dest scalar ∷ l) (
+      drop-drop 1 i operations
+      ∙ sym (take-append-drop 1 (drop (i + 1) operations))
+      ∙ ap (λ l. l ++ drop 1 (drop (i + 1) operations)) is_next
+      ∙ ap (λ l. next ∷ l) (drop-drop 1 (i + 1) operations ∙ ap (λ k. drop k operations) (let same : i + 1 + 1 ≡ i + 2 = omega arith in same))) in
+      (subst (AreAllowed n order) split allowed).1
 
 -- ---- the step at a place
 

@@ -19,6 +19,10 @@ const RUN: usize = 8;
 // for long symbols, and lose for short ones.
 const MULTIPLES: usize = 4;
 
+// How many additions of a symbol to others are done in one pass with its doubling, at most: as many as
+// `double_add_and_spread` does.
+const TARGETS: usize = 2;
+
 /// Performs steps on the symbols of a slab, first to last.
 pub(crate) fn replay(steps: &[Step], symbols: &mut SymbolSlab)
     requires { AreAllowed (length symbols.old.values) symbols.old.order (map operation_of_step steps.now) }
@@ -41,9 +45,10 @@ struct StepsLeft<'a> {
 // What is kept while steps are performed.
 #[derive(Debug, Drop)]
 struct Performer {
-    // Room for the sources and for the multiples of one pass, so that no pass sets up its own.
+    // Room for the sources, the multiples and the targets of one pass, so that no pass sets up its own.
     sources: [usize; RUN],
     multiples: [Multiple; MULTIPLES],
+    targets: [usize; TARGETS],
     // Whether all symbols whose multiples were asked for are zeros.
     still_zeros: bool,
 }
@@ -56,6 +61,7 @@ impl Performer {
         Performer {
             sources: [0; RUN],
             multiples: [Multiple { dest: 0, scalar: 0 }; MULTIPLES],
+            targets: [0; TARGETS],
             still_zeros: true,
         }
     }
@@ -85,8 +91,9 @@ impl Performer {
         }
     }
 
-    // Performs the multiplication that is first. A doubling is done in one pass with an addition behind
-    // it to the same symbol. Returns how many steps these are.
+    // Performs the multiplication that is first. Where it is a doubling and the next step adds to the
+    // same symbol, both are done in one pass, and so are the steps behind them that add this symbol to
+    // others, as far as there is room. Returns how many steps these are.
     fn multiply(
         &mut self,
         left: StepsLeft<'_>,
@@ -101,8 +108,10 @@ impl Performer {
     {
         if scalar.byte() == 2 {
             if let Some(src) = next_source(left.steps, left.start, dest) {
-                symbols.double_and_add(dest as usize, src as usize);
-                return 2;
+                let count = read_targets(left.steps, left.start + 2, dest, &mut self.targets);
+                let targets = &self.targets[..count];
+                symbols.double_add_and_spread(dest as usize, src as usize, targets);
+                return 2 + count;
             }
         }
         if !self.is_found_zero(symbols, dest) {
@@ -189,6 +198,34 @@ fn source_of(step: &Step, to: u32) -> Option<u32>
 {
     match step {
         Step::Add { dest, src } if *dest == to => Some(*src),
+        _ => None,
+    }
+}
+
+// Writes what the additions of the symbol at `src` that follow each other from `start` on add it to, as
+// far as there is room. Returns how many these are.
+fn read_targets(steps: &[Step], start: usize, src: u32, targets: &mut [usize]) -> usize
+    requires { start ≤ length steps.now }
+    ensures room { result ≤ length targets.new }
+    ensures within { start + result ≤ length steps.now }
+    ensures run { range_of (map operation_of_step steps.now) start result ≡ map (λ target. AddAssign target src) (take result targets.new) }
+{
+    let most = targets.len().min(steps.len() - start);
+    for count in 0..most {
+        match target_of(&steps[start + count], src) {
+            Some(target) => targets[count] = target as usize,
+            None => return count,
+        }
+    }
+    most
+}
+
+// What an addition adds the symbol at `of` to. `None` for any other step.
+fn target_of(step: &Step, of: u32) -> Option<u32>
+    ensures { IfSome result (λ dest. operation_of_step step.now ≡ AddAssign dest of) }
+{
+    match step {
+        Step::Add { dest, src } if *src == of => Some(*dest),
         _ => None,
     }
 }

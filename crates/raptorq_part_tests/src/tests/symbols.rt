@@ -79,7 +79,9 @@ fn an_order_moves_no_symbol(rt: HostRuntime) -> Result<(), Error> {
     same!(rt; slab.get(1), [0].as_slice());
     same!(rt; slab.get(2), [1].as_slice());
     slab.set_reorder([1, 2].to_vec(rt.alloc())?);
-    assert_symbols(&rt, slab, &[1, 2])
+    assert_symbols(&rt, slab.clone()?, &[1, 2])?;
+    same!(rt; slab.into_bytes().as_slice(), [0, 1, 2].as_slice());
+    Ok(())
 }
 
 #[test]
@@ -91,6 +93,21 @@ fn a_multiple_is_added(rt: HostRuntime) -> Result<(), Error> {
     same!(rt; slab.get(0), [7].as_slice());
     slab.add_all(1, &[0]);
     assert_symbols(&rt, slab, &[7, 5])
+}
+
+// Each symbol has more octets than a kernel takes at once.
+#[test]
+#[tactic(auto, unfolding(rq_algebra::specs::Operations::step, rq_algebra::specs::Operations::run))]
+fn a_doubled_symbol_is_added_to_others(rt: HostRuntime) -> Result<(), Error> {
+    let mut slab = SymbolSlab::with_zeros(rt.alloc(), 3, 33)?;
+    slab.get_mut(0).copy_from_slice(&[128; 33]);
+    slab.get_mut(1).copy_from_slice(&[3; 33]);
+    slab.get_mut(2).copy_from_slice(&[5; 33]);
+    slab.double_add_and_spread(0, 1, &[2, 1]);
+    same!(rt; slab.get(0), [30; 33].as_slice());
+    same!(rt; slab.get(1), [29; 33].as_slice());
+    same!(rt; slab.get(2), [27; 33].as_slice());
+    Ok(())
 }
 
 #[test]

@@ -37,7 +37,11 @@ impl SymbolSlab {
             6 => self.add_multiples_of::<6>(src, multiples),
             7 => self.add_multiples_of::<7>(src, multiples),
             8 => self.add_multiples_of::<8>(src, multiples),
-            _ => self.add_each_multiple(src, multiples),
+            _ => {
+                for multiple in multiples {
+                    self.fma(multiple.dest, src, &Octet::new(multiple.scalar));
+                }
+            }
         }
     }
 
@@ -55,16 +59,6 @@ impl SymbolSlab {
         let start = self.start_of(src);
         let targets = self.targets_of::<C>(multiples);
         add_multiples(self.data.as_mut_slice(), start, &targets, size);
-    }
-
-    // Adds multiples of a symbol, one after another.
-    fn add_each_multiple(&mut self, src: usize, multiples: &[Multiple])
-        requires { All (λ m. Allows self.old (Fma m.dest src m.scalar)) multiples.now }
-        ensures { self.new ≡ after_all (map (λ m. Fma m.dest src m.scalar) multiples.now) self.old }
-    {
-        for multiple in multiples {
-            self.fma(multiple.dest, src, &Octet::new(multiple.scalar));
-        }
     }
 
     // Where the symbols that C multiples are added to begin in the buffer, and the octets with their

@@ -95,7 +95,7 @@ impl SymbolSlab {
 
     // Where the symbols that C places mean begin in the buffer.
     #[inline(always)]
-    fn starts_of<const C: usize>(&self, places: &[usize]) -> [usize; C]
+    pub(super) fn starts_of<const C: usize>(&self, places: &[usize]) -> [usize; C]
         requires count { length places.now ≡ C }
         requires places { All (HasPlace self.now) places.now }
         ensures { result ≡ map (λ i. meant_at self.now.order i * self.now.symbol_size) places.now }

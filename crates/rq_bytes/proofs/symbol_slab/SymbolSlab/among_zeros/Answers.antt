@@ -2,22 +2,22 @@
 use Rattle.std.proofs.Common.{◌+◌, ◌-◌, ◌*◌, ◌≤◌, [], ◌++◌, length, take, replicate, Ok, sym, ap, ◌∙◌, arith}
 use Rattle.std.proofs.Math.Nat.{mul-le-mul_right}
 use Rattle.rq_bytes.specs.SymbolSlab.{Slab, slab_of, among_zeros}
-use Rattle.rq_bytes.proofs.SlabFacts.{holds, count_is, size_is, zeros_around, filled_around}
+use Rattle.rq_bytes.proofs.SlabFacts.{holds_slab, count_is, size_is, zeros_around, filled_around}
 use Rattle.rq_bytes.proofs.symbol_slab.SymbolSlab.among_zeros.Goals as goal
 
 pub overflow_mul-room : goal.overflow_mul-room
 overflow_mul-room c =
-    let is = holds c.self.inside c.args.self.now c.self.view_is c.self.invariant in
+    let is = holds_slab c.self.inside c.args.self.now c.self.view_is c.self.invariant in
     record { fits = omega (arith, c.requires.room, ap (λ s. (c.args.count + length c.args.self.now.values) * s) (size_is is)) }
 
 pub overflow_add-room : goal.overflow_add-room
 overflow_add-room c =
-    let is = holds c.self.inside c.args.self.now c.self.view_is c.self.invariant in
+    let is = holds_slab c.self.inside c.args.self.now c.self.view_is c.self.invariant in
     record { fits = omega (arith, c.requires.room, ap (λ s. (c.args.count + length c.args.self.now.values) * s) (size_is is), ap (λ n. n * c.self.inside.symbol_size) (count_is is), is.long, c.self.inside.«data».ok) }
 
 pub overflow_mul-start : goal.overflow_mul-start
 overflow_mul-start c =
-    let is = holds c.self.inside c.args.self.now c.self.view_is c.self.invariant in
+    let is = holds_slab c.self.inside c.args.self.now c.self.view_is c.self.invariant in
     let below : c.args.start ≤ c.args.count + length c.args.self.now.values = omega (arith, c.requires.fits) in
     record { fits = omega (arith, c.requires.room, mul-le-mul_right c.self.inside.symbol_size below, ap (λ s. (c.args.count + length c.args.self.now.values) * s) (size_is is)) }
 
@@ -25,7 +25,7 @@ pub returns : goal.returns
 returns c =
     let slab = c.args.self.now in
     let inside = c.self.inside in
-    let is = holds inside slab c.self.view_is c.self.invariant in
+    let is = holds_slab inside slab c.self.view_is c.self.invariant in
     let size = inside.symbol_size in
     let start = c.args.start in
     let count = c.args.count in

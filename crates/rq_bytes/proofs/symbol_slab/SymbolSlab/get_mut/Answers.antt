@@ -5,7 +5,7 @@ use Rattle.rq_bytes.specs.Ranges.{range_of}
 use Rattle.rq_bytes.specs.SymbolSlab.{Slab, symbol_in}
 use Rattle.rq_bytes.specs.SlabLends.{with_octets, IsSymbolWrite}
 use Rattle.rq_bytes.specs.contracts.symbol_slab.SymbolSlab.{the_view}
-use Rattle.rq_bytes.proofs.SlabFacts.{holds, range_in, length-range_at, symbol_within, octets_written, symbol_written}
+use Rattle.rq_bytes.proofs.SlabFacts.{holds_slab, range_in, length-range_at, symbol_within, octets_written, symbol_written}
 use Rattle.rq_bytes.proofs.symbol_slab.SymbolSlab.get_mut.Goals as goal
 use Rattle.rq_bytes.proofs.symbol_slab.SymbolSlab.get_mut.Goals.{After-start_of-start}
 
@@ -24,7 +24,7 @@ returns c =
     let d = c.start_of-start in
     let inside = c.self.inside in
     let slab = the_view inside in
-    let is = holds inside slab refl c.self.invariant in
+    let is = holds_slab inside slab refl c.self.invariant in
     let at = meant_at slab.order c.args.i in
     let few : d.result + inside.symbol_size - d.result ≡ inside.symbol_size = omega arith in
     let shown =

@@ -4,7 +4,7 @@ use Rattle.rq_algebra.specs.Operations.{meant_at}
 use Rattle.rq_bytes.specs.SymbolSlab.{Slab, symbol_in}
 use Rattle.rq_bytes.specs.SlabLends.{with_octets, IsSymbolWrite}
 use Rattle.rq_bytes.specs.contracts.symbol_slab.SymbolSlab.{the_view}
-use Rattle.rq_bytes.proofs.SlabFacts.{holds, apart, range_in, length-range_at, symbol_within, octets_written, symbol_written}
+use Rattle.rq_bytes.proofs.SlabFacts.{holds_slab, apart, range_in, length-range_at, symbol_within, octets_written, symbol_written}
 use Rattle.rq_bytes.proofs.symbol_slab.SymbolSlab.get_pair_mut.Goals as goal
 
 pub get_range_pair-requires-clause-apart : goal.get_range_pair-requires-clause-apart
@@ -13,7 +13,7 @@ get_range_pair-requires-clause-apart c =
     let d = c.start_of-dest_start in
     let s = c.start_of-src_start in
     let two = subst (λ (v : Slab). meant_at v.order c.args.src ≢ meant_at v.order c.args.dest) (sym c.self.view_is) c.requires.2 in
-    apart (holds c.self.inside slab refl c.self.invariant) (meant_at slab.order c.args.dest) (meant_at slab.order c.args.src) d.result s.result two d.ensures.start s.ensures.start
+    apart (holds_slab c.self.inside slab refl c.self.invariant) (meant_at slab.order c.args.dest) (meant_at slab.order c.args.src) d.result s.result two d.ensures.start s.ensures.start
 
 pub get_range_pair-requires-clause-dest_within : goal.get_range_pair-requires-clause-dest_within
 get_range_pair-requires-clause-dest_within c = omega (arith, symbol_within c.self.inside c.args.dest _ c.self.invariant c.start_of-dest_start.ensures.below c.start_of-dest_start.ensures.start, c.self.inside.data.ok)
@@ -25,7 +25,7 @@ pub returns : goal.returns
 returns c =
     let inside = c.self.inside in
     let slab = the_view inside in
-    let is = holds inside slab refl c.self.invariant in
+    let is = holds_slab inside slab refl c.self.invariant in
     let d = c.start_of-dest_start in
     let s = c.start_of-src_start in
     let to = meant_at slab.order c.args.dest in

@@ -4,7 +4,7 @@ use Rattle.std.specs.List.{swap}
 use Rattle.std.proofs.lemmas.List.{with_items_is, set-get_or}
 use Rattle.std.proofs.lemmas.List.Edits.{swap_is}
 use Rattle.rq_algebra.specs.Operations.{meant_at}
-use Rattle.rq_bytes.proofs.SlabFacts.{holds, ranges_exchanged, size_is, start_fits, within_slice, apart, exchanged}
+use Rattle.rq_bytes.proofs.SlabFacts.{holds_slab, ranges_exchanged, size_is, start_fits, within_slice, apart, exchanged}
 use Rattle.rq_bytes.proofs.symbol_slab.SymbolSlab.swap.Goals as goal
 
 pub overflow_mul-first : goal.overflow_mul-first
@@ -15,19 +15,19 @@ overflow_mul-second c = record { fits = start_fits c.self.inside c.args.self.now
 
 pub swap_ranges-requires-clause-apart : goal.swap_ranges-requires-clause-apart
 swap_ranges-requires-clause-apart c =
-    let is = holds c.self.inside c.args.self.now c.self.view_is c.self.invariant in
+    let is = holds_slab c.self.inside c.args.self.now c.self.view_is c.self.invariant in
     let p = c.stored_index-first.result in
     let q = c.stored_index-second.result in
     apart is p q _ _ (λ e. c.if-first-second.true (sym e)) (ap (λ s. p * s) (size_is is)) (ap (λ s. q * s) (size_is is))
 
 pub swap_ranges-requires-clause-first : goal.swap_ranges-requires-clause-first
 swap_ranges-requires-clause-first c =
-    let is = holds c.self.inside c.args.self.now c.self.view_is c.self.invariant in
+    let is = holds_slab c.self.inside c.args.self.now c.self.view_is c.self.invariant in
     within_slice is c.stored_index-first.result _ _ c.stored_index-first.ensures.below (ap (λ s. c.stored_index-first.result * s) (size_is is)) c.as_mut_slice-bytes.ensures.value
 
 pub swap_ranges-requires-clause-second : goal.swap_ranges-requires-clause-second
 swap_ranges-requires-clause-second c =
-    let is = holds c.self.inside c.args.self.now c.self.view_is c.self.invariant in
+    let is = holds_slab c.self.inside c.args.self.now c.self.view_is c.self.invariant in
     within_slice is c.stored_index-second.result _ _ c.stored_index-second.ensures.below (ap (λ s. c.stored_index-second.result * s) (size_is is)) c.as_mut_slice-bytes.ensures.value
 
 pub returns-then-first-second : goal.returns-then-first-second
@@ -36,7 +36,7 @@ returns-then-first-second c =
     let inside = c.self.inside in
     let p = c.stored_index-first in
     let q = c.stored_index-second in
-    let is = holds inside slab c.self.view_is c.self.invariant in
+    let is = holds_slab inside slab c.self.view_is c.self.invariant in
     let items =
     with_items_is inside.data c.swap_ranges.new.slice (c.swap_ranges.auto.slice ∙ c.as_mut_slice-bytes.ensures.len)
     ∙ c.swap_ranges.ensures

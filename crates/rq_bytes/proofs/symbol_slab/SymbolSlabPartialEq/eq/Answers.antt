@@ -4,7 +4,7 @@ use Rattle.std.specs.Prelude.{◌==◌}
 use Rattle.std.specs.Option.{option_eq}
 use Rattle.std.specs.Cmp.Lexicographic.{pointwise}
 use Rattle.std.proofs.lemmas.Bool.{eq-eqb, ne_eqb}
-use Rattle.rq_bytes.proofs.SlabFacts.{compared}
+use Rattle.rq_bytes.proofs.SlabFacts.{compared_slabs}
 use Rattle.rq_bytes.proofs.symbol_slab.SymbolSlabPartialEq.eq.Goals as goal
 
 and-false : (b : Bool) → b && false ≡ false
@@ -21,7 +21,7 @@ returns-then-self-other-2 c =
     let b = c.other.inside in
     let sizes = a.symbol_size == b.symbol_size in
     sym (
-    compared a b c.args.self.now c.args.other.now c.self.view_is c.self.invariant c.other.view_is c.other.invariant
+    compared_slabs a b c.args.self.now c.args.other.now c.self.view_is c.self.invariant c.other.view_is c.other.invariant
     ∙ ap (λ e. sizes && (e && (option_eq (λ x y. pointwise ◌==◌ x.items y.items) a.order b.order && pointwise ◌==◌ a.«data».items b.«data».items)))
     (ne_eqb a.count b.count c.if-self-other-2.true)
     ∙ and-false sizes)
@@ -34,7 +34,7 @@ returns c =
     let octets = pointwise ◌==◌ a.«data».items b.«data».items in
     c.eq.ensures
     ∙ sym (
-    compared a b c.args.self.now c.args.other.now c.self.view_is c.self.invariant c.other.view_is c.other.invariant
+    compared_slabs a b c.args.self.now c.args.other.now c.self.view_is c.self.invariant c.other.view_is c.other.invariant
     ∙ ap (λ e. e && (a.count == b.count && (orders && octets))) (eq-eqb a.symbol_size b.symbol_size c.if-self-other.false)
     ∙ ap (λ e. true && (e && (orders && octets))) (eq-eqb a.count b.count c.if-self-other-2.false)
     ∙ ap (λ e. true && (true && (e && octets))) (not-false orders (sym c.if-ne.false ∙ c.ne.ensures)))

@@ -1,11 +1,11 @@
--- What the check leaves to show of `symbol_slab::SymbolSlab::add_each_multiple`.
+-- What the check leaves to show of `symbol_slab::SymbolSlab::add_multiples`.
 use Rattle.std.proofs.Common.{ℕ, get_or, refl, ap, ◌∙◌}
 use Rattle.rq_algebra.specs.Operations.{Fma}
 use Rattle.rq_bytes.specs.SymbolSlab.{after}
 use Rattle.rq_bytes.specs.declared.symbol_slab.multiples.Multiple.{Multiple}
 use Rattle.rq_bytes.proofs.SlabSums.{next_allowed, run_next, run_none}
 use Rattle.rq_bytes.proofs.SlabMultiples.{fma_of}
-use Rattle.rq_bytes.proofs.symbol_slab.SymbolSlab.add_each_multiple.Goals as goal
+use Rattle.rq_bytes.proofs.symbol_slab.SymbolSlab.add_multiples.Goals as goal
 
 abbrev none : Multiple
 none = record { dest = 0; scalar = 0 }
