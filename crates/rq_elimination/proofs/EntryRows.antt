@@ -70,12 +70,12 @@ module _ (width : ℕ) (bits owns : List (List ℕ)) (same : length owns ≡ len
 -- ---- entries
 
 -- what callers see
-abbrev pub table_of : ℕ → Slab → List (List ℕ) → OctetTable
-table_of width bits owns = record { width = width; rows = entry_rows width bits.values owns }
+abbrev pub octet_table_of : ℕ → Slab → List (List ℕ) → OctetTable
+octet_table_of width bits owns = record { width = width; rows = entry_rows width bits.values owns }
 
 module _ (width : ℕ) (bits : Slab) (owns : List (List ℕ)) (are : AreEntries width bits owns) where
   module _ (i : ℕ) (inside : i < length bits.values) where
-    pub row_is : row_at (table_of width bits owns) i ≡ entry_row width (get_or bits.values i []) (get_or owns i [])
+    pub row_is : row_at (octet_table_of width bits owns) i ≡ entry_row width (get_or bits.values i []) (get_or owns i [])
     row_is = row_at-rows width bits.values owns are.height i inside
 
     pub row_octets : IsOctetRow width (entry_row width (get_or bits.values i []) (get_or owns i []))
@@ -97,7 +97,7 @@ module _ (width : ℕ) (bits : Slab) (owns : List (List ℕ)) (are : AreEntries 
       rows = rw (rows_with_octets width bits.values owns are.height i inside own) (All-set (IsOctetRow width) (entry_rows width bits.values owns) i _ row are.rows);
     }
 
-    pub table_with_octets : (own : List ℕ) → table_of width bits (set owns i own) ≡ with_row (table_of width bits owns) i (entry_row width (get_or bits.values i []) own)
+    pub table_with_octets : (own : List ℕ) → octet_table_of width bits (set owns i own) ≡ with_row (octet_table_of width bits owns) i (entry_row width (get_or bits.values i []) own)
     table_with_octets own = ap (λ (rows : List (List ℕ)). record { width = width; rows = rows }) (rows_with_octets width bits.values owns are.height i inside own)
 
     -- the row gets these bits
@@ -114,11 +114,11 @@ module _ (width : ℕ) (bits : Slab) (owns : List (List ℕ)) (are : AreEntries 
         rows = rw (rows_with_bits width bits.values owns are.height i inside symbol) (All-set (IsOctetRow width) (entry_rows width bits.values owns) i _ row are.rows);
       }
 
-      pub table_with_bits : table_of width (record bits { values = set bits.values i symbol }) owns ≡ with_row (table_of width bits owns) i (entry_row width symbol (get_or owns i []))
+      pub table_with_bits : octet_table_of width (record bits { values = set bits.values i symbol }) owns ≡ with_row (octet_table_of width bits owns) i (entry_row width symbol (get_or owns i []))
       table_with_bits = ap (λ (rows : List (List ℕ)). record { width = width; rows = rows }) (rows_with_bits width bits.values owns are.height i inside symbol)
 
   -- callers see octets
-  pub has_octets : HasOctets (table_of width bits owns)
+  pub has_octets : HasOctets (octet_table_of width bits owns)
   has_octets = record {
     widths = λ i d l. (are.rows i d l).0;
     elements = λ i k l m.
@@ -170,7 +170,7 @@ slab_sum slab dest src none long =
 
 -- ---- a row that is there
 
-module _ (e : Inside) (are : AreEntries e.octets.width e.bits e.octets.rows) {now : OctetTable} (seen : table_of e.octets.width e.bits e.octets.rows ≡ now) where
+module _ (e : Inside) (are : AreEntries e.octets.width e.bits e.octets.rows) {now : OctetTable} (seen : octet_table_of e.octets.width e.bits e.octets.rows ≡ now) where
   pub width_is : e.octets.width ≡ now.width
   width_is = ap (λ (t : OctetTable). t.width) seen
 
@@ -207,10 +207,10 @@ module _ (e : Inside) (are : AreEntries e.octets.width e.bits e.octets.rows) {no
         let long : length own ≡ e.octets.width = is.0 ∙ sym width_is in
         owns_are e.octets.width e.bits e.octets.rows are row in_symbols own (rw (row_of_own e.octets.width (get_or e.bits.values row []) own long) (subst (λ n. IsOctetRow n own) (sym width_is) is))
 
-    pub octets_seen : (own : List ℕ) → length own ≡ now.width → table_of e.octets.width e.bits (set e.octets.rows row own) ≡ with_row now row own
+    pub octets_seen : (own : List ℕ) → length own ≡ now.width → octet_table_of e.octets.width e.bits (set e.octets.rows row own) ≡ with_row now row own
     octets_seen own long =
         table_with_octets e.octets.width e.bits e.octets.rows are row in_symbols own
-        ∙ ap (with_row (table_of e.octets.width e.bits e.octets.rows) row) (row_of_own e.octets.width (get_or e.bits.values row []) own (long ∙ sym width_is))
+        ∙ ap (with_row (octet_table_of e.octets.width e.bits e.octets.rows) row) (row_of_own e.octets.width (get_or e.bits.values row []) own (long ∙ sym width_is))
         ∙ ap (λ t. with_row t row own) seen
 
     -- `own` written into a table `before`, whose other rows are those of `e.octets`
@@ -224,8 +224,8 @@ module _ (e : Inside) (are : AreEntries e.octets.width e.bits e.octets.rows) {no
       pub written : AreEntries after.width e.bits after.rows
       written = rw after_is_set (octets_set own own_is)
 
-      pub written_seen : table_of after.width e.bits after.rows ≡ with_row now row own
-      written_seen = ap (λ (t : OctetTable). table_of t.width e.bits t.rows) after_is_set ∙ octets_seen own own_is.0
+      pub written_seen : octet_table_of after.width e.bits after.rows ≡ with_row now row own
+      written_seen = ap (λ (t : OctetTable). octet_table_of t.width e.bits t.rows) after_is_set ∙ octets_seen own own_is.0
 
     -- the row gets octets of its own
     module _ (mid : OctetTable) (mid_is : mid ≡ with_row e.octets row (entry_row e.octets.width (symbol_in e.bits row) (row_at e.octets row))) where
@@ -254,7 +254,7 @@ module _ (e : Inside) (are : AreEntries e.octets.width e.bits e.octets.rows) {no
         pub filled_written : AreEntries after.width e.bits after.rows
         filled_written = written mid after own after_is octets (filled_over own)
 
-        pub filled_written_seen : table_of after.width e.bits after.rows ≡ with_row now row own
+        pub filled_written_seen : octet_table_of after.width e.bits after.rows ≡ with_row now row own
         filled_written_seen = written_seen mid after own after_is octets (filled_over own)
 
     -- other bits of the row
@@ -266,10 +266,10 @@ module _ (e : Inside) (are : AreEntries e.octets.width e.bits e.octets.rows) {no
         pub bits_set : AreEntries e.octets.width (record e.bits { values = set e.bits.values row symbol }) e.octets.rows
         bits_set = bits_are e.octets.width e.bits e.octets.rows are row in_symbols symbol long (rw (row_of_none e.octets.width symbol (get_or e.octets.rows row []) no_octets) (unpacked_row e.octets.width symbol))
 
-        pub bits_seen : table_of e.octets.width (record e.bits { values = set e.bits.values row symbol }) e.octets.rows ≡ with_row now row (octets_of_bits e.octets.width symbol)
+        pub bits_seen : octet_table_of e.octets.width (record e.bits { values = set e.bits.values row symbol }) e.octets.rows ≡ with_row now row (octets_of_bits e.octets.width symbol)
         bits_seen =
             table_with_bits e.octets.width e.bits e.octets.rows are row in_symbols symbol long
-            ∙ ap (with_row (table_of e.octets.width e.bits e.octets.rows) row) (row_of_none e.octets.width symbol (get_or e.octets.rows row []) no_octets)
+            ∙ ap (with_row (octet_table_of e.octets.width e.bits e.octets.rows) row) (row_of_none e.octets.width symbol (get_or e.octets.rows row []) no_octets)
             ∙ ap (λ t. with_row t row (octets_of_bits e.octets.width symbol)) seen
 
         -- `symbol` written by the slab at the place that its order keeps the row in
@@ -280,8 +280,8 @@ module _ (e : Inside) (are : AreEntries e.octets.width e.bits e.octets.rows) {no
           pub bits_written : AreEntries e.octets.width new e.octets.rows
           bits_written = rw write_is bits_set
 
-          pub bits_written_seen : table_of e.octets.width new e.octets.rows ≡ with_row now row (octets_of_bits e.octets.width symbol)
-          bits_written_seen = ap (λ (s : Slab). table_of e.octets.width s e.octets.rows) write_is ∙ bits_seen
+          pub bits_written_seen : octet_table_of e.octets.width new e.octets.rows ≡ with_row now row (octets_of_bits e.octets.width symbol)
+          bits_written_seen = ap (λ (s : Slab). octet_table_of e.octets.width s e.octets.rows) write_is ∙ bits_seen
 
     row_elements : (i : ℕ) → i < length (row_at now row) → get_or (row_at now row) i 0 < 256
     row_elements i l = (subst (IsOctetRow e.octets.width) (sym row_now) (row_octets e.octets.width e.bits e.octets.rows are row in_symbols)).1 i 0 l
@@ -325,10 +325,10 @@ module _ (e : Inside) (are : AreEntries e.octets.width e.bits e.octets.rows) {no
       unfolding b
       unpacked_b = row_unpacked src in_src none_other
 
-      pub sum_seen : table_of e.octets.width new e.octets.rows ≡ with_row now dest (row_sum (row_at now dest) (row_multiple scalar (row_at now src)))
+      pub sum_seen : octet_table_of e.octets.width new e.octets.rows ≡ with_row now dest (row_sum (row_at now dest) (row_multiple scalar (row_at now src)))
       sum_seen =
           let room = are.room in
-          ap (λ (s : Slab). table_of e.octets.width s e.octets.rows) now_is
+          ap (λ (s : Slab). octet_table_of e.octets.width s e.octets.rows) now_is
           ∙ bits_seen dest in_dest none (row_sum a b) long_sum
           ∙ ap (with_row now dest) (
           octets_of_bits-sum e.octets.width a b (long_a ∙ sym long_b) (omega (arith, long_a))

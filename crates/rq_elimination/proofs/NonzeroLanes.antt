@@ -8,21 +8,20 @@ use Rattle.std.proofs.lemmas.Nat.Bits.{bit_at-lt, bit_at-zero, bit_at_above, bit
 use Rattle.std.proofs.lemmas.Simd.{length-chunk, get_or-chunk, bit_mask_l, bitmask_splat, mask_l-lt}
 use lib.Lanes.{chunk, mask_l, top, zip2}
 use Rattle.rq_algebra.specs.Systems.{at}
-use Rattle.rq_elimination.specs.NonzeroOctets.{nonzero, HasOnes}
-use Rattle.rq_elimination.proofs.Choices.{if_same, if_apart}
+use Rattle.rq_standard.specs.BitTableSteps.{bit_of}
+use Rattle.rq_elimination.specs.NonzeroOctets.{HasOnes}
+use Rattle.rq_elimination.proofs.Choices.{if_same}
+use Rattle.rq_parts.proofs.ListedBits.{nonzero_bit}
 use Rattle.rq_parts.proofs.LowestOnes.{ClearsLowest, lowest_before, lowest_from}
 
-pub nonzero_none : (x : ℕ) → x ≡ 0 → nonzero x ≡ 0
-nonzero_none x e = if_same x 0 0 1 e
+zero_bit : (x : ℕ) → x ≡ 0 → bit_of x ≡ 0
+zero_bit x e = if_same x 0 0 1 e
 
-pub nonzero_some : (x : ℕ) → x ≢ 0 → nonzero x ≡ 1
-nonzero_some x d = if_apart x 0 0 1 d
+is_zero : (x : ℕ) → bit_of x ≡ 0 → x ≡ 0
+is_zero x none = elim (cases_eq x 0) [ inl e ↦ e | inr d ↦ absurd (omega (arith, none, nonzero_bit x d)) ]
 
-is_zero : (x : ℕ) → nonzero x ≡ 0 → x ≡ 0
-is_zero x none = elim (cases_eq x 0) [ inl e ↦ e | inr d ↦ absurd (omega (arith, none, nonzero_some x d)) ]
-
-is_some : (x : ℕ) → nonzero x ≡ 1 → x ≢ 0
-is_some x some = λ e. omega (arith, some, nonzero_none x e)
+is_some : (x : ℕ) → bit_of x ≡ 1 → x ≢ 0
+is_some x some = λ e. omega (arith, some, zero_bit x e)
 
 -- ---- the next octet that isn't 0
 
@@ -63,7 +62,7 @@ module _ (octets : List ℕ) (start place ones : ℕ) (v : HasOnes octets start 
 pub same_vector : (start lane : ℕ) → start % 32 ≡ 0 → lane < 32 → start + lane - (start + lane) % 32 ≡ start
 same_vector start lane whole inside = omega (arith, whole, inside)
 
-module _ (octets : List ℕ) (start lanes : ℕ) (bits : (k : ℕ) → k < 32 → bit_at lanes k ≡ nonzero (at octets (start + k))) (few : lanes < 2 ^ 32) where
+module _ (octets : List ℕ) (start lanes : ℕ) (bits : (k : ℕ) → k < 32 → bit_at lanes k ≡ bit_of (at octets (start + k))) (few : lanes < 2 ^ 32) where
   -- a vector after the place
   pub ones_ahead : (place : ℕ) → place < start → HasOnes octets start place lanes
   ones_ahead place before = record {
@@ -89,10 +88,10 @@ module _ (octets : List ℕ) (start lanes : ℕ) (bits : (k : ℕ) → k < 32 �
 abbrev differs : ℕ → ℕ → Bool
 differs a b = not (eqb a b)
 
-lane_bit : (x : ℕ) → cond (differs x 0) 1 0 ≡ nonzero x
+lane_bit : (x : ℕ) → cond (differs x 0) 1 0 ≡ bit_of x
 lane_bit x = elim (cases_eq x 0) [
-  | inl e ↦ ap (λ b. cond (not b) 1 0) (eq-eqb x 0 e) ∙ sym (nonzero_none x e)
-  | inr d ↦ ap (λ b. cond (not b) 1 0) (ne_eqb x 0 d) ∙ sym (nonzero_some x d)
+  | inl e ↦ ap (λ b. cond (not b) 1 0) (eq-eqb x 0 e) ∙ sym (zero_bit x e)
+  | inr d ↦ ap (λ b. cond (not b) 1 0) (ne_eqb x 0 d) ∙ sym (nonzero_bit x d)
 ]
 
 module _ (octets : List ℕ) (start : ℕ) (room : start + 32 ≤ length octets) where
@@ -103,7 +102,7 @@ module _ (octets : List ℕ) (start : ℕ) (room : start + 32 ≤ length octets)
   unfolding lanes
   lanes_are = bitmask_splat w8 differs (chunk start 32 octets) 32 0 (length-chunk start 32 octets room) (omega arith)
 
-  pub lane_bits : (result : ℕ) → result ≡ mask_l (map (top 7) (zip2 (λ a b. cond (differs a b) 255 0) (chunk start 32 octets) (replicate 32 0))) % 2 ^ 64 → (k : ℕ) → k < 32 → bit_at result k ≡ nonzero (at octets (start + k))
+  pub lane_bits : (result : ℕ) → result ≡ mask_l (map (top 7) (zip2 (λ a b. cond (differs a b) 255 0) (chunk start 32 octets) (replicate 32 0))) % 2 ^ 64 → (k : ℕ) → k < 32 → bit_at result k ≡ bit_of (at octets (start + k))
   unfolding lanes
   lane_bits result is k l =
       let long = length-chunk start 32 octets room in

@@ -68,7 +68,7 @@ no_place {slice} {places} row same none = none_place (at places row) (ap (λ ps.
 -- ---- a buffer, and what callers see of it
 
 -- a table whose row is written, by octets where what is written is below 256
-pub record IsWritten (now : OctetTable) (row : ℕ) (ws : List ℕ) (after : OctetTable) : Type 0 where
+pub record HasRowWritten (now : OctetTable) (row : ℕ) (ws : List ℕ) (after : OctetTable) : Type 0 where
   pub is : after ≡ with_row now row ws
   pub octets : All (λ x. x < 256) ws → IsOctetRow now.width (row_at after row)
 
@@ -91,12 +91,6 @@ module _ {octets : Slab} {places : List ℕ} (are : ArePlaced octets places) {no
 
     pub is_bits : at places row ≡ 0 → length (row_at now row) ≡ 0
     is_bits none = ap length row_now ∙ ap (λ p. length (row_placed octets.values p)) none
-
-    pub is_some : at places row ≢ 0 → length (row_at now row) ≡ now.width
-    is_some some = ap length row_now ∙ of_place (at places row) below some ∙ width_is where
-      of_place : (p : ℕ) → p ≤ length octets.values → p ≢ 0 → length (row_placed octets.values p) ≡ octets.symbol_size
-      of_place zero l ne = absurd (ne refl)
-      of_place (suc k) l ne = are.symbols k [] (omega arith)
 
     -- one that has a place
     module _ (place : ℕ) (is : at places row ≡ suc place) where
@@ -124,7 +118,7 @@ module _ {octets : Slab} {places : List ℕ} (are : ArePlaced octets places) {no
             (λ i l d. elsewhere i l d (at places i) refl))
             ∙ ap (λ t. with_row t row ws) seen
 
-        pub written : IsWritten now row ws (table_of_own octets' places)
+        pub written : HasRowWritten now row ws (table_of_own octets' places)
         written = record {
           is = row_written;
           octets = λ are_small. rw (ap (λ (t : OctetTable). row_at t row) row_written ∙ get_or-set_same now.rows row ws [] there) (long ∙ width_is, are_small);

@@ -7,15 +7,11 @@ use Rattle.rq_algebra.specs.Steps.{AddsRow, ScalesRow}
 use Rattle.rq_algebra.specs.Systems.{HasElements}
 use Rattle.rq_algebra.specs.Operations.{Operation, AddAssign, MulAssign, Fma, Reorder}
 use Rattle.rq_algebra.specs.Following.{Follows}
-use Rattle.rq_algebra.proofs.Changes.{with_at, with_at_same, with_at_other}
+use Rattle.rq_algebra.specs.Changes.{with_at}
+use Rattle.rq_algebra.proofs.ChangeLaws.{with_at_same, with_at_other}
 use Rattle.rq_algebra.proofs.Elements.{adds_elements, scales_elements}
 use Rattle.rq_algebra.proofs.OperationRuns.{follows_add, follows_fma, follows_scale}
 use Rattle.rq_elimination.specs.RowSteps.{row_step, rows_after, IsStepAmong}
-
-pub rows_after-append : (F : Field) (first second : List Operation) (a : ℕ → ℕ → ℕ) → rows_after F (first ++ second) a ≡ rows_after F second (rows_after F first a)
-unfolding rows_after
-rows_after-append F [] second a = refl
-rows_after-append F (step ∷ first) second a = unfold rows_after in rows_after-append F first second (row_step F step a)
 
 -- the steps as relations on entries
 module _ (F : Field) (height width dest : ℕ) (a : ℕ → ℕ → ℕ) where

@@ -6,7 +6,8 @@ use Rattle.std.proofs.lemmas.List.Elements.{All-head, All-tail, Contains-get_or}
 use Rattle.std.proofs.lemmas.List.FromFn.{length-range_with_len, get_or-range_with_len}
 use Rattle.rq_algebra.specs.Field.{Field}
 use Rattle.rq_algebra.specs.Operations.{Operation, AddAssign, MulAssign, Fma, Reorder}
-use Rattle.rq_algebra.proofs.Changes.{with_at, with_at_same, with_at_other}
+use Rattle.rq_algebra.specs.Changes.{with_at}
+use Rattle.rq_algebra.proofs.ChangeLaws.{with_at_same, with_at_other}
 use Rattle.rq_algebra.proofs.Sums.{mul_zero}
 use Rattle.rq_elimination.specs.RowSteps.{row_step, rows_after, IsStepAmong}
 

@@ -2,6 +2,7 @@ pub mod EntryRow
 pub mod EntryWords
 pub mod HdpcRows
 pub mod InactiveEntries
+pub mod LeadingRows
 pub mod NonzeroOctets
 pub mod OperationCounts
 pub mod PhaseCounts

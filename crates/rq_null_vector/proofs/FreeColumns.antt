@@ -13,7 +13,7 @@ use Rattle.rq_parts.specs.DenseOctetMatrix.{OctetTable, entry_of}
 use Rattle.rq_null_vector.specs.Homogeneous.{ShowsHomogeneous, KeepsZeros, LacksPivot}
 use Rattle.rq_elimination.specs.RowSteps.{AreRows}
 use Rattle.rq_null_vector.specs.Reduced.{IsReduced}
-use Rattle.rq_null_vector.specs.RowWrites.{HoldsRows}
+use Rattle.rq_elimination.specs.LeadingRows.{HasLeading}
 use Rattle.rq_elimination.proofs.RowStepLaws.{SameEntries}
 
 -- a row with a 1, and another entry, makes zero of a column that has that entry and a 1 in these places
@@ -28,8 +28,8 @@ two_places width place free row x before below one zeros same unit behind small 
     rw (← whole) (dot_split octets (suc free) rest row x ∙ cc (upto, after, octets.zero_add 0))
 
 -- so does a row with zeros as far as the free place
-pub no_places : (width free : ℕ) (row x : ℕ → ℕ) → ((k : ℕ) → k ≤ free → row k ≡ 0) → ((k : ℕ) → free < k → k < width → x k ≡ 0) → dot octets width row x ≡ 0
-no_places width free row x zeros behind = dot_zero octets width row x (λ k l. elim (cases_lt free k) [
+pub disjoint_places : (width free : ℕ) (row x : ℕ → ℕ) → ((k : ℕ) → k ≤ free → row k ≡ 0) → ((k : ℕ) → free < k → k < width → x k ≡ 0) → dot octets width row x ≡ 0
+disjoint_places width free row x zeros behind = dot_zero octets width row x (λ k l. elim (cases_lt free k) [
   | inl after ↦ ap (octets.mul (row k)) (behind k after l) ∙ mul_zero octets (row k)
   | inr before ↦ ap (λ (r : ℕ). octets.mul r (x k)) (zeros k before) ∙ zero_mul octets (x k)
 ])
@@ -108,7 +108,7 @@ module _ (start end : OctetTable) (rows : List ℕ) (keeps : KeepsZeros start en
     says i l = elim (cases_lt i free) [
       | inl first ↦ two_places start.width i free (entry_of end (at rows i)) (at column) first below (pivot_one free i lacks.reduced first) (λ k m d. pivot_zero free i k lacks.reduced l m (λ e. d (sym e))) (at_before i first) at_free at_behind
           (keeps.octets_are.elements (at rows i) free (are.below i l) lacks.below)
-      | inr after ↦ no_places start.width free (entry_of end (at rows i)) (at column) (λ k m. elim (cases_eq k free) [
+      | inr after ↦ disjoint_places start.width free (entry_of end (at rows i)) (at column) (λ k m. elim (cases_eq k free) [
         | inl e ↦ rw e (lacks.empty i after l)
         | inr d ↦ pivot_zero free i k lacks.reduced l (omega arith) (omega arith)
       ]) at_behind
@@ -139,16 +139,16 @@ module _ (height width : ℕ) (a b : ℕ → ℕ → ℕ) (same : SameEntries he
   shows_same (Some column) shows = homogeneous_column_same octets height width a b same column.items shows
 
 -- what the answer says of the rows that a table holds
-module _ (height width : ℕ) (wanted : ℕ → ℕ → ℕ) (start end : OctetTable) (holds : HoldsRows height width height wanted start) (rows : List ℕ) (keeps : KeepsZeros start end) (are : AreRows rows end) (all : length rows ≡ length start.rows) where
+module _ (height width : ℕ) (wanted : ℕ → ℕ → ℕ) (start end : OctetTable) (holds : HasLeading height width height wanted start) (wide : start.width ≡ width) (rows : List ℕ) (keeps : KeepsZeros start end) (are : AreRows rows end) (all : length rows ≡ length start.rows) where
   whole : length rows ≡ length end.rows
   whole = all ∙ sym keeps.height
 
   pub determined_rows : IsReduced rows 0 width end → IsDetermined octets height width wanted
   determined_rows reduced =
-      let determined = determined_by_pivots start end rows keeps are whole (rw holds.width_is reduced) in
-      determined_same height width (entry_of start) wanted holds.written (rw (holds.width_is, holds.height_is) at determined)
+      let determined = determined_by_pivots start end rows keeps are whole (rw wide reduced) in
+      determined_same height width (entry_of start) wanted holds.written (rw (wide, holds.height_is) at determined)
 
   pub homogeneous_rows : (free : ℕ) → LacksPivot rows free end → (column : List ℕ) → column ≡ map (λ row. entry_of end row free) (take free rows) ++ 1 ∷ replicate (width - free - 1) 0 → IsHomogeneousColumn octets height width wanted column
   homogeneous_rows free lacks column is =
-      let shows = homogeneous_by_pivots start end rows keeps are whole free lacks column (rw holds.width_is is) in
-      homogeneous_column_same octets height width (entry_of start) wanted holds.written column (rw (holds.width_is, holds.height_is) at shows)
+      let shows = homogeneous_by_pivots start end rows keeps are whole free lacks column (rw wide is) in
+      homogeneous_column_same octets height width (entry_of start) wanted holds.written column (rw (wide, holds.height_is) at shows)

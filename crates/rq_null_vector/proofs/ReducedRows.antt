@@ -3,16 +3,13 @@ use Rattle.std.proofs.Common.{◌≡◌, ◌≢◌, ℕ, ◌+◌, ◌<◌, ◌�
 use Rattle.std.specs.List.{SwappedAt}
 use Rattle.rq_algebra.specs.Steps.{ScalesRow}
 use Rattle.rq_algebra.specs.Systems.{at}
-use Rattle.rq_algebra.proofs.PivotColumns.{ClearsColumn}
-use Rattle.rq_algebra.proofs.Reduction.{first_pivots_none, first_pivots_rows, first_pivots_more}
+use Rattle.rq_algebra.specs.PivotColumns.{ClearsColumn}
+use Rattle.rq_algebra.proofs.Reduction.{first_pivots_rows, first_pivots_more}
 use Rattle.rq_standard.specs.OctetField.{octets}
 use Rattle.rq_parts.specs.DenseOctetMatrix.{OctetTable, entry_of, HasOctets}
 use Rattle.rq_elimination.specs.RowSteps.{AreRows}
 use Rattle.rq_null_vector.specs.Reduced.{IsReduced}
 use Rattle.rq_elimination.proofs.SwappedRows.{at-swapped}
-
-pub reduced_none : (rows : List ℕ) (first : ℕ) (table : OctetTable) → IsReduced rows first 0 table
-reduced_none rows first table = record { fits = omega arith; pivots = first_pivots_none (length rows) (entry_of table) (at rows) (λ p. first + p) }
 
 module _ (rows swapped : List ℕ) (p q : ℕ) (swaps : SwappedAt rows swapped p q) (long : length swapped ≡ length rows) (in_p : p < length rows) (in_q : q < length rows) where
   pub swapped_reduced : (first done : ℕ) (table : OctetTable) → done ≤ p → done ≤ q → IsReduced rows first done table → IsReduced swapped first done table

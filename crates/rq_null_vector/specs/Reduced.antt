@@ -1,7 +1,7 @@
 -- Rows whose first ones have pivots.
 use Rattle.std.specs.Prelude.{◌≡◌, ℕ, ◌+◌, ◌-◌, ◌≤◌, List, ◌∷◌, ◌++◌, length, map, replicate}
 use Rattle.rq_algebra.specs.Systems.{at}
-use Rattle.rq_algebra.proofs.PivotColumns.{ClearsColumn, HasFirstPivots}
+use Rattle.rq_algebra.specs.PivotColumns.{ClearsColumn, HasFirstPivots}
 use Rattle.rq_standard.specs.OctetField.{octets}
 use Rattle.rq_parts.specs.DenseOctetMatrix.{OctetTable, entry_of}
 

@@ -3,6 +3,7 @@ use Rattle.std.specs.Prelude.{◌≡◌, ◌≢◌, ℕ, ◌<◌, ◌≤◌, ◌
 use Rattle.rq_standard.specs.BitTable.{BitTable}
 use Rattle.rq_standard.specs.ConstraintMatrix.{with_octet_rows}
 use Rattle.rq_parts.specs.DenseOctetMatrix.{OctetTable, entry_of, HasOctets}
+use Rattle.rq_elimination.specs.LeadingRows.{HasLeading}
 
 -- the entries of one row from `start` on and before `end` are these, and the others are as they were
 pub record WritesRow (row start end : ℕ) (wanted : ℕ → ℕ) (old new : OctetTable) : Type 0 where
@@ -13,14 +14,14 @@ pub record WritesRow (row start end : ℕ) (wanted : ℕ → ℕ) (old new : Oct
   pub beside : (k : ℕ) → (k < start) ⊎ (end ≤ k) → entry_of new row k ≡ entry_of old row k
   pub elsewhere : (i k : ℕ) → i ≢ row → entry_of new i k ≡ entry_of old i k
 
--- the first n rows are these, and the rest are zeros
-pub record HoldsRows (height width n : ℕ) (wanted : ℕ → ℕ → ℕ) (table : OctetTable) : Type 0 where
-  pub width_is : table.width ≡ width
-  pub height_is : length table.rows ≡ height
+-- a row of a matrix of bits, whose first columns are those of LT symbols, can be copied to a table with as many rows and columns
+pub record CanCopyRow (bits : BitTable) (row lt_columns : ℕ) (table : OctetTable) : Type 0 where
+  pub lt_columns_are : lt_columns ≡ bits.boundary
+  pub inside : row < bits.height
+  pub height : length table.rows ≡ bits.height
+  pub width : table.width ≡ bits.width
   pub octets : HasOctets table
-  pub written : (i k : ℕ) → i < n → k < width → entry_of table i k ≡ wanted i k
-  pub left : (i k : ℕ) → n ≤ i → i < height → k < width → entry_of table i k ≡ 0
 
 -- all rows are those of a matrix of bits, but of octets in the places from `first` on
 abbrev pub HoldsEquations : BitTable → OctetTable → ℕ → OctetTable → Type 0
-HoldsEquations bits hdpc first table = HoldsRows bits.height bits.width bits.height (with_octet_rows first (length hdpc.rows) bits.bit (entry_of hdpc)) table
+HoldsEquations bits hdpc first table = HasLeading bits.height bits.width bits.height (with_octet_rows first (length hdpc.rows) bits.bit (entry_of hdpc)) table

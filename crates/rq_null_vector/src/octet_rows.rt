@@ -2,7 +2,7 @@
 ghost use Rattle.std.specs.Prelude.{◌≡◌, ℕ, ◌<◌, ◌≤◌, length, IfOk, OnOk, IfErr};
 ghost use Rattle.rq_bytes.specs.declared.error.Error.TheVariants.{OutOfMemory};
 ghost use Rattle.rq_parts.specs.DenseOctetMatrix.{entry_of, HasOctets};
-ghost use Rattle.rq_null_vector.specs.RowWrites.{HoldsEquations, WritesRow};
+ghost use Rattle.rq_null_vector.specs.RowWrites.{CanCopyRow, HoldsEquations, WritesRow};
 
 use rq_bytes::error::Error;
 use rq_bytes::octet::Octet;
@@ -22,6 +22,7 @@ pub fn octet_rows<T: BinaryMatrix>(
     requires lt_columns { lt_columns ≡ (T.content bits.now).boundary }
     requires hdpc_width { hdpc.now.width ≡ (T.content bits.now).width }
     ensures rows { IfOk result (HoldsEquations (T.content bits.now) hdpc.now first_hdpc) }
+    ensures width { IfOk result (λ made. made.width ≡ (T.content bits.now).width) }
     ensures err { IfErr result (λ e. e ≡ OutOfMemory) }
 {
     let width = bits.width();
@@ -66,11 +67,7 @@ fn copy_leading_bits<T: BinaryMatrix>(
     lt_columns: usize,
     rows: &mut DenseOctetMatrix,
 )
-    requires lt_columns { lt_columns ≡ (T.content bits.now).boundary }
-    requires row { row < (T.content bits.now).height }
-    requires height { length rows.old.rows ≡ (T.content bits.now).height }
-    requires width { rows.old.width ≡ (T.content bits.now).width }
-    requires octets { HasOctets rows.old }
+    requires row { CanCopyRow (T.content bits.now) row lt_columns rows.old }
     requires zeros { (k : ℕ) → k < lt_columns → entry_of rows.old row k ≡ 0 }
     ensures { WritesRow row 0 lt_columns ((T.content bits.now).bit row) rows.old rows.new }
 {
@@ -87,11 +84,7 @@ fn copy_dense_bits<T: BinaryMatrix>(
     ones: &mut Vec<usize>,
     rows: &mut DenseOctetMatrix,
 ) -> Result<(), Error>
-    requires lt_columns { lt_columns ≡ (T.content bits.now).boundary }
-    requires row { row < (T.content bits.now).height }
-    requires height { length rows.old.rows ≡ (T.content bits.now).height }
-    requires width { rows.old.width ≡ (T.content bits.now).width }
-    requires octets { HasOctets rows.old }
+    requires row { CanCopyRow (T.content bits.now) row lt_columns rows.old }
     requires zeros { (k : ℕ) → lt_columns ≤ k → k < rows.old.width → entry_of rows.old row k ≡ 0 }
     ensures ok { OnOk result (WritesRow row lt_columns rows.old.width ((T.content bits.now).bit row) rows.old rows.new) }
     ensures err { IfErr result (λ e. e ≡ OutOfMemory) }

@@ -13,12 +13,6 @@ use Rattle.rq_peeling.specs.ColumnState.{IsOrderOf, ColumnState, IsColumnState, 
 -- ---- an exchange
 
 module _ (width : ℕ) (order places : List ℕ) (is : IsOrderOf width order places) (p q : ℕ) (in_p : p < width) (in_q : q < width) where
-  new_order : List ℕ
-  new_order = set (set order p (at order q)) q (at order p)
-
-  new_places : List ℕ
-  new_places = set (set places (at order p) q) (at order q) p
-
   pub order_exchanged : (j : ℕ) → j < width → at (set (set order p (at order q)) q (at order p)) j ≡ at order (exchange p q j)
   order_exchanged j l =
       elim (cases_eq j q) [

@@ -10,8 +10,8 @@ use Rattle.rq_peeling.proofs.PeelingLaws.{columns_below}
 use Rattle.std.proofs.lemmas.Bool.{false_from_ne_true}
 
 -- the columns of a row's ones
-pub row_below : (p : Peeler) (row : ℕ) → row < length p.degrees → All (λ column. column < length p.columns.order) (ones_of p.system.now.ones row)
-row_below p row l = rw p.column_count (p.system.now.bits.within row (omega (arith, l, p.row_count)))
+pub columns_inside : (p : Peeler) (row : ℕ) → row < length p.degrees → All (λ column. column < length p.columns.order) (ones_of p.system.now.ones row)
+columns_inside p row l = rw p.column_count (p.system.now.bits.within row (omega (arith, l, p.row_count)))
 
 -- where a column isn't active any more, and its rows' degrees are lowered
 pub leave_lowered : (p : Peeler) (new : ColumnState) (column : ℕ) (now : List ℕ) → column < length p.columns.order → IsActive p.columns column → EndsActive column p.columns new → LowersRows (slice_index_or p.system.now.column_rows.lists column []) p.degrees now → KeepsDegrees p.system.now.ones p.columns new p.degrees now

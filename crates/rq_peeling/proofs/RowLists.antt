@@ -32,10 +32,10 @@ count-append : (k : ℕ) (xs ys : List ℕ) → count_by (λ place. place == k) 
 count-append k xs ys = sum_by-append (λ place. cond (place == k) 1 0) xs ys
 
 -- the place of a pair counts where the pair is a one
-count-places : (k : ℕ) (pairs : List (ℕ × ℕ)) → count_by (λ place. place == k) (places_among pairs) ≡ steps.ones_at k pairs
-count-places k [] = refl
-count-places k (pair ∷ pairs) =
-    let rest = count-places k pairs in
+count-places_among : (k : ℕ) (pairs : List (ℕ × ℕ)) → count_by (λ place. place == k) (places_among pairs) ≡ steps.ones_at k pairs
+count-places_among k [] = refl
+count-places_among k (pair ∷ pairs) =
+    let rest = count-places_among k pairs in
     let count = λ (places : List ℕ). count_by (λ place. place == k) places in
     let kept = filter (λ (p : ℕ × ℕ). p.1 == 1) pairs in
     let place = λ (p : ℕ × ℕ). p.0 in
@@ -61,7 +61,7 @@ All-places P pairs all = All-map P (λ (pair : ℕ × ℕ). pair.0) (filter (λ 
 pub places_of_pairs : (bit : ℕ → ℕ) (start end : ℕ) (pairs : List (ℕ × ℕ)) → AreOnesOf bit start end pairs → ArePlacesOfOnes bit start end (places_among pairs)
 places_of_pairs bit start end pairs ones = record {
   within = All-places (λ k. (start ≤ k) × (k < end)) pairs (λ i d lt. ((ones.within i d lt).from, (ones.within i d lt).below));
-  once = λ k from below. count-places k pairs ∙ ones.once k from below;
+  once = λ k from below. count-places_among k pairs ∙ ones.once k from below;
 }
 
 -- the places of the ones of two parts of a row that meet

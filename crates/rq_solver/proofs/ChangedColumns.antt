@@ -5,7 +5,8 @@ use Rattle.rq_algebra.specs.Field.{Field}
 use Rattle.rq_algebra.specs.Operations.{plain}
 use Rattle.rq_algebra.specs.Parities.{sum_listed}
 use Rattle.rq_algebra.specs.Systems.{dot}
-use Rattle.rq_algebra.proofs.Changes.{with_at, with_at_same, with_at_other}
+use Rattle.rq_algebra.specs.Changes.{with_at}
+use Rattle.rq_algebra.proofs.ChangeLaws.{with_at_same, with_at_other}
 use Rattle.rq_algebra.proofs.Places.{sum_but}
 use Rattle.rq_algebra.proofs.Sums.{add_zero, dot_below_size, mul_zero, sum_same, zero_mul}
 

@@ -7,7 +7,7 @@ use Rattle.rq_algebra.proofs.Stacks.{stacked_above, stacked_below}
 use Rattle.rq_standard.specs.declared.row.TableRow.{TableRow}
 use Rattle.rq_standard.specs.BitTable.{BitTable}
 use Rattle.rq_standard.specs.ConstraintMatrix.{with_octet_rows, IsBinaryPart, AreHdpcRows}
-use Rattle.rq_standard.specs.Equations.{ldpc_coefficient, hdpc_coefficient, symbol_coefficient, fixed_equations, equations, equation_count}
+use Rattle.rq_standard.specs.Equations.{ldpc_coefficient, hdpc_coefficient, symbol_coefficient, precode_equations, equations, equation_count}
 use Rattle.rq_standard.specs.OctetField.{octets}
 use Rattle.rq_standard.specs.TableRows.{intermediate_symbols}
 use Rattle.rq_bytes.specs.SymbolSlab.{Slab}
@@ -28,14 +28,14 @@ module _ (row : TableRow) (ids : List ℕ) (bits : BitTable) (hdpc : OctetTable)
   ldpc_same i k l m =
       ap (λ (r : ℕ → ℕ). r k) (stacked_above row.ldpc_symbols bits.bit below_ldpc i l)
       ∙ part.ldpc i k l m
-      ∙ ap (λ (r : ℕ → ℕ). r k) (sym (stacked_above (row.ldpc_symbols + row.hdpc_symbols) (fixed_equations row) (rows_of (symbol_coefficient row) ids) i (omega arith) ∙ stacked_above row.ldpc_symbols (ldpc_coefficient row) (hdpc_coefficient row) i l))
+      ∙ ap (λ (r : ℕ → ℕ). r k) (sym (stacked_above (row.ldpc_symbols + row.hdpc_symbols) (precode_equations row) (rows_of (symbol_coefficient row) ids) i (omega arith) ∙ stacked_above row.ldpc_symbols (ldpc_coefficient row) (hdpc_coefficient row) i l))
 
   hdpc_same : (j k : ℕ) → j < row.hdpc_symbols → k < intermediate_symbols row → handed_rows (row.ldpc_symbols + j) k ≡ equations row ids (row.ldpc_symbols + j) k
   unfolding handed_rows below_ldpc
   hdpc_same j k l m =
       ap (λ (r : ℕ → ℕ). r k) (stacked_below row.ldpc_symbols bits.bit below_ldpc j ∙ stacked_above row.hdpc_symbols (entry_of hdpc) (λ i. bits.bit (row.ldpc_symbols + row.hdpc_symbols + i)) j l)
       ∙ are_hdpc j k l m
-      ∙ ap (λ (r : ℕ → ℕ). r k) (sym (stacked_above (row.ldpc_symbols + row.hdpc_symbols) (fixed_equations row) (rows_of (symbol_coefficient row) ids) (row.ldpc_symbols + j) (omega arith) ∙ stacked_below row.ldpc_symbols (ldpc_coefficient row) (hdpc_coefficient row) j))
+      ∙ ap (λ (r : ℕ → ℕ). r k) (sym (stacked_above (row.ldpc_symbols + row.hdpc_symbols) (precode_equations row) (rows_of (symbol_coefficient row) ids) (row.ldpc_symbols + j) (omega arith) ∙ stacked_below row.ldpc_symbols (ldpc_coefficient row) (hdpc_coefficient row) j))
 
   symbol_same : (j k : ℕ) → j < length ids → k < intermediate_symbols row → handed_rows (row.ldpc_symbols + row.hdpc_symbols + j) k ≡ equations row ids (row.ldpc_symbols + row.hdpc_symbols + j) k
   unfolding handed_rows below_ldpc
@@ -44,7 +44,7 @@ module _ (row : TableRow) (ids : List ℕ) (bits : BitTable) (hdpc : OctetTable)
       ap (λ (i : ℕ). with_octet_rows row.ldpc_symbols row.hdpc_symbols bits.bit (entry_of hdpc) i k) place
       ∙ ap (λ (r : ℕ → ℕ). r k) (stacked_below row.ldpc_symbols bits.bit below_ldpc (row.hdpc_symbols + j) ∙ stacked_below row.hdpc_symbols (entry_of hdpc) (λ i. bits.bit (row.ldpc_symbols + row.hdpc_symbols + i)) j)
       ∙ part.symbols j k l m
-      ∙ ap (λ (r : ℕ → ℕ). r k) (sym (stacked_below (row.ldpc_symbols + row.hdpc_symbols) (fixed_equations row) (rows_of (symbol_coefficient row) ids) j))
+      ∙ ap (λ (r : ℕ → ℕ). r k) (sym (stacked_below (row.ldpc_symbols + row.hdpc_symbols) (precode_equations row) (rows_of (symbol_coefficient row) ids) j))
 
   pub equations_same : SameEntries (equation_count row ids) (intermediate_symbols row) (with_octet_rows row.ldpc_symbols row.hdpc_symbols bits.bit (entry_of hdpc)) (equations row ids)
   unfolding handed_rows

@@ -227,30 +227,18 @@ module _ (rows order places : List ℕ) (first count width : ℕ) where
       changes
 
   -- there are zeros in the columns of all pivots
-  pub clears_octets : (octet last : ℕ → ℕ → ℕ) (old new : RecordedRows) (end : ℕ) → HasPivotsBeside rows order places first count width old → HasElements octets count width octet
+  pub clears_octets : (octet last : ℕ → ℕ → ℕ) (old new : RecordedRows) (end : ℕ) → HasPivotsBeside rows order places first count width old
       → ChangesOctets rows order first count octet (octets_from end last) old new → ((k : ℕ) → end ≤ k → k < length places → length rows ≤ at places k) → ClearsOctets rows order octet first count old new
-  clears_octets octet last old new end beside are changes none = record {
-    steps = changes.steps;
-    performs = changes.performs;
-    elements = λ i p l n. are i (at order p) l (in_width old beside p n);
-    elsewhere = changes.elsewhere;
-    kept = changes.kept;
-    cleared = λ m pivots had i p l n.
-        let place : at places (at order p) ≡ p = (beside.columns.ordered p (omega (arith, beside.few, n))).1 in
-        let early : at order p < end = elim (cases_lt (at order p) end) [
-          | inl before_end ↦ before_end
-          | inr late ↦ let without = none (at order p) late (rw beside.columns.place_count (in_width old beside p n)) in absurd (omega (arith, without, place, n))
-        ] in
-        changes.shown m pivots had i p l n ∙ before_column end last i (at order p) early;
-  }
+  clears_octets octet last old new end beside changes none = changes_same octet (octets_from end last) (λ i k. 0) old new
+      (λ i p l n.
+      let place : at places (at order p) ≡ p = (beside.columns.ordered p (omega (arith, beside.few, n))).1 in
+      let early : at order p < end = elim (cases_lt (at order p) end) [
+        | inl before_end ↦ before_end
+        | inr late ↦ let without = none (at order p) late (rw beside.columns.place_count (in_width old beside p n)) in absurd (omega (arith, without, place, n))
+      ] in
+      before_column end last i (at order p) early)
+      changes
 
--- the HDPC rows have zeros in the pivots' columns, or there are none
-pub clears_none : (rows order : List ℕ) (octet : ℕ → ℕ → ℕ) (first count : ℕ) (state : RecordedRows) → ((p : ℕ) → p < length rows → (i : ℕ) → i < count → octet i (at order p) ≡ 0) → ClearsOctets rows order octet first count state state
-clears_none rows order octet first count state none = record {
-  steps = [];
-  performs = performs_none state;
-  elements = λ i p l n. rw (none p n i l) (lit< tt);
-  elsewhere = λ m r k out. rows_after-none octets m r k;
-  cleared = λ m pivots had i p l n. rows_after-none octets m (first + i) (at order p) ∙ had i p l n ∙ none p n i l;
-  kept = λ m k zeros had i o. rows_after-none octets m (first + i) k ∙ had i o;
-}
+  -- the HDPC rows have zeros in the pivots' columns, or there are none
+  pub clears_none : (octet : ℕ → ℕ → ℕ) (state : RecordedRows) → ((p : ℕ) → p < length rows → (i : ℕ) → i < count → octet i (at order p) ≡ 0) → ClearsOctets rows order octet first count state state
+  clears_none octet state none = changes_same octet octet (λ i k. 0) state state (λ i p l n. none p n i l) (changes_none octet state)

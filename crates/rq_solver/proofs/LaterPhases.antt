@@ -20,10 +20,10 @@ use Rattle.rq_solver.specs.SecondPhase.{SubstitutesBack}
 use Rattle.rq_solver.specs.declared.pi_solver.elimination.Elimination.{Elimination}
 use Rattle.rq_solver.proofs.CountLaws.{inactive_bound, stuck_bound}
 use Rattle.rq_solver.proofs.FinishedPivots.{echelon_stays}
-use Rattle.rq_solver.proofs.PeeledOutcomes.{homogeneous_of_peeled, finds_by_peeled}
+use Rattle.rq_solver.proofs.PeeledSolutions.{homogeneous_of_peeled, finds_by_peeled}
 
-pub keeps_more : (a b c : Elimination) → KeepsPivots a b → KeepsPivots b c → KeepsPivots a c
-keeps_more a b c k l = record { peeling = l.peeling ∙ k.peeling; additions = l.additions ∙ k.additions; limit = l.limit ∙ k.limit }
+pub keeps_pivots_more : (a b c : Elimination) → KeepsPivots a b → KeepsPivots b c → KeepsPivots a c
+keeps_pivots_more a b c k l = record { peeling = l.peeling ∙ k.peeling; additions = l.additions ∙ k.additions; limit = l.limit ∙ k.limit }
 
 module _ (old new : Elimination) (keeps : KeepsPivots old new) where
   pub same_count : inactive_count new ≡ inactive_count old
@@ -85,13 +85,13 @@ pub record RunsAll (first forward sparse back last : Elimination) (marks : List 
 
 module _ (first forward sparse back last : Elimination) (marks : List Bool) (r : RunsAll first forward sparse back last marks) where
   to_sparse : KeepsPivots first sparse
-  to_sparse = keeps_more first forward sparse r.keeps_forward r.keeps_sparse.pivots
+  to_sparse = keeps_pivots_more first forward sparse r.keeps_forward r.keeps_sparse.pivots
 
   to_back : KeepsPivots first back
-  to_back = keeps_more first sparse back to_sparse r.keeps_back.pivots
+  to_back = keeps_pivots_more first sparse back to_sparse r.keeps_back.pivots
 
   pub to_last : KeepsPivots first last
-  to_last = keeps_more first back last to_back r.keeps_last.pivots
+  to_last = keeps_pivots_more first back last to_back r.keeps_last.pivots
 
   left_back : left_rows last ≡ left_rows back
   left_back = same_left back last r.keeps_last

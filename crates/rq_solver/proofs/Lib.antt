@@ -6,13 +6,13 @@ pub mod EquationLaws
 pub mod FilledRows
 pub mod FinishedPivots
 pub mod HdpcClearing
+pub mod InactiveFilling
 pub mod LaterPhases
-pub mod LeadingRows
 pub mod ListingLaws
 pub mod OctetColumns
 pub mod OctetRows
 pub mod OctetSums
-pub mod PeeledOutcomes
+pub mod PeeledSolutions
 pub mod PivotsCleared
 pub mod PivotsTaken
 pub mod ReducedWords

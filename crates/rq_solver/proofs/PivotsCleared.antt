@@ -5,12 +5,12 @@ use Rattle.std.proofs.lemmas.List.{length-drop, get_or-drop, get_or_default}
 use Rattle.rq_algebra.specs.Operations.{Operation}
 use Rattle.rq_algebra.specs.Systems.{at}
 use Rattle.rq_standard.specs.OctetField.{octets}
-use Rattle.rq_parts.specs.DenseOctetMatrix.{OctetTable, entry_of}
+use Rattle.rq_parts.specs.DenseOctetMatrix.{OctetTable, HasOctets, entry_of}
 use Rattle.rq_peeling.specs.SystemRows.{AreRowsOfBits, AreOctetRows, one_in, system_rows}
 use Rattle.rq_peeling.specs.declared.system.System.{System}
 use Rattle.rq_solver.specs.FirstPhase.{HasPeeledPivots, TakesPivotsAlone}
 use Rattle.rq_solver.specs.HdpcOctets.{ClearsOctets}
-use Rattle.rq_solver.specs.InactiveColumns.{HasLeading}
+use Rattle.rq_elimination.specs.LeadingRows.{HasLeading}
 use Rattle.rq_solver.specs.PivotAdditions.{IsCleared, IsUncleared, ClearsRows}
 use Rattle.rq_solver.specs.RowOrder.{ListsRows}
 use Rattle.rq_peeling.specs.Peeling.{IsPeeled}
@@ -114,7 +114,7 @@ module _ (lists : List (List ℕ)) (first : ℕ) (hdpc : OctetTable) where
 
           left_cleared : (r : ℕ) → Contains (drop (length rows) listed) r → (p : ℕ) → p < length rows → rows_after octets wipes.steps now r (at order p) ≡ 0
           left_cleared r c p l = elim (cases r) [
-            | inl q ↦ rw (← q.2) (wipes.cleared now pivot_now (λ i j n o. octets_now i (at order j) n) q.0 p q.1 l)
+            | inl q ↦ rw (← q.2) (wipes.shown now pivot_now (λ i j n o. octets_now i (at order j) n) q.0 p q.1 l)
             | inr out ↦
                 let s = left_place (length lists) rows listed listing r c in
                 let cleared : IsCleared rows order now r = subst (IsCleared rows order now) s.3 (cleared_at s.0 s.2 (λ i n. rw s.3 (out i n))) in
@@ -128,33 +128,17 @@ module _ (lists : List (List ℕ)) (first : ℕ) (hdpc : OctetTable) where
             others = λ r c p l. in_end r (at order p) ∙ left_cleared r c p l;
           }
 
-          -- the entries that were read are octets: those of the inactive columns when the tables were filled, and the others afterwards
-          octets_small : (inactive : ℕ) → length rows + inactive ≡ width → HasLeading (length lists) inactive (length lists) (λ r f. system_rows lists first hdpc r (at order (length rows + f))) zero.table → (i k : ℕ) → i < length hdpc.rows → k < width → entry_of hdpc i k < 256
-          octets_small inactive wide holds i k l m =
-              let j : ℕ = at places k in
-              let placed = peeled.columns.placed k m in
-              elim (cases_lt j (length rows)) [
-                | inl early ↦ rw (← placed.1) (wipes.elements i j l early)
-                | inr late ↦
-                    let f : ℕ = j - length rows in
-                    let back : length rows + f ≡ j = omega arith in
-                    let inside : f < inactive = omega (arith, placed.0) in
-                    let row_in : first + i < length lists = omega (arith, are.within) in
-                    let same : entry_of zero.table (first + i) f ≡ entry_of hdpc i k = holds.written (first + i) f row_in inside ∙ octets_at i (at order (length rows + f)) l ∙ ap (entry_of hdpc i) (ap (at order) back ∙ placed.1) in
-                    rw (← same) (holds.octets.elements (first + i) f (rw holds.height_is row_in) (omega (arith, holds.wide, inside)))
-              ]
-
           -- the tables that were filled with the inactive columns show them
-          pub peeled_pivots : (inactive : ℕ) → length rows + inactive ≡ width → zero.operations ≡ [] → HasLeading (length lists) inactive (length lists) (λ r f. system_rows lists first hdpc r (at order (length rows + f))) zero.table
+          pub peeled_pivots : HasOctets hdpc → (inactive : ℕ) → length rows + inactive ≡ width → zero.operations ≡ [] → HasLeading (length lists) inactive (length lists) (λ r f. system_rows lists first hdpc r (at order (length rows + f))) zero.table
               → HasPeeledPivots (length lists) width (system_rows lists first hdpc) (record { rows = rows; order = order; places = places }) (drop (length rows) listed) two
-          peeled_pivots inactive wide empty holds =
+          peeled_pivots octets_are inactive wide empty holds =
               let done : List Operation = clears.steps ++ wipes.steps in
               let performs : Performs done zero two = performs_more clears.steps wipes.steps zero one two clears.performs wipes.performs in
               let recorded : two.operations ≡ done = performs.recorded ∙ ap (λ (l : List Operation). l ++ done) empty in
               let both : AreCleared rows order (drop (length rows) listed) (rows_after octets done (system_rows lists first hdpc)) = cleared_both in
               record {
                 elements = λ i k l m. elim (cases i) [
-                  | inl q ↦ rw (← q.2, octets_at q.0 k q.1) (octets_small inactive wide holds q.0 k q.1 m)
+                  | inl q ↦ rw (← q.2, octets_at q.0 k q.1) (octets_are.elements q.0 k q.1 (rw are.width_is m))
                   | inr out ↦ rw (bits_at i k out) (omega (arith, bits.once i k l m))
                 ];
                 among = rw recorded (rw holds.height_is at performs.among);

@@ -13,7 +13,7 @@ use Rattle.rq_solver.specs.Phases.{RunsOverSystem}
 use Rattle.rq_solver.specs.declared.pi_solver.elimination.Elimination.{Elimination}
 use Rattle.rq_solver.proofs.LaterPhases.{same_count}
 use Rattle.rq_solver.proofs.OctetRows.{bit_row}
-use Rattle.rq_solver.proofs.PeeledOutcomes.{shown_by_peeled}
+use Rattle.rq_solver.proofs.PeeledSolutions.{shown_by_peeled}
 use Rattle.rq_solver.proofs.PivotsCleared.{pivot_of_bits}
 use Rattle.rq_algebra.proofs.Sums.{dot_same}
 

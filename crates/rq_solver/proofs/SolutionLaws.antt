@@ -121,7 +121,7 @@ module _ (phases : PhaseOperations) where
   recorded_totals counts answer ops are is same = totals_among phases.ends counts phases.recorded phases.order ops phases.in_order are (rw is at same)
 
 -- the outcome of a solver that stands for these equations and has not run
-pub outcome_of : (s t : Solver) (handed : Slab) (r : Result (Option (Slab × Vec SymbolOps Global)) Error) → s ≡ t → t.symbols ≡ Some handed → IfSome s.symbols (λ h. IfOk r (IsOutcome s h)) → IfOk r (IsOutcome t handed)
-outcome_of s t handed r same symbols_are solved =
+pub outcome_same : (s t : Solver) (handed : Slab) (r : Result (Option (Slab × Vec SymbolOps Global)) Error) → s ≡ t → t.symbols ≡ Some handed → IfSome s.symbols (λ h. IfOk r (IsOutcome s h)) → IfOk r (IsOutcome t handed)
+outcome_same s t handed r same symbols_are solved =
     let is = subst (λ (u : Solver). IfSome u.symbols (λ h. IfOk r (IsOutcome u h))) same solved in
     subst (λ (o : Option Slab). IfSome o (λ h. IfOk r (IsOutcome t h))) symbols_are is

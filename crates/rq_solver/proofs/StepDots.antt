@@ -6,7 +6,8 @@ use Rattle.rq_algebra.specs.Field.{Field}
 use Rattle.rq_algebra.specs.Following.{Follows}
 use Rattle.rq_algebra.specs.Operations.{Operation, AddAssign, MulAssign, Fma, Reorder, plain, run, unordered}
 use Rattle.rq_algebra.specs.Systems.{at, dot, Solves}
-use Rattle.rq_algebra.proofs.Changes.{with_at, with_at_same, with_at_other}
+use Rattle.rq_algebra.specs.Changes.{with_at}
+use Rattle.rq_algebra.proofs.ChangeLaws.{with_at_same, with_at_other}
 use Rattle.rq_algebra.proofs.OperationRuns.{zero_values}
 use Rattle.rq_algebra.proofs.Placewise.{at-zeros, zeros_stay}
 use Rattle.rq_algebra.proofs.Solutions.{solves_same}

@@ -96,9 +96,9 @@ pub record ChangesOctets (rows order : List ℕ) (first count : ℕ) (was now : 
 
 -- ---- steps among the HDPC rows
 
--- HDPC rows stand from row `first` on, and the pivots are those of other rows
-abbrev pub StandsBeside : Pivots → ℕ → HdpcTable → RecordedRows → Type 0
-StandsBeside peeling first hdpc state = HasPivotsBeside peeling.rows peeling.order peeling.places first (length hdpc.table.rows) hdpc.table.width state
+-- the pivots are those of other rows than the HDPC rows, which stand from row `first` on
+abbrev pub StandsBeside : Pivots → ℕ → OctetTable → RecordedRows → Type 0
+StandsBeside peeling first hdpc state = HasPivotsBeside peeling.rows peeling.order peeling.places first (length hdpc.rows) hdpc.width state
 
 -- from this column on the octets show what steps among the rows did, and they show nothing of the columns before
 abbrev pub CombinesFrom : ℕ → ℕ → HdpcTable → HdpcTable → RecordedRows → RecordedRows → Type 0
@@ -125,11 +125,5 @@ HasNoPivot peeling column = length peeling.rows ≤ at peeling.places column
 -- ---- all steps
 
 -- the HDPC rows of a system, which have these octets in the pivots' columns, get 0 there
-pub record ClearsOctets (rows order : List ℕ) (octet : ℕ → ℕ → ℕ) (first count : ℕ) (old new : RecordedRows) : Type 0 where
-  pub steps : List Operation
-  pub performs : Performs steps old new
-  pub elements : (i p : ℕ) → i < count → p < length rows → octet i (at order p) < octets.size
-  pub elsewhere : (m : ℕ → ℕ → ℕ) (r k : ℕ) → ((i : ℕ) → i < count → first + i ≢ r) → rows_after octets steps m r k ≡ m r k
-  pub cleared : (m : ℕ → ℕ → ℕ) → PivotsAreCleared rows order m → ShowHdpcOctets rows order first count octet m
-      → (i p : ℕ) → i < count → p < length rows → rows_after octets steps m (first + i) (at order p) ≡ 0
-  pub kept : (m : ℕ → ℕ → ℕ) (k : ℕ) → PivotsHaveZeros rows m k → HaveZeros first count m k → HaveZeros first count (rows_after octets steps m) k
+abbrev pub ClearsOctets : List ℕ → List ℕ → (ℕ → ℕ → ℕ) → ℕ → ℕ → RecordedRows → RecordedRows → Type 0
+ClearsOctets rows order octet first count old new = ChangesOctets rows order first count octet (λ i k. 0) old new

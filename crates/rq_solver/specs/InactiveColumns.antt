@@ -1,18 +1,11 @@
 -- What the rows of a system have in the inactive columns, written row by row and column by column.
-use Rattle.std.specs.Prelude.{◌≡◌, ◌≢◌, ℕ, ◌+◌, ◌-◌, ◌<◌, ◌≤◌, ◌==◌, List, count_by, length, min}
+use Rattle.std.specs.Prelude.{◌≡◌, ◌≢◌, ℕ, ◌+◌, ◌-◌, ◌<◌, ◌==◌, List, count_by, length, min}
 use Rattle.rq_algebra.specs.Systems.{at}
 use Rattle.rq_parts.specs.DenseOctetMatrix.{OctetTable, entry_of, HasOctets}
+use Rattle.rq_elimination.specs.LeadingRows.{HasLeading}
 use Rattle.rq_peeling.specs.Peeling.{Pivots}
 use Rattle.rq_peeling.specs.SystemRows.{one_in}
 use Rattle.rq_peeling.specs.declared.system.System.{System}
-
--- In their first columns the first n rows are these, and the rest are zeros. A table may be wider.
-pub record HasLeading (height width n : ℕ) (wanted : ℕ → ℕ → ℕ) (table : OctetTable) : Type 0 where
-  pub height_is : length table.rows ≡ height
-  pub wide : width ≤ table.width
-  pub octets : HasOctets table
-  pub written : (i k : ℕ) → i < n → k < width → entry_of table i k ≡ wanted i k
-  pub left : (i k : ℕ) → n ≤ i → i < height → k < width → entry_of table i k ≡ 0
 
 -- what these rows have in the columns behind the pivots'
 abbrev pub HasInactive : ℕ → ℕ → (ℕ → ℕ → ℕ) → Pivots → OctetTable → Type 0

@@ -4,17 +4,17 @@ use Rattle.rq_algebra.specs.Arrangements.{ArePlaces}
 use Rattle.rq_algebra.specs.Systems.{at}
 
 -- all rows below the height, each once, the pivots' rows first
-pub record ListsRows (height : ℕ) (rows listed : List ℕ) : Type 0 where
-  pub are : ArePlaces (length listed) height (at listed)
-  pub few : length rows ≤ length listed
-  pub starts : (p : ℕ) → p < length rows → at listed p ≡ at rows p
-  pub every : (r : ℕ) → r < height → Contains listed r
+pub record ListsRows (height : ℕ) (rows row_order : List ℕ) : Type 0 where
+  pub are : ArePlaces (length row_order) height (at row_order)
+  pub few : length rows ≤ length row_order
+  pub starts : (p : ℕ) → p < length rows → at row_order p ≡ at rows p
+  pub every : (r : ℕ) → r < height → Contains row_order r
 
 -- of the rows that have a mark those that are listed are marked
-pub record IsMarked (listed : List ℕ) (marks : List Bool) : Type 0 where
-  pub are : ArePlaces (length listed) (length marks) (at listed)
-  pub marked : (i : ℕ) → i < length listed → slice_index_or marks (at listed i) false ≡ true
-  pub has : (r : ℕ) → r < length marks → slice_index_or marks r false ≡ true → Contains listed r
+pub record IsMarked (row_order : List ℕ) (marks : List Bool) : Type 0 where
+  pub are : ArePlaces (length row_order) (length marks) (at row_order)
+  pub marked : (i : ℕ) → i < length row_order → slice_index_or marks (at row_order i) false ≡ true
+  pub has : (r : ℕ) → r < length marks → slice_index_or marks r false ≡ true → Contains row_order r
 
 -- rows are listed behind others
 pub record ListsMore (old new : List ℕ) : Type 0 where

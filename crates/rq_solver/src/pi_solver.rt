@@ -11,7 +11,7 @@ ghost use Rattle.rq_solver.specs.Solving.{AreEquations, AreEquationsWithoutHdpc,
 mod elimination;
 mod first_phase;
 mod fourth_phase;
-mod homogeneous;
+mod null_vector;
 mod phase_operations;
 mod phases;
 mod second_phase;
@@ -28,8 +28,7 @@ use rq_operations::recorded::RecordedOperations;
 use rq_parts::octet_matrix::DenseOctetMatrix;
 pub use rq_peeling::row_selection::FirstPhaseRowSelectionStats;
 use rq_peeling::system::System;
-use rq_standard::row::TableRow;
-use rq_tables::systematic_constants::SystematicTable;
+use rq_tables::systematic_constants::{CheckedRow, SystematicTable};
 pub use solved::Solved;
 use solved::solve_system;
 use std::alloc::Global;
@@ -76,7 +75,7 @@ impl<T: BinaryMatrix> IntermediateSymbolDecoder<T> {
     {
         IntermediateSymbolDecoder::of_row(
             alloc,
-            &table.row(num_source_symbols),
+            &table.checked_row(num_source_symbols),
             matrix,
             hdpc,
             symbols,
@@ -87,20 +86,20 @@ impl<T: BinaryMatrix> IntermediateSymbolDecoder<T> {
     /// HDPC rows, and a symbol for each equation.
     pub fn of_row(
         alloc: Global,
-        row: &TableRow,
+        row: &CheckedRow,
         matrix: T,
         hdpc: DenseOctetMatrix,
         symbols: SymbolSlab,
     ) -> Self
-        requires { AreEquations row.now (T.content matrix) hdpc symbols }
-        ensures { solver_state result ≡ solver_of row.now (T.content matrix) hdpc symbols }
+        requires { AreEquations row.now.numbers (T.content matrix) hdpc symbols }
+        ensures { solver_state result ≡ solver_of row.now.numbers (T.content matrix) hdpc symbols }
     {
         IntermediateSymbolDecoder {
             alloc,
             matrix,
             hdpc,
-            first_hdpc: row.ldpc_symbols as usize,
-            lt_columns: row.lt_symbols as usize,
+            first_hdpc: row.ldpc_symbols(),
+            lt_columns: row.lt_symbols(),
             symbols: Some(symbols),
             counts: OperationCounts::none(),
         }
@@ -119,15 +118,15 @@ impl<T: BinaryMatrix> IntermediateSymbolDecoder<T> {
         requires equations { AreEquationsWithoutHdpc (row_of table.now num_source_symbols) (T.content matrix) symbols }
         ensures { solver_state result ≡ solver_without_hdpc (row_of table.now num_source_symbols) (T.content matrix) symbols }
     {
-        let row = table.row(num_source_symbols);
+        let row = table.checked_row(num_source_symbols);
         IntermediateSymbolDecoder::of_row_no_hdpc(alloc, &row, matrix, symbols)
     }
 
     /// A solver of the equations of a block but for those of HDPC, over the block's row of a table: a
     /// matrix of bits, and a symbol for each equation.
-    pub fn of_row_no_hdpc(alloc: Global, row: &TableRow, matrix: T, symbols: SymbolSlab) -> Self
-        requires { AreEquationsWithoutHdpc row.now (T.content matrix) symbols }
-        ensures { solver_state result ≡ solver_without_hdpc row.now (T.content matrix) symbols }
+    pub fn of_row_no_hdpc(alloc: Global, row: &CheckedRow, matrix: T, symbols: SymbolSlab) -> Self
+        requires { AreEquationsWithoutHdpc row.now.numbers (T.content matrix) symbols }
+        ensures { solver_state result ≡ solver_without_hdpc row.now.numbers (T.content matrix) symbols }
     {
         let hdpc = DenseOctetMatrix::without_rows(alloc, matrix.width());
         IntermediateSymbolDecoder {
@@ -135,7 +134,7 @@ impl<T: BinaryMatrix> IntermediateSymbolDecoder<T> {
             matrix,
             hdpc,
             first_hdpc: 0,
-            lt_columns: row.lt_symbols as usize,
+            lt_columns: row.lt_symbols(),
             symbols: Some(symbols),
             counts: OperationCounts::none(),
         }

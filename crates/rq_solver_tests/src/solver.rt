@@ -1,6 +1,6 @@
 //! Tests of the solver.
 ghost use Rattle.std.specs.Prelude.{◌≡◌, ℕ, ◌+◌, ◌≤◌, ◌<◌, None, length, IfOk};
-ghost use Rattle.rq_standard.specs.TableRows.{IsChecked, greatest_size, intermediate_symbols, row_of};
+ghost use Rattle.rq_standard.specs.TableRows.{greatest_size, intermediate_symbols, row_of};
 ghost use Rattle.rq_solver_tests.specs.Squares.{HasZeroRows, IsSquareOf};
 
 use crate::compare::{holds, same};
@@ -14,58 +14,45 @@ use rq_solver::pi_solver::{
     FirstPhaseRowSelectionStats, IntermediateSymbolDecoder, fused_inverse_mul_symbols,
     fused_inverse_mul_symbols_no_hdpc,
 };
-use rq_standard::row::TableRow;
-use rq_tables::systematic_constants::SystematicTable;
+use rq_tables::systematic_constants::{CheckedRow, SystematicTable};
 use std::alloc::Global;
 use std::process::Abort;
 
-// The number of equations and columns of a square system over a row.
-fn width_of(row: &TableRow) -> usize
-    requires { IsChecked row.now }
-    ensures width { result ≡ intermediate_symbols row.now }
-    ensures fits { result < 65536 }
-{
-    row.intermediate_symbols() as usize
-}
-
 // The built-in table, and its row of 10.
-fn row_of_ten(rt: &impl Abort, alloc: Global) -> Result<(SystematicTable, TableRow), Error>
+fn row_of_ten(rt: &impl Abort, alloc: Global) -> Result<(SystematicTable, CheckedRow), Error>
     ensures greatest { IfOk result (λ made. 10 ≤ greatest_size made.0) }
-    ensures row { IfOk result (λ made. made.1 ≡ row_of made.0 10) }
-    ensures checked { IfOk result (λ made. IsChecked made.1) }
-    ensures width { IfOk result (λ made. intermediate_symbols made.1 ≡ 27) }
+    ensures row { IfOk result (λ made. made.1.numbers ≡ row_of made.0 10) }
+    ensures width { IfOk result (λ made. intermediate_symbols made.1.numbers ≡ 27) }
 {
     let table = SystematicTable::built_in(alloc)?;
     assert!(rt; 10 <= table.greatest());
-    let row = table.row(10);
-    assert_eq!(rt; width_of(&row), 27);
+    let row = table.checked_row(10);
+    assert_eq!(rt; row.intermediate_symbols(), 27);
     Ok((table, row))
 }
 
 // Bits of zeros.
-fn zero_bits<T: BinaryMatrix>(alloc: Global, row: &TableRow) -> Result<T, Error>
-    requires { IsChecked row.now }
-    ensures square { IfOk result (λ bits. IsSquareOf row.now (T.content bits)) }
-    ensures zeros { IfOk result (λ bits. (i k : ℕ) → i < intermediate_symbols row.now → k < intermediate_symbols row.now → (T.content bits).bit i k ≡ 0) }
+fn zero_bits<T: BinaryMatrix>(alloc: Global, row: &CheckedRow) -> Result<T, Error>
+    ensures square { IfOk result (λ bits. IsSquareOf row.now.numbers (T.content bits)) }
+    ensures zeros { IfOk result (λ bits. let width = intermediate_symbols row.now.numbers in (i k : ℕ) → i < width → k < width → (T.content bits).bit i k ≡ 0) }
 {
-    let width = width_of(row);
-    T::new(alloc, width, width, width - row.lt_symbols as usize)
+    let width = row.intermediate_symbols();
+    T::new(alloc, width, width, width - row.lt_symbols())
 }
 
 // Bits of which the ones stand at pairs of a row and a column, but none in the HDPC rows.
 fn bits_at<T: BinaryMatrix>(
     alloc: Global,
-    row: &TableRow,
+    row: &CheckedRow,
     ones: &[(usize, usize)],
 ) -> Result<T, Error>
-    requires { IsChecked row.now }
-    ensures square { IfOk result (λ bits. IsSquareOf row.now (T.content bits)) }
-    ensures zeros { IfOk result (λ bits. HasZeroRows row.now (T.content bits) row.now.ldpc_symbols row.now.hdpc_symbols) }
+    ensures square { IfOk result (λ bits. IsSquareOf row.now.numbers (T.content bits)) }
+    ensures zeros { IfOk result (λ bits. HasZeroRows row.now.numbers (T.content bits) row.now.numbers.ldpc_symbols row.now.numbers.hdpc_symbols) }
 {
     let mut bits: T = zero_bits(alloc, row)?;
-    let width = width_of(row);
-    let first = row.ldpc_symbols as usize;
-    let after = first + row.hdpc_symbols as usize;
+    let width = row.intermediate_symbols();
+    let first = row.ldpc_symbols();
+    let after = row.precode_rows();
     for (i, k) in ones {
         if *i < width && *k < width && (*i < first || *i >= after) {
             bits.set(*i, *k, Octet::one())?;
@@ -75,12 +62,11 @@ fn bits_at<T: BinaryMatrix>(
 }
 
 // Bits of which the ones stand in the last column of the first row, and so on to the first one.
-fn mirrored_bits<T: BinaryMatrix>(alloc: Global, row: &TableRow) -> Result<T, Error>
-    requires { IsChecked row.now }
-    ensures square { IfOk result (λ bits. IsSquareOf row.now (T.content bits)) }
+fn mirrored_bits<T: BinaryMatrix>(alloc: Global, row: &CheckedRow) -> Result<T, Error>
+    ensures square { IfOk result (λ bits. IsSquareOf row.now.numbers (T.content bits)) }
 {
     let mut bits: T = zero_bits(alloc, row)?;
-    let width = width_of(row);
+    let width = row.intermediate_symbols();
     for i in 0..width {
         bits.set(i, width - 1 - i, Octet::one())?;
     }
@@ -90,15 +76,14 @@ fn mirrored_bits<T: BinaryMatrix>(alloc: Global, row: &TableRow) -> Result<T, Er
 // HDPC rows with these octets, each with its row and its column before it.
 fn octets_at(
     alloc: Global,
-    row: &TableRow,
+    row: &CheckedRow,
     entries: &[(usize, usize, u8)],
 ) -> Result<DenseOctetMatrix, Error>
-    requires { IsChecked row.now }
-    ensures height { IfOk result (λ octets. length octets.rows ≡ row.now.hdpc_symbols) }
-    ensures width { IfOk result (λ octets. octets.width ≡ intermediate_symbols row.now) }
+    ensures height { IfOk result (λ octets. length octets.rows ≡ row.now.numbers.hdpc_symbols) }
+    ensures width { IfOk result (λ octets. octets.width ≡ intermediate_symbols row.now.numbers) }
 {
-    let height = row.hdpc_symbols as usize;
-    let width = width_of(row);
+    let height = row.hdpc_symbols();
+    let width = row.intermediate_symbols();
     let mut octets = DenseOctetMatrix::new(alloc, height, width, 0)?;
     for (i, k, octet) in entries {
         if *i < height && *k < width {

@@ -2,7 +2,8 @@
 ghost use Rattle.std.specs.Prelude.{◌≡◌, ℕ, ◌+◌, ◌%◌, ◌^◌, ◌<◌, ◌≤◌, length, slice_index, IfSome};
 ghost use Rattle.std.specs.Int.{bit_at};
 ghost use Rattle.rq_elimination.specs.InactiveEntries.{IsNextOctet};
-ghost use Rattle.rq_elimination.specs.NonzeroOctets.{nonzero, HasOnesAfter};
+ghost use Rattle.rq_standard.specs.BitTableSteps.{bit_of};
+ghost use Rattle.rq_elimination.specs.NonzeroOctets.{HasOnesAfter};
 
 use rq_bytes::octet::Octet;
 use rq_bytes::products::LANES;
@@ -74,7 +75,7 @@ pub fn next_in_vectors(
 #[inline(always)]
 fn nonzero_lanes(octets: &[u8], start: usize) -> u64
     requires { start + 32 ≤ length octets.now }
-    ensures bits { (k : ℕ) → k < 32 → bit_at result k ≡ nonzero (slice_index octets.now (start + k)) }
+    ensures bits { (k : ℕ) → k < 32 → bit_at result k ≡ bit_of (slice_index octets.now (start + k)) }
     ensures few { result < 2 ^ 32 }
 {
     u8x32::from_slice(&octets[start..])

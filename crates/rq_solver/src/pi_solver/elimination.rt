@@ -17,8 +17,8 @@ pub(super) struct PivotAdditions {
     pub bounds: Vec<usize>,
 }
 
-/// The rows of a system on the way to the operations that solve it. The
-/// first phase makes it, and the methods of each later one work on what the one before it left.
+/// The rows of a system on the way to the operations that solve it. The first phase makes it, and the
+/// methods of each later one work on what the one before it left.
 #[derive(Drop)]
 pub(super) struct Elimination {
     pub(super) peeling: Peeling,

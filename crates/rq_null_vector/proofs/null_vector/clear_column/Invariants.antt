@@ -1,7 +1,7 @@
 -- What the loops keep in `null_vector::clear_column`.
 use Rattle.std.proofs.Common.{length}
 use Rattle.rq_algebra.specs.Systems.{at}
-use Rattle.rq_algebra.proofs.PivotColumns.{ClearsColumn}
+use Rattle.rq_algebra.specs.PivotColumns.{ClearsColumn}
 use Rattle.rq_standard.specs.OctetField.{octets}
 use Rattle.rq_parts.specs.DenseOctetMatrix.{entry_of}
 use Rattle.rq_null_vector.specs.Homogeneous.{KeepsZeros}

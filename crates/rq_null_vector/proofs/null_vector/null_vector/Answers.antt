@@ -21,7 +21,7 @@ returns-in_default-clause-shown g c =
     let start = c.in_ok-matrix.matrix in
     let all : length c.reduce.new.rows ≡ length start.rows = c.reduce.auto.rows ∙ ap length (c.as_mut_slice.ensures.value ∙ c.in_ok-rows.ensures.ran.2.0 ∙ first_numbers c.height.result c.in_ok-rows.ensures.ran.0 c.in_ok-rows.ensures.ran.1 ∙ ap (range_with_len 0) c.height.ensures) ∙ length-range_with_len 0 (length start.rows) in
     let reduced = rw (c.in_default.is, c.width.ensures.width) at c.reduce.ensures.pivots in
-    determined_rows content.height content.width wanted start c.reduce.new.matrix c.in_ok-matrix.ensures.rows c.reduce.new.rows c.reduce.ensures.keeps c.reduce.ensures.rows all reduced
+    determined_rows content.height content.width wanted start c.reduce.new.matrix c.in_ok-matrix.ensures.rows c.in_ok-matrix.ensures.width c.reduce.new.rows c.reduce.ensures.keeps c.reduce.ensures.rows all reduced
 
 pub column_of_pivots-requires-clause-rows : goal.column_of_pivots-requires-clause-rows
 column_of_pivots-requires-clause-rows g c =
@@ -39,4 +39,4 @@ returns-clause-shown g c =
     let same : c.deref.result.now ≡ rows = c.deref.ensures.value ∙ with_items_is c.in_ok-rows.rows rows (c.reduce.auto.rows ∙ c.as_mut_slice.ensures.len) in
     let lacks = c.in-Some.ensures.pivots in
     let count : length (take free rows) ≡ free = length-take-le free rows lacks.reduced.fits in
-    homogeneous_rows content.height content.width wanted start c.reduce.new.matrix c.in_ok-matrix.ensures.rows rows c.reduce.ensures.keeps c.reduce.ensures.rows all free lacks c.in_ok-column.column.items (rw (same, count, c.width-2.ensures.width) at c.in_ok-column.ensures)
+    homogeneous_rows content.height content.width wanted start c.reduce.new.matrix c.in_ok-matrix.ensures.rows c.in_ok-matrix.ensures.width rows c.reduce.ensures.keeps c.reduce.ensures.rows all free lacks c.in_ok-column.column.items (rw (same, count, c.width-2.ensures.width) at c.in_ok-column.ensures)

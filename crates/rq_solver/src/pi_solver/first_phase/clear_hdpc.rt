@@ -1,5 +1,5 @@
 //! The first phase clears the pivots' columns in the HDPC rows (RFC 6330, section 5.4.2.2).
-ghost use Rattle.std.specs.Prelude.{◌≡◌, ◌≢◌, ℕ, ◌+◌, ◌-◌, ◌^◌, ◌<◌, ◌≤◌, length, IsTrue, OnOk, IfErr};
+ghost use Rattle.std.specs.Prelude.{◌≡◌, ◌≢◌, ℕ, ◌+◌, ◌-◌, ◌<◌, ◌≤◌, length, IsTrue, OnOk, IfErr};
 ghost use Rattle.rq_algebra.specs.Systems.{at};
 ghost use Rattle.rq_bytes.specs.declared.error.Error.TheVariants.{OutOfMemory};
 ghost use Rattle.rq_parts.specs.DenseOctetMatrix.{entry_of, HasOctets};
@@ -8,7 +8,6 @@ ghost use Rattle.rq_solver.specs.HdpcOctets.{hdpc_bound, AreOctetsIn, AreReadabl
 ghost use Rattle.rq_solver.specs.HdpcOctets.{CombinesTables, HasNoPivot, HasZeros, IsFirstAlone, StandsBeside, SumsRows};
 ghost use Rattle.rq_elimination.specs.HdpcRows.{octet_in};
 ghost use Rattle.rq_peeling.specs.ColumnState.{IsOrderOf};
-ghost use Rattle.rq_elimination.specs.RowSteps.{AreRows};
 
 use rq_bytes::error::Error;
 use rq_bytes::octet::Octet;
@@ -36,14 +35,10 @@ pub(super) fn clear_octets(
     peeling: &Peeling,
     recorded: &mut RecordedRows,
 ) -> Result<(), Error>
-    requires order { IsOrderOf hdpc.width peeling.now.order peeling.now.places }
-    requires hdpc_octets { HasOctets hdpc }
-    requires few { length peeling.now.rows ≤ hdpc.width }
-    requires few_octets { length hdpc.rows < 65536 }
-    requires pivots { AreRows peeling.now.rows recorded.old.table }
-    requires height { first_hdpc + length hdpc.rows ≤ length recorded.old.table.rows }
-    requires fits { first_hdpc + length hdpc.rows < 2 ^ 64 }
-    requires apart { (i p : ℕ) → i < length hdpc.rows → p < length peeling.now.rows → first_hdpc + i ≢ at peeling.now.rows p }
+    requires rows { AreOctetsIn first_hdpc (length hdpc.rows) recorded.old }
+    requires few { length hdpc.rows < 65536 }
+    requires octets { HasOctets hdpc }
+    requires pivots { StandsBeside peeling.now first_hdpc hdpc recorded.old }
     ensures cleared { OnOk result (ClearsOctets peeling.now.rows peeling.now.order (entry_of hdpc) first_hdpc (length hdpc.rows) recorded.old recorded.new) }
     ensures few { OnOk result (AddsAtMost (hdpc_bound (length hdpc.rows) hdpc.width (length peeling.now.rows)) recorded.old recorded.new) }
     ensures err { IfErr result (λ e. e ≡ OutOfMemory) }
@@ -142,7 +137,7 @@ fn clear_column(
     recorded: &mut RecordedRows,
 ) -> Result<(), Error>
     requires hdpc { AreReadable places.now.first column hdpc_rows.old column_octets.old recorded.old }
-    requires pivots { StandsBeside places.now.peeling.now places.now.first hdpc_rows.old recorded.old }
+    requires pivots { StandsBeside places.now.peeling.now places.now.first hdpc_rows.old.table recorded.old }
     ensures table { hdpc_rows.new.table ≡ hdpc_rows.old.table }
     ensures lanes { length column_octets.new ≡ length hdpc_rows.new.factors }
     ensures changed { OnOk result (ClearsPivotColumn places.now.peeling.now column places.now.first hdpc_rows.old hdpc_rows.new recorded.old recorded.new) }
@@ -220,7 +215,7 @@ fn add_pivot(
     recorded: &mut RecordedRows,
 ) -> Result<(), Error>
     requires rows { AreOctetsIn places.now.first (length hdpc_rows.now.table.rows) recorded.old }
-    requires pivots { StandsBeside places.now.peeling.now places.now.first hdpc_rows.now recorded.old }
+    requires pivots { StandsBeside places.now.peeling.now places.now.first hdpc_rows.now.table recorded.old }
     requires place { place < length places.now.peeling.now.rows }
     requires count { count ≤ length hdpc_rows.now.table.rows }
     requires zeros { (i : ℕ) → count ≤ i → i < length hdpc_rows.now.table.rows → octet_in hdpc_rows.now i (at places.now.peeling.now.order place) ≡ 0 }

@@ -1,7 +1,6 @@
 //! The inactive columns in the pivots' rows (RFC 6330, section 5.4.2.5). Rows of bits take the rows
 //! with the inactive columns' pivots a word of them at a time.
 ghost use Rattle.std.specs.Prelude.{◌≡◌, ◌+◌, ◌*◌, ◌^◌, ◌<◌, ◌≤◌, length, OnOk, IfErr};
-ghost use Rattle.std.specs.Int.{bit_at};
 ghost use Rattle.rq_bytes.specs.declared.error.Error.TheVariants.{OutOfMemory};
 ghost use Rattle.rq_parts.specs.DenseOctetMatrix.{entry_of};
 ghost use Rattle.rq_elimination.specs.RecordedRows.{AddsAtMost};
@@ -72,7 +71,8 @@ fn clear_columns(
     Ok(())
 }
 
-// Adds to a row multiples of the rows whose columns have bits in one word.
+// Adds to a row multiples of the rows whose columns have bits in one word: to a row of bits those for
+// which the word has ones, its lowest bit for the first of them.
 #[inline(always)]
 fn take_word(
     row: usize,
@@ -89,27 +89,9 @@ fn take_word(
     ensures few { OnOk result (AddsAtMost (length inactive_rows.now) recorded.old recorded.new) }
     ensures err { IfErr result (λ e. e ≡ OutOfMemory) }
 {
-    match recorded.table.word_of(row, word) {
-        Some(bits) => take_bits(row, inactive_rows, bits, recorded),
-        None => take_octets(row, inactive_rows, WORD_BITS * word, recorded),
-    }
-}
-
-// Records that a row takes those rows for which a word has ones, its lowest bit for the first of them.
-#[inline(always)]
-fn take_bits(
-    row: usize,
-    inactive_rows: &[usize],
-    bits: u64,
-    recorded: &mut RecordedRows,
-) -> Result<(), Error>
-    requires rows { CanTake row inactive_rows.now recorded.old.table }
-    requires some { 0 < length inactive_rows.now }
-    requires few { length inactive_rows.now ≤ 64 }
-    ensures taken { OnOk result (TakesAll inactive_rows.now (length inactive_rows.now) row (bit_at bits) recorded.old recorded.new) }
-    ensures few { OnOk result (AddsAtMost (length inactive_rows.now) recorded.old recorded.new) }
-    ensures err { IfErr result (λ e. e ≡ OutOfMemory) }
-{
+    let Some(bits) = recorded.table.word_of(row, word) else {
+        return take_octets(row, inactive_rows, WORD_BITS * word, recorded);
+    };
     let mut rest = bits & (u64::MAX >> (WORD_BITS - inactive_rows.len()));
     while rest != 0 {
         let f = rest.trailing_zeros() as usize;

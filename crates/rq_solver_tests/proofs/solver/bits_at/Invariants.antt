@@ -8,6 +8,6 @@ abbrev pub invariant-loop-i : goal.invariant-loop-i
 invariant-loop-i g l =
     let content = g.T.BinaryMatrix.content l.bits in
     record {
-      square : IsSquareOf l.row content;
-      zeros : (i k : ℕ) → i < l.row.hdpc_symbols → k < intermediate_symbols l.row → content.bit (l.row.ldpc_symbols + i) k ≡ 0;
+      square : IsSquareOf l.row.numbers content;
+      zeros : (i k : ℕ) → i < l.row.numbers.hdpc_symbols → k < intermediate_symbols l.row.numbers → content.bit (l.row.numbers.ldpc_symbols + i) k ≡ 0;
     }

@@ -4,7 +4,7 @@ use Rattle.std.proofs.Math.Nat.{mul-le-mul}
 use Rattle.rq_bytes.specs.SymbolSlab.{Slab, slab_of}
 use Rattle.rq_parts.specs.DenseOctetMatrix.{OctetTable}
 use Rattle.rq_elimination.specs.InactiveEntries.{AreEntries}
-use Rattle.rq_elimination.proofs.EntryRows.{table_of, zero_rows, zeros_are}
+use Rattle.rq_elimination.proofs.EntryRows.{octet_table_of, zero_rows, zeros_are}
 use Rattle.rq_elimination.proofs.entries.InactiveEntries.new.Goals as goal
 
 pub with_zeros-requires : goal.with_zeros-requires
@@ -28,6 +28,6 @@ returns-clause-zeros c =
     let room : c.args.width ≤ 8 * size = omega (arith, c.div_ceil.ensures, c.whole_vectors-size.ensures.from) in
     let slab : slab_of size (replicate c.args.height (replicate size 0)) ≡ c.in_ok-with_zeros.field-0 = cc (c.in_ok-with_zeros.ensures) in
     let own = c.in_ok-new.field-0 in
-    ap (λ (s : Slab). table_of own.width s own.rows) (sym slab)
-    ∙ ap (λ (t : OctetTable). table_of t.width (slab_of size (replicate c.args.height (replicate size 0))) t.rows) c.in_ok-new.ensures.none
+    ap (λ (s : Slab). octet_table_of own.width s own.rows) (sym slab)
+    ∙ ap (λ (t : OctetTable). octet_table_of t.width (slab_of size (replicate c.args.height (replicate size 0))) t.rows) c.in_ok-new.ensures.none
     ∙ ap (λ (rows : List (List ℕ)). record { width = c.args.width; rows = rows }) (zero_rows c.args.width c.args.height size room (replicate c.args.height []) refl)

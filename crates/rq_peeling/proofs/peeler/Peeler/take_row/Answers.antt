@@ -5,7 +5,7 @@ use Rattle.rq_peeling.specs.RowDegrees.{KeepsDegrees, active_ones}
 use Rattle.rq_peeling.specs.ColumnState.{InactivatesRow, IsActive}
 use Rattle.rq_peeling.specs.RowOnes.{ones_of}
 use Rattle.rq_peeling.proofs.ActiveOnes.{none_behind}
-use Rattle.rq_peeling.proofs.PeelerLaws.{leave_lowered, row_below}
+use Rattle.rq_peeling.proofs.PeelerLaws.{leave_lowered, columns_inside}
 use Rattle.rq_peeling.proofs.PeelingLaws.{of_contained}
 use Rattle.rq_peeling.proofs.peeler.Peeler.take_row.Goals as goal
 
@@ -14,7 +14,7 @@ returns-in_ok-inactivate_columns-clause-counted c = λ counts.
     let p = c.args.self.now in
     let row = ones_of p.system.now.ones c.args.row in
     let there : Contains row c.in-Some.pivot = subst (λ (xs : List ℕ). Contains xs c.in-Some.pivot) c.row-row.ensures c.in-Some.ensures.column in
-    let inside = of_contained (λ (column : ℕ). column < length p.columns.order) row c.in-Some.pivot (row_below p c.args.row c.requires.row) there in
+    let inside = of_contained (λ (column : ℕ). column < length p.columns.order) row c.in-Some.pivot (columns_inside p c.args.row c.requires.row) there in
     let first = leave_lowered p c.take_pivot.new.self c.in-Some.pivot c.leave_column.new.self.degrees inside c.in-Some.ensures.active c.take_pivot.ensures.ended c.in_ok-leave_column.ensures.lowered in
     let others : KeepsDegrees p.system.now.ones c.take_pivot.new.self c.inactivate_columns.new.self.columns c.leave_column.new.self.degrees c.inactivate_columns.new.self.degrees = rw (c.leave_column.ensures.system, c.leave_column.ensures.columns) at c.in_ok-inactivate_columns.ensures.counted in
     others (first counts)
@@ -62,7 +62,7 @@ returns-else-degree-gt1-clause-taken c = λ _.
         left = λ k l a. (ends.left k l a).0;
         kept = λ k l a out. ends.kept k l a (λ e. out (subst (Contains row) (sym e) there));
         fewer = ends.fewer;
-        ended = none_behind row p.columns c.take_pivot.new.self c.in-Some.pivot (row_below p c.args.row c.requires.row) there c.in-Some.ensures.active ends few;
+        ended = none_behind row p.columns c.take_pivot.new.self c.in-Some.pivot (columns_inside p c.args.row c.requires.row) there c.in-Some.ensures.active ends few;
       };
     })
 
@@ -71,5 +71,5 @@ returns-else-degree-gt1-clause-counted c =
     let p = c.args.self.now in
     let row = ones_of p.system.now.ones c.args.row in
     let there : Contains row c.in-Some.pivot = subst (λ (xs : List ℕ). Contains xs c.in-Some.pivot) c.row-row.ensures c.in-Some.ensures.column in
-    let inside = of_contained (λ (column : ℕ). column < length p.columns.order) row c.in-Some.pivot (row_below p c.args.row c.requires.row) there in
+    let inside = of_contained (λ (column : ℕ). column < length p.columns.order) row c.in-Some.pivot (columns_inside p c.args.row c.requires.row) there in
     rw c.leave_column.ensures.columns (leave_lowered p c.take_pivot.new.self c.in-Some.pivot c.leave_column.new.self.degrees inside c.in-Some.ensures.active c.take_pivot.ensures.ended c.in_ok-leave_column.ensures.lowered)

@@ -11,10 +11,10 @@ returns g c =
     let bits = g.T.BinaryMatrix.content c.args.matrix in
     let of_rows : (ℕ → ℕ → ℕ) → Solver = λ rows. record {
       height = length c.args.symbols.values;
-      width = intermediate_symbols c.args.row.now;
+      width = intermediate_symbols c.args.row.now.numbers;
       first_hdpc = 0;
       hdpc_rows = 0;
-      lt_columns = c.args.row.now.lt_symbols;
+      lt_columns = c.args.row.now.numbers.lt_symbols;
       rows = rows;
       symbols = Some c.args.symbols;
       additions = replicate 5 0;
@@ -28,4 +28,4 @@ returns g c =
     let e : counts.multiplications.first ≡ 0 = omega (arith, c.none.ensures.multiplications) in
     let f : counts.multiplications.second ≡ 0 = omega (arith, c.none.ensures.multiplications) in
     let h : counts.multiplications.fourth ≡ 0 = omega (arith, c.none.ensures.multiplications) in
-    rw (empty, a, b, d, e, f, h, c.requires.height, c.requires.width) (ap of_rows (bits_alone bits.bit (entry_of c.without_rows-hdpc.result)))
+    rw (empty, a, b, d, e, f, h, c.lt_symbols.ensures.value, c.requires.height, c.requires.width) (ap of_rows (bits_alone bits.bit (entry_of c.without_rows-hdpc.result)))

@@ -1,7 +1,8 @@
 -- What the check leaves to show of `pi_solver::first_phase::clear_pivots`.
-use Rattle.std.proofs.Common.{◌+◌, ◌-◌, ◌*◌, ◌≤◌, ◌≡◌, ℕ, length, ap, arith}
+use Rattle.std.proofs.Common.{◌+◌, ◌-◌, ◌*◌, ◌≤◌, ◌≡◌, ℕ, length, ap, ◌∙◌, arith}
 use Rattle.std.proofs.Math.Nat.{mul-le-mul_right}
 use Rattle.rq_algebra.specs.Systems.{at}
+use Rattle.rq_parts.specs.DenseOctetMatrix.{OctetTable}
 use Rattle.rq_elimination.specs.OperationCounts.{additions}
 use Rattle.rq_peeling.proofs.PlaceCounts.{few_places}
 use Rattle.rq_solver.proofs.PivotsTaken.{peels_rows}
@@ -12,10 +13,19 @@ use Rattle.rq_solver.proofs.pi_solver.first_phase.clear_pivots.Goals as goal
 pub clear_rows-requires-clause-peeled : goal.clear_rows-requires-clause-peeled
 clear_rows-requires-clause-peeled c = peels_rows c.args.system.width c.args.system.ones c.args.peeling.now c.args.system.bits c.requires.peeled
 
-pub clear_octets-requires-clause-apart : goal.clear_octets-requires-clause-apart
-clear_octets-requires-clause-apart c = λ i p l n.
+pub clear_octets-requires-clause-pivots : goal.clear_octets-requires-clause-pivots
+clear_octets-requires-clause-pivots c =
     let system = c.args.system in
-    pivot_of_bits system.ones system.first_hdpc system.hdpc system.width system.bits system.octet_rows c.args.peeling.now.rows c.args.peeling.now.order c.args.peeling.now.places c.requires.peeled p i n l
+    let pivots = c.args.peeling.now in
+    let peeled = c.requires.peeled in
+    let height : length c.clear_rows.new.recorded.table.rows ≡ length system.ones =
+    c.in_ok-bounds.ensures.cleared.performs.height ∙ ap (λ (t : OctetTable). length t.rows) c.in_ok-recorded.ensures.table ∙ c.in_ok-table.ensures.entries.height_is in
+    record {
+      columns = rw system.octet_rows.width_is peeled.columns;
+      few = rw system.octet_rows.width_is peeled.few;
+      pivots = rw height peeled.in_rows;
+      apart = λ i p l n. pivot_of_bits system.ones system.first_hdpc system.hdpc system.width system.bits system.octet_rows pivots.rows pivots.order pivots.places peeled p i n l;
+    }
 
 pub returns-clause-cleared : goal.returns-clause-cleared
 returns-clause-cleared c =
@@ -25,7 +35,7 @@ returns-clause-cleared c =
     let wide : length pivots.rows + inactive ≡ system.width = omega (arith, c.requires.peeled.few) in
     peeled_pivots system.ones system.first_hdpc system.hdpc system.width system.bits system.octet_rows pivots.rows pivots.order pivots.places c.requires.peeled c.args.row_order.now c.requires.ordered
     c.in_ok-recorded.recorded c.clear_rows.new.recorded c.clear_octets.new.recorded c.in_ok-bounds.ensures.cleared c.in_ok-clear_octets.ensures.cleared
-    inactive wide c.in_ok-recorded.ensures.operations (rw c.in_ok-recorded.ensures.table c.in_ok-table.ensures.entries)
+    system.octets inactive wide c.in_ok-recorded.ensures.operations (rw c.in_ok-recorded.ensures.table c.in_ok-table.ensures.entries)
 
 pub returns-clause-alone : goal.returns-clause-alone
 returns-clause-alone c =

@@ -16,5 +16,5 @@ returns-clause-under_way c =
     let made = c.in_ok-additions.ensures in
     let system = c.args.system in
     let cleared : ClearsPivots system c.args.peeling c.in_ok-row_order.row_order.items c.in_ok-additions.recorded = rw c.as_slice.ensures.value at made.cleared in
-    let ordered : ListsRows (length system.ones) c.args.peeling.rows c.in_ok-row_order.row_order.items = rw (c.height-height.ensures, c.rows.ensures) at c.in_ok-row_order.ensures.listed in
+    let ordered : ListsRows (length system.ones) c.args.peeling.rows c.in_ok-row_order.row_order.items = rw (c.height-height.ensures, c.rows.ensures) at c.in_ok-row_order.ensures.ordered in
     rw c.len-end.ensures (first_under_way _ system made.ones c.requires ordered cleared made.taken (starts_in_order (length c.in_ok-additions.recorded.operations)))

@@ -5,7 +5,7 @@ use Rattle.rq_algebra.specs.Systems.{at}
 use Rattle.rq_solver.proofs.CountLaws.{hdpc_sum, met_none, met_skipped, met_more}
 use Rattle.rq_peeling.proofs.PlaceCounts.{few_places}
 use Rattle.rq_parts.specs.DenseOctetMatrix.{OctetTable, entry_of}
-use Rattle.rq_solver.specs.HdpcOctets.{AreOctetsIn, HasPivotsBeside, ChangesOctets, CombinesOctets, octets_from}
+use Rattle.rq_solver.specs.HdpcOctets.{HasPivotsBeside, ChangesOctets, CombinesOctets, octets_from}
 use Rattle.rq_elimination.specs.HdpcRows.{octet_in}
 use Rattle.rq_solver.proofs.OctetColumns.{from_column}
 use Rattle.rq_solver.proofs.HdpcClearing.{octets_still, beside_still, in_width, changes_none, changes_same, changes_combined, changes_more, clears_octets, clears_none}
@@ -21,7 +21,7 @@ returns-then-height-eq0-clause-cleared c =
       | then-height-eq0-via-then-height-eq0 w ↦ λ p l i n. absurd (let empty = w.if-height-eq0.true in omega (arith, empty, c.height.ensures, n))
       | then-height-eq0-via-else-height-eq0+then-are_zeros_at_pivots w ↦ let zeros = rw w.if-are_zeros_at_pivots.true at w.are_zeros_at_pivots.ensures in λ p l i n. zeros refl p l i n
     ] in
-    clears_none rows order (entry_of hdpc) c.args.first_hdpc (length hdpc.rows) c.args.recorded.now none
+    clears_none rows order c.args.peeling.now.places c.args.first_hdpc (length hdpc.rows) hdpc.width (entry_of hdpc) c.args.recorded.now none
 
 pub loop-column-init : goal.loop-column-init
 loop-column-init c =
@@ -45,16 +45,14 @@ clear_column-requires c =
     let count : length c.loop-column.hdpc_rows.table.rows ≡ length hdpc.rows = ap (λ (t : OctetTable). length t.rows) table ∙ c.in_ok-sum_rows.ensures.height in
     let width : c.loop-column.hdpc_rows.table.width ≡ hdpc.width = ap (λ (t : OctetTable). t.width) table ∙ c.in_ok-sum_rows.ensures.width in
     let heights : length now.table.rows ≡ length old.table.rows = v.changed.performs.height ∙ summed.performs.height in
-    let are : AreOctetsIn c.args.first_hdpc (length hdpc.rows) old = record { within = c.requires.height; fits = c.requires.fits } in
-    let beside : HasPivotsBeside p.rows p.order p.places c.args.first_hdpc (length hdpc.rows) hdpc.width old = record { columns = c.requires.order; few = c.requires.few; pivots = c.requires.pivots; apart = c.requires.apart } in
     record {
       hdpc = record {
-        rows = rw count (octets_still c.args.first_hdpc (length hdpc.rows) old now are heights);
+        rows = rw count (octets_still c.args.first_hdpc (length hdpc.rows) old now c.requires.rows heights);
         some = omega (arith, count, c.height.ensures, c.if-height-eq0.false);
-        in_width = omega (arith, width, c.loop-column-test.true, c.end_of_pivots-column-end.ensures.within, c.requires.order.place_count);
+        in_width = omega (arith, width, c.loop-column-test.true, c.end_of_pivots-column-end.ensures.within, c.requires.pivots.columns.place_count);
         lanes = v.lanes;
       };
-      pivots = rw (count, width) (beside_still p.rows p.order p.places c.args.first_hdpc (length hdpc.rows) hdpc.width old now beside heights);
+      pivots = rw (count, width) (beside_still p.rows p.order p.places c.args.first_hdpc (length hdpc.rows) hdpc.width old now c.requires.pivots heights);
     }
 
 pub loop-column-preserved : goal.loop-column-preserved
@@ -74,11 +72,11 @@ loop-column-preserved c =
     let width = hdpc.width in
     let height : length was.table.rows ≡ count = ap (λ (t : OctetTable). length t.rows) (v.table ∙ c.in_ok-hdpc_rows.ensures.table) ∙ c.in_ok-sum_rows.ensures.height in
     let beside : HasPivotsBeside p.rows p.order p.places first count width cur =
-    beside_still p.rows p.order p.places first count width c.args.recorded.now cur (record { columns = c.requires.order; few = c.requires.few; pivots = c.requires.pivots; apart = c.requires.apart }) c.in_ok-sum_rows.ensures.summed.performs.height in
+    beside_still p.rows p.order p.places first count width c.args.recorded.now cur c.requires.pivots c.in_ok-sum_rows.ensures.summed.performs.height in
     let turn : ChangesOctets p.rows p.order first count (octets_from column (octet_in was)) (octets_from (column + 1) (octet_in now)) mid new =
     subst (λ (n : ℕ). ChangesOctets p.rows p.order first n (octets_from column (octet_in was)) (octets_from (column + 1) (octet_in now)) mid new) height c.in_ok-clear_column.ensures.changed in
     let fresh : (q : ℕ) → q < column → at p.places q ≢ at p.places column = (λ (q : ℕ) (l : q < column) (e : at p.places q ≡ at p.places column).
-    let same : q ≡ column = sym (c.requires.order.placed q (omega (arith, c.end_of_pivots-column-end.ensures.within, c.requires.order.place_count))).1 ∙ ap (at p.order) e ∙ (c.requires.order.placed column (omega (arith, c.end_of_pivots-column-end.ensures.within, c.requires.order.place_count))).1 in
+    let same : q ≡ column = sym (c.requires.pivots.columns.placed q (omega (arith, c.end_of_pivots-column-end.ensures.within, c.requires.pivots.columns.place_count))).1 ∙ ap (at p.order) e ∙ (c.requires.pivots.columns.placed column (omega (arith, c.end_of_pivots-column-end.ensures.within, c.requires.pivots.columns.place_count))).1 in
     omega (arith, same, l)) in
     record {
       table = c.clear_column.ensures.table ∙ v.table;
@@ -112,14 +110,14 @@ returns-clause-cleared c =
     let summed : CombinesOctets first count width (entry_of hdpc) (entry_of sums) old cur = c.in_ok-sum_rows.ensures.summed in
     let heights : length sums.rows ≡ count = c.in_ok-sum_rows.ensures.height in
     let widths : sums.width ≡ width = c.in_ok-sum_rows.ensures.width in
-    let beside : HasPivotsBeside p.rows p.order p.places first count width old = record { columns = c.requires.order; few = c.requires.few; pivots = c.requires.pivots; apart = c.requires.apart } in
+    let beside = c.requires.pivots in
     let last : c.loop-column.column ≡ c.end_of_pivots-column-end.result = omega (arith, c.loop-column.auto.column-end) in
     let begun : ChangesOctets p.rows p.order first count (entry_of hdpc) (octets_from 0 (octet_in start)) old cur =
     changes_same p.rows p.order p.places first count width (entry_of hdpc) (entry_of sums) (octets_from 0 (octet_in start)) old cur
     (λ i q l n. sym (from_column 0 (octet_in start) i (at p.order q) (omega arith) ∙ c.in_ok-hdpc_rows.ensures.octets i (at p.order q) (rw heights l) (rw widths (in_width p.rows p.order p.places first count width old beside q n))))
     (changes_combined p.rows p.order p.places first count width (entry_of hdpc) (entry_of sums) old cur beside summed) in
     let changed = changes_more p.rows p.order p.places first count width (entry_of hdpc) (octets_from 0 (octet_in start)) (octets_from c.loop-column.column (octet_in end)) old cur new beside begun c.loop-column.invariant.changed in
-    clears_octets p.rows p.order p.places first count width (entry_of hdpc) (octet_in end) old new c.loop-column.column beside c.requires.hdpc_octets.elements changed
+    clears_octets p.rows p.order p.places first count width (entry_of hdpc) (octet_in end) old new c.loop-column.column beside changed
     (rw last c.end_of_pivots-column-end.ensures.last)
 
 pub returns-clause-few : goal.returns-clause-few
@@ -128,7 +126,7 @@ returns-clause-few c =
     let few = c.loop-column.invariant.few in
     let summed = c.in_ok-sum_rows.ensures.few in
     let met = few_places few.0 (length c.args.peeling.now.rows) few.1.which few.1.are in
-    let done : c.loop-column.column ≤ hdpc.width = omega (arith, c.loop-column.auto.column-end, c.end_of_pivots-column-end.ensures.within, c.requires.order.place_count) in
+    let done : c.loop-column.column ≤ hdpc.width = omega (arith, c.loop-column.auto.column-end, c.end_of_pivots-column-end.ensures.within, c.requires.pivots.columns.place_count) in
     let all = hdpc_sum (length hdpc.rows - 1) (length hdpc.rows) hdpc.width c.loop-column.column few.0 (length c.args.peeling.now.rows) done met in
     let so_far = few.2 in
     omega (arith, all, so_far, summed)

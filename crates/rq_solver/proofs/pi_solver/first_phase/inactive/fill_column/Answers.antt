@@ -1,7 +1,7 @@
 -- What the check leaves to show of `pi_solver::first_phase::inactive::fill_column`.
 use Rattle.std.proofs.Common.{◌<◌, length, lit<, arith}
 use Rattle.rq_algebra.specs.Systems.{at}
-use Rattle.rq_solver.proofs.LeadingRows.{column_first, column_next}
+use Rattle.rq_solver.proofs.InactiveFilling.{column_first, column_next}
 use Rattle.rq_elimination.proofs.Writes.{sets_entry}
 use Rattle.rq_solver.proofs.pi_solver.first_phase.inactive.fill_column.Goals as goal
 

@@ -1,6 +1,6 @@
 -- What the check leaves to show of `pi_solver::first_phase::inactive::fill_inactive`.
 use Rattle.std.proofs.Common.{length}
-use Rattle.rq_solver.proofs.LeadingRows.{leading_next}
+use Rattle.rq_solver.proofs.InactiveFilling.{leading_next}
 use Rattle.rq_solver.proofs.pi_solver.first_phase.inactive.fill_inactive.Goals as goal
 
 pub loop-from-preserved : goal.loop-from-preserved

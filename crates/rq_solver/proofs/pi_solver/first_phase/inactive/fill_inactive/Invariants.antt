@@ -1,7 +1,7 @@
 -- What the loops keep in `pi_solver::first_phase::inactive::fill_inactive`.
 use Rattle.std.proofs.Common.{length}
-use Rattle.rq_solver.specs.InactiveColumns.{HasLeading}
-use Rattle.rq_solver.proofs.LeadingRows.{rows_so_far}
+use Rattle.rq_elimination.specs.LeadingRows.{HasLeading}
+use Rattle.rq_solver.proofs.InactiveFilling.{rows_so_far}
 use Rattle.rq_solver.proofs.pi_solver.first_phase.inactive.fill_inactive.Given as goal
 
 abbrev pub invariant-loop-from : goal.invariant-loop-from

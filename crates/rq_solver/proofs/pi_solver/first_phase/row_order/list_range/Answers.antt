@@ -7,7 +7,7 @@ use Rattle.rq_solver.proofs.pi_solver.first_phase.row_order.list_range.Goals as 
 pub loop-row-init : goal.loop-row-init
 loop-row-init c = record {
   marked = c.requires.marked;
-  more = more_none c.args.listed.now.items;
+  more = more_none c.args.row_order.now.items;
   range = λ r l m. absurd (omega arith);
 }
 
@@ -17,9 +17,9 @@ loop-row-preserved c =
     let turn = c.in_ok-list_row.ensures in
     record {
       marked = turn.marked;
-      more = more_more c.args.listed.now.items c.loop-row.listed.items c.list_row.new.listed.items v.more turn.more;
+      more = more_more c.args.row_order.now.items c.loop-row.row_order.items c.list_row.new.row_order.items v.more turn.more;
       range = λ r l m. elim (cases_eq r c.loop-row.row) [
-        | inl e ↦ subst (Contains c.list_row.new.listed.items) (sym e) turn.has
-        | inr d ↦ more_contains c.loop-row.listed.items c.list_row.new.listed.items r turn.more (v.range r l (omega arith))
+        | inl e ↦ subst (Contains c.list_row.new.row_order.items) (sym e) turn.has
+        | inr d ↦ more_contains c.loop-row.row_order.items c.list_row.new.row_order.items r turn.more (v.range r l (omega arith))
       ];
     }

@@ -5,7 +5,7 @@ use Rattle.rq_solver.proofs.pi_solver.first_phase.row_order.list_range.Given as 
 
 abbrev pub invariant-loop-row : goal.invariant-loop-row
 invariant-loop-row l = record {
-  marked : IsMarked l.listed.items l.is_listed;
-  more : ListsMore l.fn.listed.items l.listed.items;
-  range : (r : ℕ) → l.start ≤ r → r < l.row → Contains l.listed.items r;
+  marked : IsMarked l.row_order.items l.is_listed;
+  more : ListsMore l.fn.row_order.items l.row_order.items;
+  range : (r : ℕ) → l.start ≤ r → r < l.row → Contains l.row_order.items r;
 }

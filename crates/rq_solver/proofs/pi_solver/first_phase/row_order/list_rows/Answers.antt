@@ -11,5 +11,5 @@ loop-row-preserved c =
     let unmarked = next_unmarked rows i c.loop-row.is_listed (rw c.loop-row.auto.is_listed c.requires.rows) c.loop-row-test.true (rw v.listed at v.marked) in
     record {
       marked = turn.marked;
-      listed = next_listed rows c.loop-row.listed.items c.list_row.new.listed.items i c.loop-row-test.true v.listed (turn.fresh unmarked);
+      listed = next_listed rows c.loop-row.row_order.items c.list_row.new.row_order.items i c.loop-row-test.true v.listed (turn.fresh unmarked);
     }

@@ -5,6 +5,6 @@ use Rattle.rq_solver.proofs.pi_solver.first_phase.row_order.list_rows.Given as g
 
 abbrev pub invariant-loop-row : goal.invariant-loop-row
 invariant-loop-row l = record {
-  marked : IsMarked l.listed.items l.is_listed;
-  listed : l.listed.items ≡ take l.row-index l.rows;
+  marked : IsMarked l.row_order.items l.is_listed;
+  listed : l.row_order.items ≡ take l.row-index l.rows;
 }

@@ -1,6 +1,6 @@
-//! A column that shows what equations leave open, for which the RFC has no phase: where an inactive
-//! column is left without a pivot, the rows as the second phase left them (RFC 6330, section 5.4.2.3)
-//! are solved with zeros as values.
+//! A null vector, which shows what equations leave open, and for which the RFC has no phase: where an
+//! inactive column is left without a pivot, the rows as the second phase left them (RFC 6330, section
+//! 5.4.2.3) are solved with zeros as values.
 ghost use Rattle.std.specs.Prelude.{◌≡◌, ℕ, ◌+◌, ◌<◌, ◌≤◌, All, length, IfOk};
 ghost use Rattle.rq_algebra.specs.Operations.{plain};
 ghost use Rattle.rq_algebra.specs.Parities.{sum_listed};
@@ -19,7 +19,7 @@ impl Elimination {
     /// A column that isn't all zeros and solves the rows with zeros as values. It has 1 in the first
     /// inactive column without a pivot, and zeros in those behind it. Those before it and then the
     /// pivots' columns are found by substitution.
-    pub(super) fn homogeneous_column(&self, alloc: Global) -> Result<Vec<u8>, AllocError>
+    pub(super) fn null_vector(&self, alloc: Global) -> Result<Vec<u8>, AllocError>
         requires under_way { IsUnderWay self.now }
         requires stuck { IsStuck (left_rows self.now) (inactive_count self.now) self.now.recorded.table }
         ensures elements { IfOk result (λ column. IsColumn octets (length self.now.peeling.places) (at column.items)) }

@@ -4,7 +4,8 @@ use Rattle.std.proofs.lemmas.Bool.{cases_eq, cases_lt}
 use Rattle.rq_algebra.specs.Systems.{at}
 use Rattle.rq_parts.specs.DenseOctetMatrix.{OctetTable, entry_of, HasOctets}
 use Rattle.rq_standard.specs.ConstraintMatrix.{with_octet_rows}
-use Rattle.rq_solver.specs.InactiveColumns.{HasLeading, FillsColumn, FillsRow}
+use Rattle.rq_elimination.specs.LeadingRows.{HasLeading}
+use Rattle.rq_solver.specs.InactiveColumns.{FillsColumn, FillsRow}
 use Rattle.rq_peeling.specs.SystemRows.{one_in}
 use Rattle.rq_solver.proofs.OctetRows.{octet_row, octet_row_or_bit_row, bit_row}
 use Rattle.rq_peeling.proofs.PlaceCounts.{count_next, count_skipped}

@@ -8,7 +8,7 @@ use Rattle.std.proofs.lemmas.List.Elements.{All-append, Contains-get_or}
 use Rattle.std.proofs.lemmas.List.Sorted.{Contains-permutation, IsPermutation-sym}
 use Rattle.std.proofs.Math.ListN.{get_or-map}
 use Rattle.rq_algebra.specs.Arrangements.{ArePlaces, IsFewOn}
-use Rattle.rq_algebra.proofs.PivotColumns.{ReadsPivots, HasFirstPivots}
+use Rattle.rq_algebra.specs.PivotColumns.{ReadsPivots, HasFirstPivots}
 use Rattle.rq_algebra.specs.Following.{Follows}
 use Rattle.rq_algebra.specs.Operations.{Operation, Reorder, FindsColumn}
 use Rattle.rq_algebra.specs.Systems.{at, dot, stacked, HasElements, HasHomogeneousColumn, IsColumn, IsHomogeneousColumn, Solves}
