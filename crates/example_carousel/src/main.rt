@@ -50,17 +50,20 @@ impl Receiver {
         Ok(Receiver { decoder, tallies })
     }
 
-    // A packet goes by.
-    fn pass(&mut self, packet: EncodingPacket, lost: bool) -> Result<()> {
-        let number = usize::from(packet.payload_id().source_block_number());
-        if let Some(tally) = self.tallies.get_mut(number) {
-            tally.lost = tally.lost.saturating_add(u32::from(lost));
-            tally.came = tally.came.saturating_add(u32::from(!lost));
+    // A packet comes.
+    fn take(&mut self, packet: EncodingPacket) -> Result<()> {
+        if let Some(tally) = self.tallies.get_mut(block_of(&packet)) {
+            tally.came = tally.came.saturating_add(1);
         }
-        if !lost {
-            self.decoder.add_new_packet(packet)?;
-        }
+        self.decoder.add_new_packet(packet)?;
         Ok(())
+    }
+
+    // A packet is lost on its way.
+    fn lose(&mut self, packet: &EncodingPacket) {
+        if let Some(tally) = self.tallies.get_mut(block_of(packet)) {
+            tally.lost = tally.lost.saturating_add(1);
+        }
     }
 
     // How many packets it needs at least. Notes which blocks need none.
@@ -75,6 +78,10 @@ impl Receiver {
         }
         Ok(missing)
     }
+}
+
+fn block_of(packet: &EncodingPacket) -> usize {
+    usize::from(packet.payload_id().source_block_number())
 }
 
 fn main(rt: HostRuntime) -> Result<()> {
@@ -138,8 +145,11 @@ fn send_block(
     let first = u32::from(round) * PACKETS;
     for esi in first..first + PACKETS {
         let packet = encoder.packet(PayloadId::new(block, esi)?)?;
-        let lost = random.byte() < 85;
-        receiver.pass(packet, lost)?;
+        if random.byte() < 85 {
+            receiver.lose(&packet);
+        } else {
+            receiver.take(packet)?;
+        }
     }
     Ok(())
 }

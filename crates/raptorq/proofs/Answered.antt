@@ -1,7 +1,7 @@
 -- What a decoder of a block answers.
-use Rattle.std.proofs.Common.{◌≡◌, ℕ, ◌*◌, ◌<◌, true, List, length, Option, Some, None, refl, sym, ap, ◌∙◌, arith, inl, inr}
+use Rattle.std.proofs.Common.{◌≡◌, ℕ, ◌*◌, ◌<◌, List, length, Option, Some, None, refl, sym, ap, ◌∙◌, arith, inl, inr}
 use Rattle.std.proofs.lemmas.Option.{same_Some}
-use Rattle.std.specs.Prelude.{is_some, IsSome, IfSome, unwrap_or}
+use Rattle.std.specs.Prelude.{IfSome, unwrap_or}
 use Rattle.std.specs.Option.{ForSome}
 use Rattle.rq_bytes.specs.SymbolSlab.{Slab, symbol_in}
 use Rattle.rq_standard.specs.Cutting.{symbol_of_block, plain_symbol}
@@ -14,10 +14,6 @@ use Rattle.raptorq.specs.Known.{IsReceivedSolution, rebuilt_symbol}
 use Rattle.raptorq.specs.Missing.{missing_count}
 use Rattle.raptorq.proofs.ReceivedEquations.{internal_below, came_sum}
 use Rattle.raptorq.proofs.MissingCounts.{missing_count-zero, missing_count-none}
-
-pub some_by : (o : Option (List ℕ)) → is_some o ≡ true → IsSome o
-some_by None h = absurd (cc h)
-some_by (Some x) h = refl
 
 -- a source symbol that was received is the sum of any column that solves what was received
 came_source : (h : ReceivedBlock) (column : ℕ → List ℕ) (e : ℕ) (x : List ℕ) → SolvesReceived h column → e < h.source_symbols → h.received e ≡ Some x → x ≡ tuple_sum h.row column e

@@ -22,9 +22,9 @@ use Rattle.raptorq.specs.declared.decoder.object.ObjectBlock.{ObjectBlock}
 use Rattle.raptorq.specs.BlockBytes.{bytes_of_block, object_part, answered_part, PartsMakeObject, IsPartAnswer, AnswersPart}
 use Rattle.raptorq.specs.Decoder.{answer_of, state_of}
 use Rattle.raptorq.specs.SourceBlockDecoder.{received_of}
-use Rattle.raptorq.proofs.EncodedBlocks.{block_byte}
+use Rattle.raptorq.proofs.EncodedBlocks.{bytes_of_block-byte}
 use Rattle.raptorq.proofs.Numbered.{length-numbered, number_at}
-use Rattle.raptorq.proofs.ObjectBlocks.{state, number_of, IsCut, answer_here}
+use Rattle.raptorq.proofs.ObjectBlocks.{state, block_number, IsCut, answer_here}
 
 -- each answer is as long as its block
 abbrev pub AreLong : State → Type 0
@@ -86,7 +86,7 @@ part_is c object b long =
     let part = object_part c b (block_bytes c object b) in
     let size : length part ≡ min rest whole = length-take rest (block_bytes c object b) ∙ ap (min rest) (length-block_bytes c object b) in
     let same : length part ≡ length (bytes_of_block c object b) = omega (arith, size, length-take whole (drop start object), length-drop start object, long) in
-    ext_get_or 0 part (bytes_of_block c object b) same (λ i below. get_or-take rest (block_bytes c object b) i 0 (omega (arith, below, size)) ∙ sym (block_byte c object b i))
+    ext_get_or 0 part (bytes_of_block c object b) same (λ i below. get_or-take rest (block_bytes c object b) i 0 (omega (arith, below, size)) ∙ sym (bytes_of_block-byte c object b i))
 
 answered_is : (c : Configuration) (object : List ℕ) (packets : List Packet) (b : ℕ) (late : Bool) (h : ReceivedBlock) (a : Option (List ℕ)) → length object ≡ c.transfer_length → BlockStandsFor late (block_bytes c object b) b packets h a
     → IfSome (option_map (object_part c b) a) (λ bytes. bytes ≡ bytes_of_block c object b)
@@ -116,14 +116,14 @@ seen_long : (o : Option (Vec ℕ Global)) (m : ℕ) → ForSome o (λ v. length 
 seen_long None m long = tt
 seen_long (Some v) m long = long v refl
 
-module _ (c : Configuration) (items : List ObjectBlock) (numbered : map number_of items ≡ range_with_len 0 c.source_blocks) (same : All (λ b. (received_of b.decoder).configuration ≡ c) items) (cut : All (λ b. IsCut c (received_of b.decoder)) items) where
+module _ (c : Configuration) (items : List ObjectBlock) (numbered : map block_number items ≡ range_with_len 0 c.source_blocks) (same : All (λ b. (received_of b.decoder).configuration ≡ c) items) (cut : All (λ b. IsCut c (received_of b.decoder)) items) where
   each_long : AreLong (state c items)
   each_long b below =
-      let within : b < length items = omega (arith, below, length-numbered number_of c.source_blocks items numbered) in
+      let within : b < length items = omega (arith, below, length-numbered block_number c.source_blocks items numbered) in
       let first = some_block items b within in
       let x = get_or items b first in
       let is : x ≡ get_or items b x = get_or_default items b first x within in
-      let symbols : (received_of x.decoder).source_symbols ≡ block_symbols c b = cut b first within ∙ ap (block_symbols c) (number_at number_of c.source_blocks items numbered b x below is) in
+      let symbols : (received_of x.decoder).source_symbols ≡ block_symbols c b = cut b first within ∙ ap (block_symbols c) (number_at block_number c.source_blocks items numbered b x below is) in
       let size : (received_of x.decoder).configuration.symbol_size ≡ c.symbol_size = ap (λ k. k.symbol_size) (same b first within) in
       let whole : (received_of x.decoder).source_symbols * (received_of x.decoder).configuration.symbol_size ≡ block_symbols c b * c.symbol_size =
       ap (λ m. m * (received_of x.decoder).configuration.symbol_size) symbols ∙ ap (λ m. block_symbols c b * m) size in
@@ -134,9 +134,9 @@ pub parts_of_decoder : (d : Decoder) → PartsMakeObject (state_of d)
 parts_of_decoder d = parts_make_object (state_of d) (each_long d.config d.blocks.items d.numbered d.same d.cut)
 
 -- a number that no block has
-pub no_part : (c : Configuration) (items : List ObjectBlock) (n : ℕ) → map number_of items ≡ range_with_len 0 c.source_blocks → c.source_blocks ≤ n → None ≡ answered_part (state c items) n
+pub no_part : (c : Configuration) (items : List ObjectBlock) (n : ℕ) → map block_number items ≡ range_with_len 0 c.source_blocks → c.source_blocks ≤ n → None ≡ answered_part (state c items) n
 no_part c items n numbered past =
-    ap (option_map (object_part c n)) (sym (get_or_past (map answer_of items) n None (omega (arith, past, length-map items answer_of, length-numbered number_of c.source_blocks items numbered))))
+    ap (option_map (object_part c n)) (sym (get_or_past (map answer_of items) n None (omega (arith, past, length-map items answer_of, length-numbered block_number c.source_blocks items numbered))))
 
 module _ (c : Configuration) (items : List ObjectBlock) (n : ℕ) (x : ObjectBlock) (below : n < length items) (is : x ≡ get_or items n x) where
   part_here : (a : Option (List ℕ)) → answer_of x ≡ a → option_map (object_part c n) a ≡ answered_part (state c items) n

@@ -39,23 +39,15 @@ appends_packet b esi old cur mid new id small spelled so named symbol =
 -- ---- block after block
 
 -- the encoder of an object, by what is encoded of its blocks
-abbrev pub encoder_of : List TableRow → Configuration → List ℕ → Encoded
-encoder_of table c object = record { configuration = c; block = new_block_encoded table c object }
+abbrev pub new_encoded : List TableRow → Configuration → List ℕ → Encoded
+new_encoded table c object = record { configuration = c; block = new_block_encoded table c object }
 
 -- the packets of the first n blocks stand behind bytes, and the others are left
 pub record AppendsBlocksSoFar (start : BlockCutter) (repair n : ℕ) (cutter : BlockCutter) (old new : List ℕ) : Type 0 where
   pub packets : List Packet
   pub grown : new ≡ old ++ frames_of packets
-  pub encoded : (object : List ℕ) → StandsBefore object 0 start → AreEncodedSoFar start.config.now repair n (encoder_of start.table.now start.config.now object) packets
+  pub encoded : (object : List ℕ) → StandsBefore object 0 start → AreEncodedSoFar start.config.now repair n (new_encoded start.table.now start.config.now object) packets
   pub left : (object : List ℕ) → StandsBefore object 0 start → StandsBefore object n cutter
-
-pub so_far-none : (start : BlockCutter) (repair : ℕ) (bytes : List ℕ) → AppendsBlocksSoFar start repair 0 start bytes bytes
-so_far-none start repair bytes = record {
-  packets = [];
-  grown = sym (append-nil bytes);
-  encoded = λ object stands. record { ids = refl; each = λ table any made. tt };
-  left = λ object stands. stands;
-}
 
 pub so_far-more : (start old_cutter new_cutter : BlockCutter) (repair n end : ℕ) (b : BlockEncoded) (old cur new : List ℕ) → old_cutter.table ≡ start.table → old_cutter.config ≡ start.config → n < start.config.now.source_blocks
     → end ≡ length b.source + repair → AppendsBlocksSoFar start repair n old_cutter old cur → CutsBlock n old_cutter b new_cutter → AppendsBlock b end cur new → AppendsBlocksSoFar start repair (n + 1) new_cutter old new
@@ -65,7 +57,7 @@ so_far-more start old_cutter new_cutter repair n end b old cur new table config 
   encoded = λ object stands.
       let c = start.config.now in
       let is : b ≡ new_block_encoded start.table.now c object n = (cuts object (so.left object stands)).0 ∙ (λ i. new_block_encoded (table i).now (config i).now object n) in
-      encoded_more (encoder_of start.table.now c object) repair n end b so.packets more.packets (so.packets ++ more.packets) below is (ap (λ k. k.number) is)
+      encoded_more (new_encoded start.table.now c object) repair n end b so.packets more.packets (so.packets ++ more.packets) below is (ap (λ k. k.number) is)
       (ap (λ k. length k.source) is ∙ length-block_source c object n) so_many (so.encoded object stands) more.are refl;
   left = λ object stands. (cuts object (so.left object stands)).1;
 }
@@ -74,7 +66,7 @@ pub so_far-all : (start cutter : BlockCutter) (repair n : ℕ) (old new : List �
 so_far-all start cutter repair n old new all so = record {
   packets = so.packets;
   grown = so.grown;
-  encoded = λ object long stands. encoded_all (encoder_of start.table.now start.config.now object) repair n so.packets all (so.encoded object stands) start.table.now object (record { long = long; block = λ b below. refl });
+  encoded = λ object long stands. encoded_all (new_encoded start.table.now start.config.now object) repair n so.packets all (so.encoded object stands) start.table.now object (record { long = long; block = λ b below. refl });
 }
 
 -- ---- bytes with others behind them
@@ -84,6 +76,3 @@ so_far-extends start cutter repair n old new so = record { more = frames_of so.p
 
 pub extends_more : (a b c : List ℕ) → KeepsFront a b → KeepsFront b c → KeepsFront a c
 extends_more a b c one two = record { more = one.more ++ two.more; grown = two.grown ∙ ap (λ xs. xs ++ two.more) one.grown ∙ append_assoc a one.more two.more }
-
-pub extends_none : (a b : List ℕ) → b ≡ a → KeepsFront a b
-extends_none a b same = record { more = []; grown = same ∙ sym (append-nil a) }

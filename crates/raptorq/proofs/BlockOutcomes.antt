@@ -22,7 +22,7 @@ use Rattle.rq_standard.specs.BitTable.{BitTable}
 use Rattle.rq_standard.specs.ConstraintMatrix.{IsBinaryPart, IsBinaryPartWithoutHdpc, with_octet_rows}
 use Rattle.rq_standard.specs.OctetField.{octets}
 use Rattle.rq_standard.specs.TableRows.{intermediate_symbols}
-use Rattle.rq_standard.specs.Equations.{equations, equation_count, fixed_equations, ldpc_coefficient, hdpc_coefficient, symbol_coefficient}
+use Rattle.rq_standard.specs.Equations.{equations, equation_count, precode_equations, ldpc_coefficient, hdpc_coefficient, symbol_coefficient}
 use Rattle.rq_standard.specs.IdLists.{HasDeterminedRows}
 use Rattle.rq_base.specs.HdpcPart.{IsHdpcPart}
 use Rattle.rq_solver.specs.Solving.{AreEquations, AreEquationsWithoutHdpc, SolvesOrShows, solver_of}
@@ -85,11 +85,11 @@ module _ (row : TableRow) (ids : List ℕ) (bits : BitTable) (part : IsBinaryPar
   same_without i k l m = elim (cases_lt i row.ldpc_symbols) [
     | inl above ↦
         part.ldpc i k above m
-        ∙ ap (λ (r : ℕ → ℕ). r k) (sym (stacked_above row.ldpc_symbols (fixed_equations row) symbol_rows i above ∙ stacked_above row.ldpc_symbols (ldpc_coefficient row) (hdpc_coefficient row) i above))
+        ∙ ap (λ (r : ℕ → ℕ). r k) (sym (stacked_above row.ldpc_symbols (precode_equations row) symbol_rows i above ∙ stacked_above row.ldpc_symbols (ldpc_coefficient row) (hdpc_coefficient row) i above))
     | inr below ↦
         let j : ℕ = i - row.ldpc_symbols in
         let is : row.ldpc_symbols + j ≡ i = omega arith in
-        rw (sym is) (part.symbols j k (omega arith) m ∙ ap (λ (r : ℕ → ℕ). r k) (sym (stacked_below row.ldpc_symbols (fixed_equations row) symbol_rows j)))
+        rw (sym is) (part.symbols j k (omega arith) m ∙ ap (λ (r : ℕ → ℕ). r k) (sym (stacked_below row.ldpc_symbols (precode_equations row) symbol_rows j)))
   ]
 
   -- what finds the column of the rows handed in finds that of the first equations
@@ -107,23 +107,23 @@ module _ (row : TableRow) (ids : List ℕ) (bits : BitTable) (part : IsBinaryPar
 -- ---- of any of the equations
 
 module _ (row : TableRow) (precode_rows : ℕ) (ids : List ℕ) (few : precode_rows ≤ row.ldpc_symbols + row.hdpc_symbols) where
-  all_fixed : ℕ
-  all_fixed = row.ldpc_symbols + row.hdpc_symbols
+  precode_count : ℕ
+  precode_count = row.ldpc_symbols + row.hdpc_symbols
 
   id_rows : ℕ → ℕ → ℕ
   id_rows = rows_of (symbol_coefficient row) ids
 
   -- the first equations are among all of them
   first_stand : RowsStandIn (intermediate_symbols row) (precode_rows + length ids) (first_equations row precode_rows ids) (equation_count row ids) (equations row ids)
-  unfolding all_fixed id_rows
+  unfolding precode_count id_rows
   first_stand i l = elim (cases_lt i precode_rows) [
-    | inl above ↦ (i, (omega arith), λ k n. ap (λ (r : ℕ → ℕ). r k) (stacked_above all_fixed (fixed_equations row) id_rows i (omega arith) ∙ sym (stacked_above precode_rows (fixed_equations row) id_rows i above)))
+    | inl above ↦ (i, (omega arith), λ k n. ap (λ (r : ℕ → ℕ). r k) (stacked_above precode_count (precode_equations row) id_rows i (omega arith) ∙ sym (stacked_above precode_rows (precode_equations row) id_rows i above)))
     | inr below ↦
         let j : ℕ = i - precode_rows in
         let is : i ≡ precode_rows + j = omega arith in (
-          all_fixed + j,
+          precode_count + j,
           (omega arith),
-          λ k n. ap (λ (r : ℕ → ℕ). r k) (stacked_below all_fixed (fixed_equations row) id_rows j ∙ sym (ap (first_equations row precode_rows ids) is ∙ stacked_below precode_rows (fixed_equations row) id_rows j)),
+          λ k n. ap (λ (r : ℕ → ℕ). r k) (stacked_below precode_count (precode_equations row) id_rows j ∙ sym (ap (first_equations row precode_rows ids) is ∙ stacked_below precode_rows (precode_equations row) id_rows j)),
         )
   ]
 

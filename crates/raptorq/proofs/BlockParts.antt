@@ -11,8 +11,8 @@ use Rattle.rq_standard.proofs.BlockCuts.{larger_block, smaller_block}
 abbrev pub four : ℕ → ℕ → ℕ × ℕ × ℕ × ℕ
 four i j = let p = parts_of i j in (p.larger, p.smaller, p.larger_count, p.smaller_count)
 
-pub parts_are : (c : Configuration) (i j : ℕ) (parts : ℕ × ℕ × ℕ × ℕ) → parts ≡ four i j → i ≡ total_symbols c → j ≡ c.source_blocks → parts ≡ four (total_symbols c) c.source_blocks
-parts_are c i j parts is symbols blocks = is ∙ ap (λ n. four n j) symbols ∙ ap (four (total_symbols c)) blocks
+pub block_parts_are : (c : Configuration) (i j : ℕ) (parts : ℕ × ℕ × ℕ × ℕ) → parts ≡ four i j → i ≡ total_symbols c → j ≡ c.source_blocks → parts ≡ four (total_symbols c) c.source_blocks
+block_parts_are c i j parts is symbols blocks = is ∙ ap (λ n. four n j) symbols ∙ ap (four (total_symbols c)) blocks
 
 pub larger_part : (c : Configuration) (b : ℕ) (parts : ℕ × ℕ × ℕ × ℕ) → parts ≡ four (total_symbols c) c.source_blocks → b < parts.2 → parts.0 ≡ block_symbols c b
 larger_part c b parts is below = ap (λ p. p.0) is ∙ sym (larger_block c b (omega (arith, ap (λ (p : ℕ × ℕ × ℕ × ℕ). p.2) is)))

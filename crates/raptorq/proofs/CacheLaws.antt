@@ -43,8 +43,8 @@ held_at count cache = position (λ n. n == count) cache.counts
 pub held_by : (counts : List ℕ) (count : ℕ) (place : Option ℕ) → place ≡ position (λ n. n == count) counts → is_some place ≡ holds_count counts count
 held_by counts count place is = ap is_some is ∙ is_some_if (nat_lt (position_or_len (λ n. n == count) counts) (length counts)) _ ∙ some_first (λ n. n == count) counts
 
-pub place_found : (counts : List ℕ) (count i : ℕ) → position (λ n. n == count) counts ≡ Some i → slice_get counts i ≡ Some count
-place_found counts count i is =
+pub count_found : (counts : List ℕ) (count i : ℕ) → position (λ n. n == count) counts ≡ Some i → slice_get counts i ≡ Some count
+count_found counts count i is =
     let found = position-Some (λ n. n == count) counts i count is in
     let same : get_or counts i count ≡ count = eqb-true (get_or counts i count) count found.1 in
     slice_get_read counts (length counts) i count refl found.0 (sym same)
@@ -63,7 +63,7 @@ count_at plans i p below is =
 pub plan_found : (table : List TableRow) (plans : List SourceBlockEncodingPlan) (counts : List ℕ) (count place : ℕ) (p : SourceBlockEncodingPlan) → counts_in plans ≡ counts → All (IsPlanOver table) plans → position (λ n. n == count) counts ≡ Some place
     → p ≡ get_or plans place p → (p.source_symbol_count ≡ count) × (p.row.numbers ≡ row_of table count)
 plan_found table plans counts count place p shown over found is =
-    let at : slice_get (counts_in plans) place ≡ Some count = ap (λ xs. slice_get xs place) shown ∙ place_found counts count place found in
+    let at : slice_get (counts_in plans) place ≡ Some count = ap (λ xs. slice_get xs place) shown ∙ count_found counts count place found in
     let below = slice_get_within (counts_in plans) place count at in
     let here : place < length plans = omega (arith, length-map plans (λ (q : SourceBlockEncodingPlan). q.source_symbol_count)) in
     let same : p.source_symbol_count ≡ count = sym (count_at plans place p here is) ∙ get_or_from_slice_get (counts_in plans) place count 0 at in
@@ -72,7 +72,7 @@ plan_found table plans counts count place p shown over found is =
 -- a count that is held is one that the table has a row for
 pub held_known : (table : List TableRow) (plans : List SourceBlockEncodingPlan) (counts : List ℕ) (count place : ℕ) → counts_in plans ≡ counts → All (IsPlanOver table) plans → position (λ n. n == count) counts ≡ Some place → plan_refusal table count ≡ Ok tt
 held_known table plans counts count place shown over found =
-    let at : slice_get (counts_in plans) place ≡ Some count = ap (λ xs. slice_get xs place) shown ∙ place_found counts count place found in
+    let at : slice_get (counts_in plans) place ≡ Some count = ap (λ xs. slice_get xs place) shown ∙ count_found counts count place found in
     let below = slice_get_within (counts_in plans) place count at in
     let here : place < length plans = omega (arith, length-map plans (λ (q : SourceBlockEncodingPlan). q.source_symbol_count)) in
     go plans over here at

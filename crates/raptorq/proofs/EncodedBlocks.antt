@@ -49,9 +49,9 @@ module _ (c : Configuration) (object rest : List ℕ) (b whole : ℕ) (is : rest
       back ∙ drop_min whole rest ∙ ap (λ n. drop n rest) many ∙ ap (drop (block_symbols c b * c.symbol_size)) is ∙ drop-drop (block_symbols c b * c.symbol_size) (symbols_before c b * c.symbol_size) object
       ∙ ap (λ n. drop n object) both
 
-pub block_byte : (c : Configuration) (object : List ℕ) (b i : ℕ) → get_or (bytes_of_block c object b) i 0 ≡ get_or (block_bytes c object b) i 0
+pub bytes_of_block-byte : (c : Configuration) (object : List ℕ) (b i : ℕ) → get_or (bytes_of_block c object b) i 0 ≡ get_or (block_bytes c object b) i 0
 unfolding block_bytes
-block_byte c object b i =
+bytes_of_block-byte c object b i =
     let whole = block_symbols c b * c.symbol_size in
     let start = symbols_before c b * c.symbol_size in
     elim (cases_lt i whole) [
@@ -67,7 +67,7 @@ same_symbol c k xs ys e same = λ j. map (λ t. same (place_in_block c k e t) j)
 pub source_is : (c : Configuration) (object bytes : List ℕ) (b k : ℕ) (source : List (List ℕ)) → k ≡ block_symbols c b → bytes ≡ bytes_of_block c object b → source ≡ map (symbol_of_block c k bytes) (range_with_len 0 k) → source ≡ block_source c object b
 source_is c object bytes b k source count is so =
     so ∙ ap (λ xs. map (symbol_of_block c k xs) (range_with_len 0 k)) is ∙ ap (λ n. map (symbol_of_block c n (bytes_of_block c object b)) (range_with_len 0 n)) count
-    ∙ (λ j. map (λ e. same_symbol c (block_symbols c b) (bytes_of_block c object b) (block_bytes c object b) e (block_byte c object b) j) (range_with_len 0 (block_symbols c b)))
+    ∙ (λ j. map (λ e. same_symbol c (block_symbols c b) (bytes_of_block c object b) (block_bytes c object b) e (bytes_of_block-byte c object b) j) (range_with_len 0 (block_symbols c b)))
 
 -- ---- packets
 
@@ -125,14 +125,14 @@ encoded_all e repair n packets all so table object made = record {
 
 -- ---- what an encoder is made of
 
-abbrev pub number_of : SourceBlockEncoder → ℕ
-number_of b = (block_encoded_of b).number
+abbrev pub encoder_number : SourceBlockEncoder → ℕ
+encoder_number b = (block_encoded_of b).number
 
-abbrev pub count_of : SourceBlockEncoder → ℕ
-count_of b = length (block_encoded_of b).source
+abbrev pub source_count : SourceBlockEncoder → ℕ
+source_count b = length (block_encoded_of b).source
 
 module _ (table : List TableRow) (c : Configuration) (object : List ℕ) (items : List SourceBlockEncoder) (encoded : map block_encoded_of items ≡ map (new_block_encoded table c object) (range_with_len 0 c.source_blocks)) where
-  pub new_counts : map count_of items ≡ map (block_symbols c) (range_with_len 0 c.source_blocks)
+  pub new_counts : map source_count items ≡ map (block_symbols c) (range_with_len 0 c.source_blocks)
   new_counts = mapped_through block_encoded_of (new_block_encoded table c object) c.source_blocks items encoded (λ b. length b.source) ∙ (λ i. map (λ b. length-block_source c object b i) (range_with_len 0 c.source_blocks))
 
   pub new_block : (b : ℕ) → b < c.source_blocks → (d : BlockEncoded) → get_or (map block_encoded_of items) b d ≡ new_block_encoded table c object b
@@ -152,13 +152,13 @@ pub block_singular : (table : List TableRow) (c : Configuration) (b : ℕ) → b
 block_singular table c b below singular all = singular (all b below)
 
 -- what a plan for a block's number of symbols is refused for
-pub refuses_block : (table : List TableRow) (c : Configuration) (b count : ℕ) (e : Error) → b < c.source_blocks → count ≡ block_symbols c b → (e ≡ OutOfMemory) ⊎ ((e ≡ Singular) × IsSingular (row_of table count)) → (e ≡ OutOfMemory) ⊎ ((e ≡ Singular) × ¬ (HasNonsingularRows table c))
-refuses_block table c b count e below is (inl memory) = inl memory
-refuses_block table c b count e below is (inr singular) = inr (singular.0, block_singular table c b below (subst (λ k. IsSingular (row_of table k)) is singular.1))
+pub refuses_numbered_block : (table : List TableRow) (c : Configuration) (b count : ℕ) (e : Error) → b < c.source_blocks → count ≡ block_symbols c b → (e ≡ OutOfMemory) ⊎ ((e ≡ Singular) × IsSingular (row_of table count)) → (e ≡ OutOfMemory) ⊎ ((e ≡ Singular) × ¬ (HasNonsingularRows table c))
+refuses_numbered_block table c b count e below is (inl memory) = inl memory
+refuses_numbered_block table c b count e below is (inr singular) = inr (singular.0, block_singular table c b below (subst (λ k. IsSingular (row_of table k)) is singular.1))
 
 -- what a plan of a block's size is refused for
-pub refuses_plan : (table : List TableRow) (c : Configuration) (b count : ℕ) (e : Error) → IsAccepted (greatest_size table) c → b < c.source_blocks → count ≡ block_symbols c b → RefusesPlan table count e → (e ≡ OutOfMemory) ⊎ ((e ≡ Singular) × ¬ (HasNonsingularRows table c))
-refuses_plan table c b count e accepted below is refused = refuses_block table c b count e below is (plan_refused table count e (omega (arith, is, block_symbols_few c b below, accepted.in_table)) refused)
+pub refuses_block_plan : (table : List TableRow) (c : Configuration) (b count : ℕ) (e : Error) → IsAccepted (greatest_size table) c → b < c.source_blocks → count ≡ block_symbols c b → RefusesPlan table count e → (e ≡ OutOfMemory) ⊎ ((e ≡ Singular) × ¬ (HasNonsingularRows table c))
+refuses_block_plan table c b count e accepted below is refused = refuses_numbered_block table c b count e below is (plan_refused table count e (omega (arith, is, block_symbols_few c b below, accepted.in_table)) refused)
 
 -- what it is refused for
 pub refuses_singular : (table : List TableRow) (c : Configuration) (n : ℕ) (e : Error) → new_encoder (greatest_size table) c n ≡ Ok tt → (e ≡ OutOfMemory) ⊎ ((e ≡ Singular) × ¬ (HasNonsingularRows table c)) → RefusesEncoder table c n e

@@ -45,14 +45,14 @@ horner F c coefficient next own sum g x total parts lacks =
 -- ---- symbols that are written
 
 -- one symbol of a slab is another one
-pub record Writes (old new : Slab) (place : ℕ) (symbol : List ℕ) : Type 0 where
+pub record WritesSymbol (old new : Slab) (place : ℕ) (symbol : List ℕ) : Type 0 where
   pub order : new.order ≡ None
   pub size_is : new.symbol_size ≡ old.symbol_size
   pub count : length new.values ≡ length old.values
   pub here : symbol_in new place ≡ symbol
   pub elsewhere : (k : ℕ) → k ≢ place → symbol_in new k ≡ symbol_in old k
 
-pub written : (old new : Slab) (place : ℕ) (symbol : List ℕ) → old.order ≡ None → place < length old.values → new ≡ record old { values = set old.values (meant_at old.order place) symbol } → Writes old new place symbol
+pub written : (old new : Slab) (place : ℕ) (symbol : List ℕ) → old.order ≡ None → place < length old.values → new ≡ record old { values = set old.values (meant_at old.order place) symbol } → WritesSymbol old new place symbol
 written old new place symbol plain below is =
     let values : new.values ≡ set old.values place symbol = ap (λ (s : Slab). s.values) is ∙ ap (λ o. set old.values (meant_at o place) symbol) plain in
     let order : new.order ≡ None = ap (λ (s : Slab). s.order) is ∙ plain in
@@ -65,11 +65,11 @@ written old new place symbol plain below is =
       elsewhere = λ k other. reads k ∙ get_or-set_other old.values place k symbol [] other ∙ ap (λ o. get_or old.values (meant_at o k) []) (sym plain);
     }
 
-pub added : (old new : Slab) (dest src : ℕ) → old.order ≡ None → dest < length old.values → new ≡ after (AddAssign dest src) old → Writes old new dest (add_symbols octets (symbol_in old dest) (symbol_in old src))
+pub added : (old new : Slab) (dest src : ℕ) → old.order ≡ None → dest < length old.values → new ≡ after (AddAssign dest src) old → WritesSymbol old new dest (add_symbols octets (symbol_in old dest) (symbol_in old src))
 unfolding step
 added old new dest src plain below is = written old new dest _ plain below is
 
-pub multiple_added : (old new : Slab) (dest src scalar : ℕ) → old.order ≡ None → dest < length old.values → new ≡ after (Fma dest src scalar) old → Writes old new dest (add_symbols octets (symbol_in old dest) (map (octets.mul scalar) (symbol_in old src)))
+pub multiple_added : (old new : Slab) (dest src scalar : ℕ) → old.order ≡ None → dest < length old.values → new ≡ after (Fma dest src scalar) old → WritesSymbol old new dest (add_symbols octets (symbol_in old dest) (map (octets.mul scalar) (symbol_in old src)))
 unfolding step
 multiple_added old new dest src scalar plain below is = written old new dest _ plain below is
 
@@ -80,7 +80,7 @@ pub allowed : (slab : Slab) (dest src : ℕ) → slab.order ≡ None → dest < 
 allowed slab dest src plain dest_below src_below apart = subst (λ o. IsAllowed (length slab.values) o (AddAssign dest src)) (sym plain) (dest_below, src_below, apart)
 
 -- an octet of a symbol to which a multiple of another one was added, both as they were in a first slab
-pub multiple_at : (first old new : Slab) (dest src scalar : ℕ) → Writes old new dest (add_symbols octets (symbol_in old dest) (map (octets.mul scalar) (symbol_in old src))) → symbol_in old dest ≡ symbol_in first dest → symbol_in old src ≡ symbol_in first src
+pub multiple_at : (first old new : Slab) (dest src scalar : ℕ) → WritesSymbol old new dest (add_symbols octets (symbol_in old dest) (map (octets.mul scalar) (symbol_in old src))) → symbol_in old dest ≡ symbol_in first dest → symbol_in old src ≡ symbol_in first src
     → (p : ℕ) → at (symbol_in new dest) p ≡ octets.add (at (symbol_in first dest) p) (octets.mul scalar (at (symbol_in first src) p))
 multiple_at first old new dest src scalar write same_dest same_src p =
     ap (λ xs. at xs p) write.here ∙ add_symbols_at octets p (symbol_in old dest) (map (octets.mul scalar) (symbol_in old src))
@@ -101,8 +101,8 @@ pub range_numbers : (start count end : ℕ) (xs : List ℕ) → end ≡ start + 
 range_numbers start count end xs ends drained = sym (map-id xs) ∙ items_from_drains xs drained (YieldsList-from_range start end count refl (omega arith))
 
 -- the places of the HDPC symbols, and place 0, are among those of all symbols
-pub places_below : (row : TableRow) (numbers places : List ℕ) → numbers ≡ range_with_len (before_hdpc row) row.hdpc_symbols → places ≡ numbers ++ 0 ∷ [] → (k d : ℕ) → 0 < row.hdpc_symbols → k < length places → get_or places k d < intermediate_symbols row
-places_below row numbers places are is k d some lt =
+pub sum_places_below : (row : TableRow) (numbers places : List ℕ) → numbers ≡ range_with_len (before_hdpc row) row.hdpc_symbols → places ≡ numbers ++ 0 ∷ [] → (k d : ℕ) → 0 < row.hdpc_symbols → k < length places → get_or places k d < intermediate_symbols row
+sum_places_below row numbers places are is k d some lt =
     let few : length numbers ≡ row.hdpc_symbols = ap length are ∙ length-range_with_len (before_hdpc row) row.hdpc_symbols in
     let long : length places ≡ row.hdpc_symbols + 1 = ap length is ∙ length-append numbers (0 ∷ []) ∙ omega (arith, few) in
     elim (cases_lt k row.hdpc_symbols) [
@@ -155,7 +155,7 @@ module _ (row : TableRow) (column : ℕ → List ℕ) (size : ℕ) where
       (reading row.hdpc_symbols 0 (omega arith) (ap (λ k. get_or places k 0) (sym few) ∙ get_or-append_seam numbers 0 [] 0)) below
 
   module _ (n first second : ℕ) (more : n + 1 < before_hdpc row) (first_below : first < row.hdpc_symbols) (second_below : second < row.hdpc_symbols) (apart : first ≢ second) (ones : (i : ℕ) → mt row i n ≡ one_if (eqb i first || eqb i second)) (s0 s1 s2 s3 : Slab) (new : List ℕ)
-      (so : AreHdpcSums row column size n s0) (w1 : Writes s0 s1 first (add_symbols octets (symbol_in s0 first) (symbol_in s0 row.hdpc_symbols))) (w2 : Writes s1 s2 second (add_symbols octets (symbol_in s1 second) (symbol_in s1 row.hdpc_symbols))) (w3 : Writes s2 s3 row.hdpc_symbols new)
+      (so : AreHdpcSums row column size n s0) (w1 : WritesSymbol s0 s1 first (add_symbols octets (symbol_in s0 first) (symbol_in s0 row.hdpc_symbols))) (w2 : WritesSymbol s1 s2 second (add_symbols octets (symbol_in s1 second) (symbol_in s1 row.hdpc_symbols))) (w3 : WritesSymbol s2 s3 row.hdpc_symbols new)
       (doubled : (p : ℕ) → at new p ≡ octets.add (octets.mul 2 (at (symbol_in s2 row.hdpc_symbols) p)) (at (column (n + 1)) p)) (below : (p : ℕ) → at (column (n + 1)) p < octets.size) where
     abbrev height : ℕ
     height = row.hdpc_symbols

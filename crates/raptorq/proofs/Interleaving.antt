@@ -28,8 +28,8 @@ pub record ArePartsOf (c : Configuration) (al larger smaller count : ℕ) : Type
   pub smaller_is : smaller ≡ (sub_block_parts c).smaller
   pub count_is : count ≡ (sub_block_parts c).larger_count
 
-pub parts_are : (c : Configuration) (al size n : ℕ) (r : ℕ × ℕ × ℕ × ℕ) → al ≡ c.alignment → size ≡ c.symbol_size → n ≡ max c.sub_blocks 1 → r ≡ (div_ceil (size / al) n, size / al / n, size / al - size / al / n * n, n - (size / al - size / al / n * n)) → ArePartsOf c al r.0 r.1 r.2
-parts_are c al size n r one two three is =
+pub sub_block_parts_are : (c : Configuration) (al size n : ℕ) (r : ℕ × ℕ × ℕ × ℕ) → al ≡ c.alignment → size ≡ c.symbol_size → n ≡ max c.sub_blocks 1 → r ≡ (div_ceil (size / al) n, size / al / n, size / al - size / al / n * n, n - (size / al - size / al / n * n)) → ArePartsOf c al r.0 r.1 r.2
+sub_block_parts_are c al size n r one two three is =
     let units : size / al ≡ c.symbol_size / c.alignment = ap (λ a. size / a) one ∙ ap (λ s. s / c.alignment) two in
     let count : n ≡ sub_block_count c.sub_blocks = three ∙ sub_block_count-max c.sub_blocks in record {
       alignment = one;

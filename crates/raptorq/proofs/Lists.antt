@@ -54,8 +54,8 @@ pub next_whole : {X : Type 0} → (all done rest left : List X) (x : X) → all 
 next_whole all done rest left x whole is = whole ∙ ap (λ l. done ++ l) is ∙ sym (append_assoc done (x ∷ []) left)
 
 -- what is said of all that was received is said of the whole list
-pub all_came : {X : Type 0} → (all done rest : List X) → all ≡ done ++ rest → rest ≡ [] → done ≡ all
-all_came all done rest whole none = sym (whole ∙ ap (λ l. done ++ l) none ∙ append-nil done)
+pub done_is_all : {X : Type 0} → (all done rest : List X) → all ≡ done ++ rest → rest ≡ [] → done ≡ all
+done_is_all all done rest whole none = sym (whole ∙ ap (λ l. done ++ l) none ∙ append-nil done)
 
 module _ (table : List TableRow) (c : Configuration) (all : List Packet) (s : State) (r : Option (List ℕ)) (same : s.configuration ≡ c) (stands : (object : List ℕ) → IsHonestRun table c object all → StandsFor table object all s) where
   -- the answer after the whole list

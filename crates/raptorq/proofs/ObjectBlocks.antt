@@ -27,8 +27,8 @@ use Rattle.raptorq.specs.declared.decoder.packet_stop.PacketStop.TheVariants.{Re
 use Rattle.raptorq.proofs.Numbered.{length-mapped, length-numbered}
 use Rattle.raptorq.specs.declared.decoder.object.ObjectBlock.{ObjectBlock}
 
-abbrev pub number_of : ObjectBlock → ℕ
-number_of b = (received_of b.decoder).number
+abbrev pub block_number : ObjectBlock → ℕ
+block_number b = (received_of b.decoder).number
 
 abbrev pub state : Configuration → List ObjectBlock → State
 state c items = record { configuration = c; received = received_at c items; answer = answer_at items }
@@ -49,8 +49,8 @@ pub said_here : (c : Configuration) (items : List ObjectBlock) (i : ℕ) (x : Ob
 said_here c items i x below is P so = subst (λ h. P h (answer_at items i)) (sym (received_here c items i x below is)) (subst (P (received_of x.decoder)) (sym (answer_here items i x below is)) so)
 
 -- a number of a block that the object has
-pub has_number : (c : Configuration) (items : List ObjectBlock) (n count : ℕ) → map number_of items ≡ range_with_len 0 c.source_blocks → count ≡ c.source_blocks → n < count → n < length items
-has_number c items n count numbered all below = omega (arith, all, below, length-numbered number_of c.source_blocks items numbered)
+pub has_number : (c : Configuration) (items : List ObjectBlock) (n count : ℕ) → map block_number items ≡ range_with_len 0 c.source_blocks → count ≡ c.source_blocks → n < count → n < length items
+has_number c items n count numbered all below = omega (arith, all, below, length-numbered block_number c.source_blocks items numbered)
 
 -- a block that is its configuration's and the packet's refuses no packet with a symbol of the size
 pub block_takes : (c : Configuration) (h : ReceivedBlock) (p : Packet) → h.configuration ≡ c → h.number ≡ p.id.block → length p.payload ≡ c.symbol_size → block_refusal h p ≡ Ok tt
@@ -62,10 +62,10 @@ pub record IsBlockOf (items : List ObjectBlock) (p : Packet) (i : ℕ) (x : Obje
   pub below : p.id.block < length items
   pub is : x ≡ get_or items p.id.block x
 
-pub block_of_packet : (items : List ObjectBlock) (p : Packet) (count i : ℕ) (x : ObjectBlock) → map number_of items ≡ range_with_len 0 count → i ≡ p.id.block → i < count → x ≡ get_or items i x → IsBlockOf items p i x
+pub block_of_packet : (items : List ObjectBlock) (p : Packet) (count i : ℕ) (x : ObjectBlock) → map block_number items ≡ range_with_len 0 count → i ≡ p.id.block → i < count → x ≡ get_or items i x → IsBlockOf items p i x
 block_of_packet items p count i x numbered here below is = record {
   here = here;
-  below = omega (arith, length-numbered number_of count items numbered);
+  below = omega (arith, length-numbered block_number count items numbered);
   is = is ∙ ap (λ n. get_or items n x) here;
 }
 
@@ -191,7 +191,7 @@ module _ (c : Configuration) (old new : List ObjectBlock) (received : map (λ b.
   pub same_length : length new ≡ length old
   same_length = sym (length-map new (λ b. received_of b.decoder)) ∙ ap length received ∙ length-map old (λ b. received_of b.decoder)
 
-  pub same_numbers : map number_of new ≡ map number_of old
+  pub same_numbers : map block_number new ≡ map block_number old
   same_numbers = sym (map-map (λ h. h.number) (λ b. received_of b.decoder) new) ∙ ap (map (λ h. h.number)) received ∙ map-map (λ h. h.number) (λ b. received_of b.decoder) old
 
   -- what each old one is, each new one is

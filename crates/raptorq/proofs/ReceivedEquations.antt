@@ -15,7 +15,7 @@ use Rattle.rq_algebra.proofs.Stacks.{stacked_above, stacked_below}
 use Rattle.rq_standard.specs.declared.row.TableRow.{TableRow}
 use Rattle.rq_standard.specs.OctetField.{octets}
 use Rattle.rq_standard.specs.TableRows.{intermediate_symbols, IsChecked}
-use Rattle.rq_standard.specs.Equations.{fixed_equations, symbol_coefficient, zero_symbol, internal_id, tuple_sum}
+use Rattle.rq_standard.specs.Equations.{precode_equations, symbol_coefficient, zero_symbol, internal_id, tuple_sum}
 use Rattle.rq_standard.specs.IdLists.{IsListOf, HasDeterminedRows}
 use Rattle.rq_standard.specs.Headline.{known_ids, DetermineBlock}
 use Rattle.rq_standard.specs.ReceivedBlock.{ReceivedBlock, has_received, SolvesReceived, ReceivedDetermine}
@@ -189,14 +189,14 @@ module _ (h : ReceivedBlock) (m : Payloads) (fits : h.source_symbols ≤ h.row.e
         at_place = λ p. record {
           at = λ i below. elim (cases_lt i f) [
             | inl lt ↦
-                ap (λ (r : ℕ → ℕ). dot octets (intermediate_symbols row) r (slice_at p column)) (stacked_above f (fixed_equations row) (rows_of (symbol_coefficient row) ids) i lt)
-                ∙ (z.fixed.at_place p).at i (omega arith)
+                ap (λ (r : ℕ → ℕ). dot octets (intermediate_symbols row) r (slice_at p column)) (stacked_above f (precode_equations row) (rows_of (symbol_coefficient row) ids) i lt)
+                ∙ (z.precode.at_place p).at i (omega arith)
                 ∙ ap (λ xs. at xs p) (sym (zero_at row k size m fits ordered f i (omega arith)))
             | inr past ↦
                 let j : ℕ = i - f in
                 let e : f + j ≡ i = omega arith in
                 rw (← e) (
-                ap (λ (r : ℕ → ℕ). dot octets (intermediate_symbols row) r (slice_at p column)) (stacked_below f (fixed_equations row) (rows_of (symbol_coefficient row) ids) j)
+                ap (λ (r : ℕ → ℕ). dot octets (intermediate_symbols row) r (slice_at p column)) (stacked_below f (precode_equations row) (rows_of (symbol_coefficient row) ids) j)
                 ∙ sym (sum_at row size (at ids j) column checked z.symbols p)
                 ∙ ap (λ xs. at xs p) (elim (known_at row k size m fits ordered f j (omega arith)) [
                   | inl q ↦ z.padding (at ids j) q.from q.below ∙ sym q.is_zero

@@ -14,7 +14,7 @@ use Rattle.rq_algebra.proofs.SymbolSums.{zeros_are_symbol}
 use Rattle.rq_algebra.proofs.Sums.{dot_same, dot_mul_row, dot_below_size}
 use Rattle.rq_standard.specs.OctetField.{octets}
 use Rattle.rq_standard.specs.TableRows.{intermediate_symbols, IsChecked}
-use Rattle.rq_standard.specs.Equations.{fixed_equations, ldpc_coefficient, hdpc_coefficient, symbol_coefficient, equations, equation_count, zero_symbol, internal_id, tuple_sum}
+use Rattle.rq_standard.specs.Equations.{precode_equations, ldpc_coefficient, hdpc_coefficient, symbol_coefficient, equations, equation_count, zero_symbol, internal_id, tuple_sum}
 use Rattle.rq_standard.specs.ReceivedBlock.{ReceivedBlock, SolvesReceived, HasReceivedSolution, IsContradictory, ReceivedDetermine}
 use Rattle.rq_standard.proofs.Columns.{sum_at, sum_symbol}
 use Rattle.rq_bytes.specs.SymbolSlab.{Slab, slab_of, symbol_in}
@@ -43,20 +43,20 @@ module _ (h : ReceivedBlock) (m : Payloads) (fits : h.source_symbols ≤ h.row.e
         ext_get_or 0 (tuple_sum h.row column x) value ((sum_symbol h.row h.configuration.symbol_size x column checked are).size_is ∙ sym long) (λ p _.
         sum_at h.row h.configuration.symbol_size x column checked are p
         ∙ ap (λ y. dot octets n (symbol_coefficient h.row y) (slice_at p column)) (sym id)
-        ∙ ap (λ (r : ℕ → ℕ). dot octets n r (slice_at p column)) (sym (stacked_below precode_rows (fixed_equations h.row) (rows_of (symbol_coefficient h.row) (known_list h.row h.source_symbols m.entries)) j))
+        ∙ ap (λ (r : ℕ → ℕ). dot octets n r (slice_at p column)) (sym (stacked_below precode_rows (precode_equations h.row) (rows_of (symbol_coefficient h.row) (known_list h.row h.source_symbols m.entries)) j))
         ∙ (first.at_place p).at (precode_rows + j) (omega arith) ∙ ap (λ xs. at xs p) is)
 
     -- an equation of LDPC or HDPC
-    fixed_is : (precode_rows < h.row.ldpc_symbols + h.row.hdpc_symbols → SolvesHdpc h.row h.configuration.symbol_size column) → (p i : ℕ) → i < h.row.ldpc_symbols + h.row.hdpc_symbols
-        → dot octets (intermediate_symbols h.row) (fixed_equations h.row i) (slice_at p column) ≡ at (zero_symbol h.configuration.symbol_size) p
-    fixed_is hdpc p i l = elim (cases_lt i precode_rows) [
+    precode_is : (precode_rows < h.row.ldpc_symbols + h.row.hdpc_symbols → SolvesHdpc h.row h.configuration.symbol_size column) → (p i : ℕ) → i < h.row.ldpc_symbols + h.row.hdpc_symbols
+        → dot octets (intermediate_symbols h.row) (precode_equations h.row i) (slice_at p column) ≡ at (zero_symbol h.configuration.symbol_size) p
+    precode_is hdpc p i l = elim (cases_lt i precode_rows) [
       | inl above ↦
-          ap (λ (r : ℕ → ℕ). dot octets (intermediate_symbols h.row) r (slice_at p column)) (sym (stacked_above precode_rows (fixed_equations h.row) (rows_of (symbol_coefficient h.row) (known_list h.row h.source_symbols m.entries)) i above))
+          ap (λ (r : ℕ → ℕ). dot octets (intermediate_symbols h.row) r (slice_at p column)) (sym (stacked_above precode_rows (precode_equations h.row) (rows_of (symbol_coefficient h.row) (known_list h.row h.source_symbols m.entries)) i above))
           ∙ (first.at_place p).at i (omega arith) ∙ ap (λ xs. at xs p) (zero_at h.row h.source_symbols h.configuration.symbol_size m fits ordered precode_rows i (omega arith))
       | inr past ↦
           let j : ℕ = i - h.row.ldpc_symbols in
           let e : h.row.ldpc_symbols + j ≡ i = omega arith in
-          ap (λ (r : ℕ → ℕ). dot octets (intermediate_symbols h.row) r (slice_at p column)) (ap (fixed_equations h.row) (sym e) ∙ stacked_below h.row.ldpc_symbols (ldpc_coefficient h.row) (hdpc_coefficient h.row) j)
+          ap (λ (r : ℕ → ℕ). dot octets (intermediate_symbols h.row) r (slice_at p column)) (ap (precode_equations h.row) (sym e) ∙ stacked_below h.row.ldpc_symbols (ldpc_coefficient h.row) (hdpc_coefficient h.row) j)
           ∙ ((hdpc (omega arith)).at_place p).at j (omega arith)
     ]
 
@@ -64,7 +64,7 @@ module _ (h : ReceivedBlock) (m : Payloads) (fits : h.source_symbols ≤ h.row.e
     pub first_solve : ((e : ℕ) → ForSome (h.received e) (λ x. length x ≡ h.configuration.symbol_size)) → (precode_rows < h.row.ldpc_symbols + h.row.hdpc_symbols → SolvesHdpc h.row h.configuration.symbol_size column) → SolvesReceived h column
     first_solve sized hdpc = record {
       symbols = are;
-      fixed = record { at_place = λ p. record { at = λ i l. fixed_is hdpc p i l } };
+      precode = record { at_place = λ p. record { at = λ i l. precode_is hdpc p i l } };
       padding = λ x from below.
           let j : ℕ = x - h.source_symbols in
           let long = length-known_list h.row h.source_symbols m.entries in
@@ -92,7 +92,7 @@ module _ (h : ReceivedBlock) (m : Payloads) (fits : h.source_symbols ≤ h.row.e
               let only = s.only z.column z.solves.symbols (values_solved h m fits ordered checked same precode_rows few z.column z.solves) in
               dot_same octets (intermediate_symbols h.row) (hdpc_coefficient h.row i) (hdpc_coefficient h.row i) (slice_at p (symbol_in slab)) (slice_at p z.column) (λ k b. refl) (λ k b. ap (λ xs. at xs p) (sym (only k b)))
               ∙ ap (λ (r : ℕ → ℕ). dot octets (intermediate_symbols h.row) r (slice_at p z.column)) (sym (stacked_below h.row.ldpc_symbols (ldpc_coefficient h.row) (hdpc_coefficient h.row) i))
-              ∙ (z.solves.fixed.at_place p).at (h.row.ldpc_symbols + i) (omega arith)
+              ∙ (z.solves.precode.at_place p).at (h.row.ldpc_symbols + i) (omega arith)
               ∙ ap (λ n. at (zero_symbol n) p) (sym s.size_is);
         };
       };

@@ -84,7 +84,7 @@ module _ (row : TableRow) (k : ℕ) (has now : ℕ → Bool) (esi : ℕ) (fits :
         count = old.count;
         elements = old.elements;
         solves = record {
-          fixed = old.solves.fixed;
+          precode = old.solves.precode;
           each = λ x known. elim (known-more x known) [ inl was ↦ old.solves.each x was | inr same ↦ rw same (solves octets is) ];
         };
         nonzero = old.nonzero;

@@ -19,7 +19,7 @@ use Rattle.raptorq.specs.Decoder.{received_at, answer_at}
 use Rattle.raptorq.specs.Difference.{ShowsUnanswered, octets_of_column}
 use Rattle.raptorq.specs.declared.decoder.object.ObjectBlock.{ObjectBlock}
 use Rattle.raptorq.proofs.Numbered.{length-numbered, number_at}
-use Rattle.raptorq.proofs.ObjectBlocks.{state, number_of, received_here}
+use Rattle.raptorq.proofs.ObjectBlocks.{state, block_number, received_here}
 
 -- a block's bytes, by what was received of it
 abbrev difference_block : Configuration → List ObjectBlock → (ℕ → Option (List ℕ)) → ℕ → List ℕ
@@ -125,7 +125,7 @@ module _ (c : Configuration) (items : List ObjectBlock) where
 
 -- ---- what was received of the object's blocks
 
-module _ (c : Configuration) (items : List ObjectBlock) (numbered : map number_of items ≡ range_with_len 0 c.source_blocks) (cut : All (λ b. (received_of b.decoder).source_symbols ≡ block_symbols c (received_of b.decoder).number) items) where
+module _ (c : Configuration) (items : List ObjectBlock) (numbered : map block_number items ≡ range_with_len 0 c.source_blocks) (cut : All (λ b. (received_of b.decoder).source_symbols ≡ block_symbols c (received_of b.decoder).number) items) where
   some_block : (xs : List ObjectBlock) (b : ℕ) → b < length xs → (x : ObjectBlock) × (x ≡ get_or xs b x)
   some_block [] b below = absurd (omega arith)
   some_block (x ∷ xs) zero below = (x, refl)
@@ -133,15 +133,15 @@ module _ (c : Configuration) (items : List ObjectBlock) (numbered : map number_o
 
   pub block_is_cut : (b : ℕ) → b < c.source_blocks → (received_at c items b).source_symbols ≡ block_symbols c b
   block_is_cut b below =
-      let long = length-numbered number_of c.source_blocks items numbered in
+      let long = length-numbered block_number c.source_blocks items numbered in
       let inside : b < length items = omega (arith, long) in
       let found = some_block items b inside in
       let x = found.0 in
-      ap (λ h. h.source_symbols) (received_here c items b x inside found.1) ∙ ap (λ y. (received_of y.decoder).source_symbols) found.1 ∙ cut b x inside ∙ ap (λ y. block_symbols c (received_of y.decoder).number) (sym found.1) ∙ ap (block_symbols c) (number_at number_of c.source_blocks items numbered b x below found.1)
+      ap (λ h. h.source_symbols) (received_here c items b x inside found.1) ∙ ap (λ y. (received_of y.decoder).source_symbols) found.1 ∙ cut b x inside ∙ ap (λ y. block_symbols c (received_of y.decoder).number) (sym found.1) ∙ ap (block_symbols c) (number_at block_number c.source_blocks items numbered b x below found.1)
 
-  pub block_has_row : (b : ℕ) → b < c.source_blocks → HasRow (received_at c items b).row (block_symbols c b)
-  block_has_row b below =
-      let long = length-numbered number_of c.source_blocks items numbered in
+  pub received_has_row : (b : ℕ) → b < c.source_blocks → HasRow (received_at c items b).row (block_symbols c b)
+  received_has_row b below =
+      let long = length-numbered block_number c.source_blocks items numbered in
       let inside : b < length items = omega (arith, long) in
       let found = some_block items b inside in
       let x = found.0 in

@@ -10,7 +10,7 @@ use Rattle.rq_operations.specs.RecordedOperations.{operations_of}
 use Rattle.rq_standard.specs.declared.row.TableRow.{TableRow}
 use Rattle.rq_standard.specs.OctetField.{octets}
 use Rattle.rq_standard.specs.TableRows.{intermediate_symbols}
-use Rattle.rq_standard.specs.Equations.{equation_count, equations, fixed_equations, hdpc_coefficient, symbol_coefficient, zero_symbol}
+use Rattle.rq_standard.specs.Equations.{equation_count, equations, precode_equations, hdpc_coefficient, symbol_coefficient, zero_symbol}
 use Rattle.rq_standard.specs.IdLists.{HasDeterminedRows}
 use Rattle.raptorq.specs.declared.solving.BlockOperations.{BlockOperations}
 use Rattle.raptorq.specs.declared.solving.BlockOutcome.{BlockOutcome}
@@ -18,7 +18,7 @@ use Rattle.raptorq.specs.declared.solving.BlockOutcome.TheVariants.{Operations, 
 
 -- the first `precode_rows` of the LDPC and HDPC equations, and then one for each id
 abbrev pub first_equations : TableRow → ℕ → List ℕ → ℕ → ℕ → ℕ
-first_equations row precode_rows ids = stacked precode_rows (fixed_equations row) (rows_of (symbol_coefficient row) ids)
+first_equations row precode_rows ids = stacked precode_rows (precode_equations row) (rows_of (symbol_coefficient row) ids)
 
 -- a column of symbols solves these with some values
 abbrev pub SolvesFirstEquations : TableRow → ℕ → List ℕ → (ℕ → List ℕ) → List (List ℕ) → Type 0

@@ -131,10 +131,7 @@ impl Listed<'_> {
         // The operations are the same whatever the symbols.
         let values = SymbolSlab::with_zeros(self.alloc, count, 0)?;
         let solver = IntermediateSymbolDecoder::of_row_no_hdpc(
-            self.alloc,
-            &self.row.numbers,
-            matrix,
-            values,
+            self.alloc, self.row, matrix, values,
         );
         let Some(operations) = solver.into_operations()? else {
             return Ok(None);
@@ -155,13 +152,7 @@ impl Listed<'_> {
         )?;
         let precode_rows = self.row.precode_rows();
         let values = SymbolSlab::with_zeros(self.alloc, precode_rows + self.ids.len(), 0)?;
-        let solver = IntermediateSymbolDecoder::of_row(
-            self.alloc,
-            &self.row.numbers,
-            matrix,
-            hdpc,
-            values,
-        );
+        let solver = IntermediateSymbolDecoder::of_row(self.alloc, self.row, matrix, hdpc, values);
         match solver.solve()? {
             Solved::Operations(operations) => Ok(BlockOutcome::Operations(BlockOperations {
                 precode_rows,

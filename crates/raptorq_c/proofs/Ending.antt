@@ -74,14 +74,10 @@ is_numbered OutOfMemory other = refl
 is_numbered Contradiction other = refl
 is_numbered HeaderTooShort other = refl
 
--- 21 is the number of want of memory alone, and 22 that of a contradiction
+-- 21 is the number of want of memory alone
 pub is_memory : (e : Error) → code_of e ≡ 21 → e ≡ OutOfMemory
 unfolding errors
 is_memory e is = sym (is_numbered e (λ row. omega (arith, is, row))) ∙ ap (λ n. get_or errors n OutOfMemory) is
-
-pub is_contradiction : (e : Error) → code_of e ≡ 22 → e ≡ Contradiction
-unfolding errors
-is_contradiction e is = sym (is_numbered e (λ row. omega (arith, is, row))) ∙ ap (λ n. get_or errors n OutOfMemory) is
 
 -- ---- buffers
 

@@ -22,11 +22,11 @@ use Rattle.raptorq_c.specs.FurtherRows.{table_of}
 use Rattle.raptorq_c.specs.ObjectBuffers.{Answered, IsFilled, IsRefused, IsDecoded, IsDecodingRefusal, IsPacketsRefusal, frames_refusal, packets_in}
 use Rattle.raptorq.specs.Decoder.{IsAnswerOf}
 use Rattle.raptorq.proofs.FollowedRuns.{packet_tests}
-use Rattle.raptorq_c.specs.Handles.{bytes_refusal, FillsWithAnswer, FillsWithBlock, IsAdded, IsPartOf, IsTakenNumber, IsUnread, TakesRead}
+use Rattle.raptorq_c.specs.Handles.{bytes_refusal, FillsWithAnswer, FillsWithBlock, IsAdded, IsPartOf, IsTakenNumber, StaysUnread, TakesRead}
 use Rattle.raptorq_c.specs.Numbers.{number_of, refusal_number}
 use Rattle.raptorq_c.proofs.Ending.{code_positive, code_small, is_memory, is_stopped}
 use Rattle.raptorq_c.proofs.PacketFrames.{packet_read}
-use Rattle.raptorq_c.proofs.Tables.{held, refused_over, row_refused}
+use Rattle.raptorq_c.proofs.Tables.{held_table, refused_over, row_refused}
 
 -- a buffer is filled with an answer, of which P
 pub answered_by : (P : Option (List ℕ) → Type 0) (answer : Option (List ℕ)) (number : ℕ) (before after : List ℕ) → P answer → Answered number before after (λ r. r ≡ answer) → Answered number before after P
@@ -101,7 +101,7 @@ unread_number : (c : Configuration) (e : Error) (read : Result Packet Error) →
 unread_number c e (Ok p) memory = inl (inr (ap code_of memory))
 unread_number c e (Err w) same = inl (inl (ap code_of same))
 
-unread_packet : (s : State) (e : Error) (read : Result Packet Error) → IsRefusal e read → IfOk read (λ p. IsUnread s (code_of e) s ⊎ TakesRead s p (code_of e) s)
+unread_packet : (s : State) (e : Error) (read : Result Packet Error) → IsRefusal e read → IfOk read (λ p. StaysUnread s (code_of e) s ⊎ TakesRead s p (code_of e) s)
 unread_packet s e (Ok p) memory = inl (ap code_of memory, refl)
 unread_packet s e (Err w) same = tt
 
@@ -141,7 +141,7 @@ taken_bytes old new bytes p r read takes stops late =
     record {
       refused = subst (IsTakenNumber n) (sym same) (answered_number c p r takes.accepted takes.refused);
       short = λ err. let none : true ≡ false = sym err ∙ ap is_err read in absurd (cc none);
-      takes = subst (λ found. IfOk found (λ q. IsUnread old n new ⊎ TakesRead old q n new)) (sym read) (inr (record { result = r; number = refl; takes = takes }));
+      takes = subst (λ found. IfOk found (λ q. StaysUnread old n new ⊎ TakesRead old q n new)) (sym read) (inr (record { result = r; number = refl; takes = takes }));
       stops = λ memory. subst (λ q. StopsEarly old q new) is (for_memory (StopsEarly old p new) r stops memory);
       leaves_late = λ memory. subst (λ q. LeavesBlockLate old q new) is (for_memory (LeavesBlockLate old p new) r late memory);
       leaves_refused = λ memory err. left_refused old new p r takes memory (subst IsErr same err);
@@ -163,7 +163,7 @@ refused_row rows header bytes e (inr is) =
     let r : Result (Unit {0}) Error = Err e in
     inr (r, row_refused (λ t. IsPacketsRefusal t header bytes r) (λ d. r ≡ Err d) (table_of rows) e is refl, inr refl)
 
-module _ (rows : List Row) (table : List TableRow) (header bytes : List ℕ) (made : table_of rows ≡ held table) where
+module _ (rows : List Row) (table : List TableRow) (header bytes : List ℕ) (made : table_of rows ≡ held_table table) where
   over : (r : Result (Unit {0}) Error) → IsPacketsRefusal table header bytes r → IsDecodingRefusal rows header bytes r
   over r is = refused_over (λ t _. IsPacketsRefusal t header bytes r) (λ e. r ≡ Err e) (table_of rows) table (configuration_of_bytes header) (configuration_of_bytes header) made refl is
 

@@ -16,7 +16,7 @@ use Rattle.raptorq_c.specs.declared.rows.Row.{Row}
 use Rattle.raptorq_c.specs.FurtherRows.{table_of}
 use Rattle.raptorq_c.specs.Sizes.{part_of_block, bytes_of_packets}
 use Rattle.raptorq_c.proofs.PacketLengths.{wanted}
-use Rattle.raptorq_c.proofs.Tables.{held}
+use Rattle.raptorq_c.proofs.Tables.{held_table}
 
 abbrev ranged : ℕ × ℕ → Result (ℕ × ℕ) Error
 ranged p = Ok p
@@ -37,8 +37,8 @@ tested false false false e f g xs ys h = same_list ys xs (sym h)
 pub offsets_of : (c : Configuration) (xs : List (ℕ × ℕ)) → checked_offsets c ≡ Ok xs → xs ≡ block_offsets c
 offsets_of c xs h = tested (eqb c.symbol_size 0) (eqb c.source_blocks 0) (ltb MAX_SOURCE_SYMBOLS_PER_BLOCK (largest_block c)) SymbolSizeZero SourceBlocksZero TooManySymbols (block_offsets c) xs h
 
-pub count_of : (c : Configuration) (xs : List (ℕ × ℕ)) → checked_offsets c ≡ Ok xs → length xs ≡ c.source_blocks
-count_of c xs h = ap length (offsets_of c xs h) ∙ length-map-range_with_len (block_range c) 0 c.source_blocks
+pub offset_count : (c : Configuration) (xs : List (ℕ × ℕ)) → checked_offsets c ≡ Ok xs → length xs ≡ c.source_blocks
+offset_count c xs h = ap length (offsets_of c xs h) ∙ length-map-range_with_len (block_range c) 0 c.source_blocks
 
 -- of a block that the object has
 pub block_found : (header : List ℕ) (b : ℕ) (d : Configuration) (xs : List (ℕ × ℕ)) → d ≡ configuration_of_bytes header → checked_offsets d ≡ Ok xs → b < d.source_blocks → part_of_block header b ≡ ranged (block_range d b)
@@ -51,7 +51,7 @@ abbrev pub passed : Unit {0} → Result (Unit {0}) Error
 passed u = Ok u
 
 -- of a configuration that passes the tests over the table of these rows
-module _ (rows : List Row) (header : List ℕ) (table : List TableRow) (d : Configuration) (made : table_of rows ≡ held table) (same : d ≡ configuration_of_bytes header) (checked : passed tt ≡ checked_configuration (greatest_size table) d) where
+module _ (rows : List Row) (header : List ℕ) (table : List TableRow) (d : Configuration) (made : table_of rows ≡ held_table table) (same : d ≡ configuration_of_bytes header) (checked : passed tt ≡ checked_configuration (greatest_size table) d) where
   over_rows : and_then (table_of rows) (λ t. checked_configuration (greatest_size t) d) ≡ passed tt
   over_rows = ap (λ (r : Result (List TableRow) Error). and_then r (λ t. checked_configuration (greatest_size t) d)) made ∙ sym checked
 

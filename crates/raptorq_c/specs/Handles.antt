@@ -72,8 +72,8 @@ abbrev pub LeavesRefused : List ℕ → State → State → Type 0
 LeavesRefused bytes old new = IsErr (bytes_refusal old.configuration bytes) → new ≡ old
 
 -- memory is refused before a decoder has the packet
-abbrev pub IsUnread : State → ℕ → State → Type 0
-IsUnread old answer new = (answer ≡ 21) × (new ≡ old)
+abbrev pub StaysUnread : State → ℕ → State → Type 0
+StaysUnread old answer new = (answer ≡ 21) × (new ≡ old)
 
 -- what a packet does to a decoder, and the number of what the decoder answers
 pub record TakesRead (old : State) (packet : Packet) (answer : ℕ) (new : State) : Type 0 where
@@ -85,7 +85,7 @@ pub record TakesRead (old : State) (packet : Packet) (answer : ℕ) (new : State
 pub record IsAdded (old : State) (bytes : List ℕ) (answer : ℕ) (new : State) : Type 0 where
   pub refused : IsTakenNumber answer (bytes_refusal old.configuration bytes)
   pub short : IsErr (read_packet bytes) → new ≡ old
-  pub takes : IfOk (read_packet bytes) (λ packet. IsUnread old answer new ⊎ TakesRead old packet answer new)
+  pub takes : IfOk (read_packet bytes) (λ packet. StaysUnread old answer new ⊎ TakesRead old packet answer new)
   pub stops : answer ≡ 21 → StopsEarly old (packet_of_bytes bytes) new
   pub leaves_late : answer ≡ 21 → LeavesBlockLate old (packet_of_bytes bytes) new
   pub leaves_refused : answer ≡ 21 → LeavesRefused bytes old new

@@ -16,8 +16,8 @@ use Rattle.rq_streams.specs.Sent.{default_parameters, sent_configuration, IsStre
 abbrev answered_with : List ℕ → Wanted
 answered_with bytes = Ok (Some bytes)
 
-abbrev refused_by : Error → Wanted
-refused_by e = Err e
+abbrev wants_refusal : Error → Wanted
+wants_refusal e = Err e
 
 module _ (table : List TableRow) (s repair : ℕ) (object : List ℕ) (c : Configuration) (parameters : default_parameters table (length object) s ≡ Ok c) where
   sent_in : (wanted : Wanted) → new_encoder (greatest_size table) c (length object) ≡ Ok tt → Sends table c repair object wanted → IsSent table s repair object wanted
@@ -41,9 +41,9 @@ module _ (table : List TableRow) (s repair : ℕ) (object : List ℕ) (c : Confi
   not_taken e (Ok x) is memory = inl memory
   not_taken e (Err w) is same =
       let configured : sent_configuration table s object ≡ Err w = rw (parameters, is) refl in
-      inr (subst (λ r. MatchResult r (λ k. Sends table k repair object (Err e)) (λ d. refused_by e ≡ Err d)) (sym configured) (ap refused_by same))
+      inr (subst (λ r. MatchResult r (λ k. Sends table k repair object (Err e)) (λ d. wants_refusal e ≡ Err d)) (sym configured) (ap wants_refusal same))
 
   pub sent_refused : (e : Error) → RefusesPackets table c (length object) repair e → (e ≡ OutOfMemory) ⊎ IsSent table s repair object (Err e)
   sent_refused e (no_encoder (inl r)) = not_taken e (new_encoder (greatest_size table) c (length object)) refl r
-  sent_refused e (no_encoder (inr row)) = inr (sent_in (Err e) row.0 (inl (ap refused_by row.1, row.2)))
+  sent_refused e (no_encoder (inr row)) = inr (sent_in (Err e) row.0 (inl (ap wants_refusal row.1, row.2)))
   sent_refused e (too_many taken nonsingular many) = inr (sent_in (Err e) taken (inr (nonsingular, sent_by (Err e) (Err e) many refl)))

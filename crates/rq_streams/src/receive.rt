@@ -11,21 +11,19 @@ ghost use Rattle.rq_streams.specs.ReceivedStreams.{header_configuration, object_
 
 use crate::counted::Counted;
 use crate::run::{Outcome, Stop, flush, read_all, write_bytes};
+use raptorq::base::CONFIGURATION_LENGTH;
 use raptorq::error::Error;
 use raptorq::systematic_constants::SystematicTable;
 use raptorq::{Decoder, EncodingPacket, ObjectTransmissionInformation};
 use std::alloc::Global;
 use std::io::{Read, Write};
 
-// The bytes of a stream's header, that of a configuration.
-const HEADER_LENGTH: usize = 12;
-
 // The configuration in a stream's header, whether or not coders take it.
 fn header_configuration(bytes: &[u8]) -> Result<ObjectTransmissionInformation, Error>
     ensures value { result ≡ header_configuration bytes.now }
     ensures long { OnOk result (header_length ≤ length bytes.now) }
 {
-    match bytes.first_chunk::<HEADER_LENGTH>() {
+    match bytes.first_chunk::<CONFIGURATION_LENGTH>() {
         Some(header) => Ok(ObjectTransmissionInformation::deserialize(header)),
         None => Err(Error::HeaderTooShort),
     }
@@ -88,7 +86,12 @@ fn received(alloc: Global, table: &SystematicTable, bytes: Vec<u8>) -> Result<(D
     let stream = bytes.as_slice();
     let config = header_configuration(stream)?;
     let mut decoder = Decoder::new(alloc, table, config)?;
-    let skipped = add_frames(alloc, &mut decoder, &config, &stream[HEADER_LENGTH..])?;
+    let skipped = add_frames(
+        alloc,
+        &mut decoder,
+        &config,
+        &stream[CONFIGURATION_LENGTH..],
+    )?;
     Ok((decoder, skipped))
 }
 

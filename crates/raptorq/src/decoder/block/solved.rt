@@ -15,6 +15,10 @@ use rq_bytes::symbol_slab::SymbolSlab;
 use std::alloc::AllocError;
 use std::collections::BTreeMap;
 
+// From how many bytes on a block takes over the buffer of its intermediate symbols. The GNU C library
+// hands one of 32 MiB or more back to the system, and keeps a smaller one for the next block.
+const LARGE_BLOCK: usize = 1 << 25;
+
 impl SourceBlockDecoder {
     ghost use Rattle.rq_standard.specs.ReceivedBlock.{IsBlockWith};
     ghost use Rattle.raptorq.specs.Known.{FindsFromKnown, FindsKnown, SolvesBlock, IsReceivedSolution, HasLostSymbols};
@@ -87,33 +91,49 @@ impl SourceBlockDecoder {
     }
 
     /// The block, from the source symbols that were received and the intermediate symbols. These are let
-    /// go before there is a block: beside it stand what was received and the lost symbols alone.
+    /// go before there is a block, or their buffer becomes the block's: beside it stand what was received
+    /// and the lost symbols alone.
     pub(super) fn rebuild(&self, intermediate: SymbolSlab) -> Result<Vec<u8>, AllocError>
         requires { IsReceivedSolution (received_of self.now) intermediate }
         ensures { IfOk result (λ block. IsBlockWith (received_of self.now) block.items) }
     {
-        let lost = self.lost_symbols(intermediate)?;
-        let whole = self.source_symbols as usize * self.symbol_size();
-        let mut symbol_bytes = Vec::with_capacity(self.alloc, whole)?;
+        let lost = self.lost_symbols(&intermediate)?;
+        let mut symbol_bytes = self.room_for_block(intermediate)?;
         for e in 0..self.source_symbols {
             self.push_symbol(&lost, e, &mut symbol_bytes)?;
         }
+        symbol_bytes.shrink_to_fit();
         self.layout().block_of_symbols(self.alloc, symbol_bytes)
     }
 
     // The source symbols that didn't come, as sums of intermediate symbols.
-    fn lost_symbols(&self, intermediate: SymbolSlab) -> Result<BTreeMap<u32, Vec<u8>>, AllocError>
-        requires { IsReceivedSolution (received_of self.now) intermediate }
-        ensures { IfOk result (HasLostSymbols (received_of self.now) intermediate) }
+    fn lost_symbols(&self, intermediate: &SymbolSlab) -> Result<BTreeMap<u32, Vec<u8>>, AllocError>
+        requires { IsReceivedSolution (received_of self.now) intermediate.now }
+        ensures { IfOk result (HasLostSymbols (received_of self.now) intermediate.now) }
     {
         let mut lost = BTreeMap::new(self.alloc);
         for e in 0..self.source_symbols {
             if !self.received.contains_key(&e) {
-                let symbol = encoding_symbol(self.alloc, &self.row, &intermediate, e)?;
+                let symbol = encoding_symbol(self.alloc, &self.row, intermediate, e)?;
                 let _new = keep_first(&mut lost, e, symbol)?;
             }
         }
         Ok(lost)
+    }
+
+    // An empty buffer for the block's symbols. That of the intermediate symbols has room for them, and of
+    // a large block it is taken over, so that the pages of another need not be asked for.
+    fn room_for_block(&self, intermediate: SymbolSlab) -> Result<Vec<u8>, AllocError>
+        ensures { IfOk result (λ bytes. bytes.items ≡ []) }
+    {
+        let whole = self.source_symbols as usize * self.symbol_size();
+        if whole < LARGE_BLOCK {
+            drop(intermediate);
+            return Vec::with_capacity(self.alloc, whole);
+        }
+        let mut bytes = intermediate.into_bytes();
+        bytes.clear();
+        Ok(bytes)
     }
 
     // A source symbol behind those before it: the one that was received, or that among the lost ones.

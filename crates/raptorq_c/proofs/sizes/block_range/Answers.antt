@@ -3,12 +3,12 @@ use Rattle.std.proofs.lemmas.List.FromFn.{get_or-map-range_with_len}
 use Rattle.raptorq.specs.Offsets.{block_range}
 use Rattle.raptorq_c.specs.Sizes.{part_of_block, range_between}
 use Rattle.raptorq_c.proofs.Ending.{fills_done}
-use Rattle.raptorq_c.proofs.Sized.{offsets_of, count_of, block_found}
+use Rattle.raptorq_c.proofs.Sized.{offsets_of, offset_count, block_found}
 use Rattle.raptorq_c.proofs.sizes.block_range.Goals as goal
 
 pub index-requires : goal.index-requires
 index-requires c =
-    omega (arith, c.from.ensures, c.if-block-source_blocks.false, c.source_blocks.ensures, count_of c.deserialize-config.result c.in_ok-offsets.offsets.items c.in_ok-offsets.ensures.offsets, c.in_ok-offsets.offsets.ok.0)
+    omega (arith, c.from.ensures, c.if-block-source_blocks.false, c.source_blocks.ensures, offset_count c.deserialize-config.result c.in_ok-offsets.offsets.items c.in_ok-offsets.ensures.offsets, c.in_ok-offsets.offsets.ok.0)
 
 pub returns : goal.returns
 returns c =

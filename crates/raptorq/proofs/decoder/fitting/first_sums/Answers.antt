@@ -5,7 +5,7 @@ use Rattle.rq_bytes.specs.SymbolSlab.{slab_of, symbol_in}
 use Rattle.rq_standard.specs.OctetField.{octets}
 use Rattle.rq_standard.specs.TableRows.{intermediate_symbols}
 use Rattle.raptorq.specs.HdpcSums.{AreHdpcSums}
-use Rattle.raptorq.proofs.HdpcSumSteps.{answered, gathered_sums, range_numbers, places_below}
+use Rattle.raptorq.proofs.HdpcSumSteps.{answered, gathered_sums, range_numbers, sum_places_below}
 use Rattle.raptorq.proofs.Summing.{place_of_slab}
 use Rattle.raptorq.proofs.decoder.fitting.first_sums.Goals as goal
 
@@ -15,7 +15,7 @@ gather-requires c k d lt =
     let numbers = c.in_ok-places.places.items in
     let start = c.before_hdpc-start.ensures.value in
     let are = c.in_ok-places.ensures.ran.2.0 ∙ range_numbers c.before_hdpc-start.result row.hdpc_symbols _ c.in_ok-places.ensures.ran.0 (omega (arith, start, c.intermediate_symbols-end.ensures.value)) c.in_ok-places.ensures.ran.1 ∙ ap (λ s. range_with_len s row.hdpc_symbols) start in
-    place_of_slab c.args.intermediate.now _ (intermediate_symbols row) c.requires.enough (places_below row numbers _ are (c.as_slice.ensures.value ∙ c.in_ok-push.ensures.items) k d (omega arith) lt)
+    place_of_slab c.args.intermediate.now _ (intermediate_symbols row) c.requires.enough (sum_places_below row numbers _ are (c.as_slice.ensures.value ∙ c.in_ok-push.ensures.items) k d (omega arith) lt)
 
 pub returns-clause-sums : goal.returns-clause-sums
 returns-clause-sums c =

@@ -9,7 +9,7 @@ use Rattle.rq_standard.specs.Standing.{StandsFor}
 use Rattle.raptorq.specs.Decoder.{state_of}
 use Rattle.raptorq.specs.Runs.{packets_of, IsNextRefusal, IsRefusalBehind, FollowsRun}
 use Rattle.raptorq.proofs.FollowedRuns.{one_passes, run_unmade, run_answers, run_stops}
-use Rattle.raptorq.proofs.Lists.{next_whole, all_came, step_honest, packets_of-push, answers_exactly, answers_where_any_can}
+use Rattle.raptorq.proofs.Lists.{next_whole, done_is_all, step_honest, packets_of-push, answers_exactly, answers_where_any_can}
 use Rattle.raptorq.proofs.decoder.object.decode_all.Goals as goal
 use Rattle.raptorq.proofs.decoder.object.decode_all.Goals.{After-set_sparse_threshold, In-None}
 
@@ -77,7 +77,7 @@ module _ (c : In-None) where
 
   stands_for_all : (object : List ℕ) → IsHonestRun c.args.table.now c.args.config object (packets_of c.args.steps.items) → StandsFor c.args.table.now object (packets_of c.args.steps.items) (state_of c.loop-step.decoder)
   stands_for_all object run =
-      let all = ap packets_of (all_came c.args.steps.items c.loop-step.yielded (into_iter_items c.loop-step.step-iterator) c.loop-step.invariant.whole none) in
+      let all = ap packets_of (done_is_all c.args.steps.items c.loop-step.yielded (into_iter_items c.loop-step.step-iterator) c.loop-step.invariant.whole none) in
       subst (λ ps. StandsFor c.args.table.now object ps (state_of c.loop-step.decoder)) all (c.loop-step.invariant.stands object run)
 
 pub returns-clause-headline : goal.returns-clause-headline
@@ -111,5 +111,5 @@ pub returns-clause-in_order : goal.returns-clause-in_order
 returns-clause-in_order c =
     let table = c.args.table.now in
     let k = c.args.config in
-    let all = ap packets_of (all_came c.args.steps.items c.loop-step.yielded (into_iter_items c.loop-step.step-iterator) c.loop-step.invariant.whole (none (goal.at.returns-clause-in_order c).In-None)) in
+    let all = ap packets_of (done_is_all c.args.steps.items c.loop-step.yielded (into_iter_items c.loop-step.step-iterator) c.loop-step.invariant.whole (none (goal.at.returns-clause-in_order c).In-None)) in
     run_answers table k (packets_of c.args.steps.items) c.in_ok-decoder.ensures.refused c.get_result.result (subst (λ ps. IsRefusalBehind table k [] ps (Ok tt)) all c.loop-step.invariant.passed) c.get_result.ensures.memory

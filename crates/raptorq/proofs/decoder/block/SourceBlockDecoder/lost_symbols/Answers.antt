@@ -10,7 +10,7 @@ pub loop-e-preserved : goal.loop-e-preserved
 loop-e-preserved c =
     let came = payload_of c.args.self.now.received in
     let before = payload_of c.loop-e.lost in
-    let sum = tuple_sum c.args.self.now.row.numbers (symbol_in c.args.intermediate) in
+    let sum = tuple_sum c.args.self.now.row.numbers (symbol_in c.args.intermediate.now) in
     let e = c.loop-e.e-counter in
     let kept = c.loop-e.invariant in
     elim c.if-not-contains_key.branch [

@@ -34,7 +34,7 @@ pub returns : goal.returns
 returns c =
     let d = c.args.self.now in
     let all : c.loop-e.e ≡ d.source_symbols = omega arith in
-    let cut = rw (c.layout.ensures.config, c.layout.ensures.source_symbols) at c.block_of_symbols.ensures in
+    let cut = rw (c.layout.ensures.config, c.layout.ensures.source_symbols, c.shrink_to_fit.ensures.items) at c.block_of_symbols.ensures in
     ok_of_both c.block_of_symbols.result _ _ _
     (λ block long same. rebuilt_block (received_of d) c.args.intermediate c.loop-e.symbol_bytes.items block.items c.loop-e.e same d.row.checked c.requires all long c.loop-e.invariant.each)
     cut.long cut.each

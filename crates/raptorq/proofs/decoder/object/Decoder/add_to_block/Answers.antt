@@ -5,7 +5,7 @@ use Rattle.rq_standard.specs.Cutting.{block_symbols}
 use Rattle.raptorq.specs.Stopping.{AddsOrStops}
 use Rattle.raptorq.specs.SourceBlockDecoder.{received_of}
 use Rattle.raptorq.proofs.Numbered.{length-numbered, number_at}
-use Rattle.raptorq.proofs.ObjectBlocks.{state, number_of, IsBlockOf, block_of_packet, block_takes, IsCut, takes_at}
+use Rattle.raptorq.proofs.ObjectBlocks.{state, block_number, IsBlockOf, block_of_packet, block_takes, IsCut, takes_at}
 use Rattle.raptorq.proofs.decoder.object.Decoder.add_to_block.Goals as goal
 use Rattle.raptorq.proofs.decoder.object.Decoder.add_to_block.Goals.{After-from, After-index_mut}
 
@@ -27,7 +27,7 @@ pub index_mut-requires : goal.index_mut-requires
 index_mut-requires c =
     let s = c.args.self.now in
     let within = below (goal.at.index_mut-requires c).After-from in
-    let count = length-numbered number_of s.config.source_blocks s.blocks.items s.numbered in
+    let count = length-numbered block_number s.config.source_blocks s.blocks.items s.numbered in
     omega (arith, within, count, s.blocks.ok.0)
 
 pub add_packet-requires : goal.add_packet-requires
@@ -37,7 +37,7 @@ add_packet-requires c =
     let x = c.index_mut.result.now in
     let at = block (goal.at.add_packet-requires c).After-index_mut in
     let within = below (goal.at.add_packet-requires c).After-from in
-    block_takes s.config (received_of x.decoder) p (ap (λ b. (received_of b.decoder).configuration) at.is ∙ s.same p.id.block x at.below) (number_at number_of s.config.source_blocks s.blocks.items s.numbered p.id.block x (omega (arith, at.here, within)) at.is) c.in_ok-check_size.ensures.size
+    block_takes s.config (received_of x.decoder) p (ap (λ b. (received_of b.decoder).configuration) at.is ∙ s.same p.id.block x at.below) (number_at block_number s.config.source_blocks s.blocks.items s.numbered p.id.block x (omega (arith, at.here, within)) at.is) c.in_ok-check_size.ensures.size
 
 pub invariant_of-self : goal.invariant_of-self
 invariant_of-self c =
@@ -51,7 +51,7 @@ invariant_of-self c =
       positive = s.positive;
       aligned = s.aligned;
       some = s.some;
-      numbered = map-set_same number_of items c.from.result y x (c.add_packet.ensures.number ∙ ap number_of c.index_mut.ensures.value) ∙ s.numbered;
+      numbered = map-set_same block_number items c.from.result y x (c.add_packet.ensures.number ∙ ap block_number c.index_mut.ensures.value) ∙ s.numbered;
       same = All-set (λ b. (received_of b.decoder).configuration ≡ s.config) items c.from.result y (c.add_packet.ensures.configuration ∙ ap (λ b. (received_of b.decoder).configuration) at.is ∙ s.same p.id.block x at.below) s.same;
       cut = All-set (λ b. IsCut s.config (received_of b.decoder)) items c.from.result y (c.add_packet.ensures.symbols ∙ ap (λ b. (received_of b.decoder).source_symbols) at.is ∙ s.cut p.id.block x at.below ∙ ap (λ b. block_symbols s.config (received_of b.decoder).number) (sym at.is) ∙ ap (block_symbols s.config) (sym c.add_packet.ensures.number)) s.cut;
     }

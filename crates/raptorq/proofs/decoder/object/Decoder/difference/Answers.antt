@@ -8,8 +8,8 @@ use Rattle.raptorq.specs.Difference.{ShowsUnanswered, octets_of_column}
 use Rattle.raptorq.specs.Decoder.{state_of, received_at, answer_at}
 use Rattle.raptorq.specs.declared.decoder.object.Decoder.{Decoder}
 use Rattle.raptorq.proofs.Numbered.{length-numbered, turn_of}
-use Rattle.raptorq.proofs.ObjectBlocks.{number_of, received_here, answer_here}
-use Rattle.raptorq.proofs.Witnesses.{DifferenceSoFar, nothing_found, one_found, all_determined, some_undetermined, difference_found, block_has_row, block_is_cut}
+use Rattle.raptorq.proofs.ObjectBlocks.{block_number, received_here, answer_here}
+use Rattle.raptorq.proofs.Witnesses.{DifferenceSoFar, nothing_found, one_found, all_determined, some_undetermined, difference_found, received_has_row, block_is_cut}
 use Rattle.raptorq.proofs.decoder.object.Decoder.difference.Goals as goal
 use Rattle.raptorq.proofs.decoder.object.Decoder.difference.Goals.{After-loop-block, After-truncate}
 
@@ -17,7 +17,7 @@ found : (s : Decoder) (bytes new : List ℕ) → DifferenceSoFar s.config s.bloc
 found s bytes new so cut =
     subst (IsDifference (state_of s)) (sym cut)
     (difference_found s.config s.blocks.items bytes s.positive s.some s.aligned
-    (λ b below. block_has_row s.config s.blocks.items s.numbered s.cut b below)
+    (λ b below. received_has_row s.config s.blocks.items s.numbered s.cut b below)
     (λ b below. block_is_cut s.config s.blocks.items s.numbered s.cut b below)
     so)
 
@@ -38,7 +38,7 @@ loop-block-preserved c =
     let x = c.block-item.result in
     let n = c.loop-block.block-index in
     let t = turn_of items _ n x c.deref-block-items.ensures.value c.loop-block-test.true c.block-item.is in
-    let in_object : n < s.config.source_blocks = omega (arith, t.below, length-numbered number_of s.config.source_blocks items s.numbered) in
+    let in_object : n < s.config.source_blocks = omega (arith, t.below, length-numbered block_number s.config.source_blocks items s.numbered) in
     let received = received_here s.config items n x t.below t.is in
     let column = option_map vec_items c.in_ok-column.column in
     let shows : ShowsUnanswered (received_at s.config items n) (answer_at items n) column =
@@ -53,7 +53,7 @@ loop-block-preserved c =
 -- the blocks were all taken
 module _ (c : After-loop-block) where
   all : c.loop-block.block-index ≡ c.args.self.now.config.source_blocks
-  all = omega (arith, c.loop-block-test.false, c.loop-block.auto.block-index-end, ap length c.deref-block-items.ensures.value, length-numbered number_of c.args.self.now.config.source_blocks c.args.self.now.blocks.items c.args.self.now.numbered)
+  all = omega (arith, c.loop-block-test.false, c.loop-block.auto.block-index-end, ap length c.deref-block-items.ensures.value, length-numbered block_number c.args.self.now.config.source_blocks c.args.self.now.blocks.items c.args.self.now.numbered)
 
   taken : (t : Bool) → c.loop-block.determined ≡ t → DifferenceSoFar c.args.self.now.config c.args.self.now.blocks.items c.args.self.now.config.source_blocks t c.loop-block.bytes.items
   taken t is =

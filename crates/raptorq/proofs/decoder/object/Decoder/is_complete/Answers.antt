@@ -3,7 +3,7 @@ use Rattle.std.specs.Prelude.{IsSome, not}
 use borrow.Author.Count.{below_more}
 use Rattle.raptorq.specs.Decoder.{state_of, answer_at}
 use Rattle.raptorq.proofs.Numbered.{length-numbered, turn_of}
-use Rattle.raptorq.proofs.ObjectBlocks.{number_of, answer_here, not_complete, complete, none_shown, some_shown}
+use Rattle.raptorq.proofs.ObjectBlocks.{block_number, answer_here, not_complete, complete, none_shown, some_shown}
 use Rattle.raptorq.proofs.decoder.object.Decoder.is_complete.Goals as goal
 
 pub returns-then-is_none : goal.returns-then-is_none
@@ -11,7 +11,7 @@ returns-then-is_none c =
     let s = c.args.self.now in
     let x = c.block-item.result in
     let t = turn_of s.blocks.items _ c.loop-block.block-index x c.deref-block-items.ensures.value c.loop-block-test.true c.block-item.is in
-    sym (not_complete (state_of s) _ (omega (arith, t.below, length-numbered number_of s.config.source_blocks s.blocks.items s.numbered)) (answer_here s.blocks.items _ x t.below t.is ∙ none_shown x.answer (c.is_none.ensures ∙ ap not c.if-is_none.true)))
+    sym (not_complete (state_of s) _ (omega (arith, t.below, length-numbered block_number s.config.source_blocks s.blocks.items s.numbered)) (answer_here s.blocks.items _ x t.below t.is ∙ none_shown x.answer (c.is_none.ensures ∙ ap not c.if-is_none.true)))
 
 pub loop-block-preserved : goal.loop-block-preserved
 loop-block-preserved c =
@@ -23,4 +23,4 @@ loop-block-preserved c =
 pub returns : goal.returns
 returns c =
     let items = c.args.self.now.blocks.items in
-    sym (complete (state_of c.args.self.now) (λ b below. c.loop-block.invariant b (omega (arith, below, ap length c.deref-block-items.ensures.value, c.loop-block-test.false, length-numbered number_of c.args.self.now.config.source_blocks items c.args.self.now.numbered))))
+    sym (complete (state_of c.args.self.now) (λ b below. c.loop-block.invariant b (omega (arith, below, ap length c.deref-block-items.ensures.value, c.loop-block-test.false, length-numbered block_number c.args.self.now.config.source_blocks items c.args.self.now.numbered))))

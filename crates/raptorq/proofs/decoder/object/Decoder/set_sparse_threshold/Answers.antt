@@ -1,6 +1,6 @@
 use Rattle.std.proofs.Common.{◌≡◌, All, length, map, take, drop, ◌++◌, sym, ap, ◌∙◌, subst}
 use Rattle.raptorq.specs.SourceBlockDecoder.{received_of}
-use Rattle.raptorq.proofs.ObjectBlocks.{number_of, same_length, same_numbers, same_each, IsCut, written_over}
+use Rattle.raptorq.proofs.ObjectBlocks.{block_number, same_length, same_numbers, same_each, IsCut, written_over}
 use Rattle.raptorq.proofs.decoder.object.Decoder.set_sparse_threshold.Goals as goal
 
 pub invariant_of-self : goal.invariant_of-self
@@ -14,7 +14,7 @@ invariant_of-self c =
       positive = s.positive;
       aligned = s.aligned;
       some = s.some;
-      numbered = ap (map number_of) is ∙ same_numbers s.config items new received ∙ s.numbered;
+      numbered = ap (map block_number) is ∙ same_numbers s.config items new received ∙ s.numbered;
       same = subst (All (λ b. (received_of b.decoder).configuration ≡ s.config)) (sym is) (same_each s.config items new received (λ h. h.configuration ≡ s.config) s.same);
       cut = subst (All (λ b. IsCut s.config (received_of b.decoder))) (sym is) (same_each s.config items new received (IsCut s.config) s.cut);
     }

@@ -5,7 +5,7 @@ use Rattle.rq_standard.specs.Cutting.{block_symbols}
 use Rattle.rq_standard.specs.Headline.{block_row, IsNonsingular}
 use Rattle.rq_standard.specs.TableRows.{row_of}
 use Rattle.rq_standard.proofs.BlockCuts.{block_symbols_few}
-use Rattle.raptorq.proofs.EncodedBlocks.{refuses_block}
+use Rattle.raptorq.proofs.EncodedBlocks.{refuses_numbered_block}
 use Rattle.raptorq.proofs.encoder.block_cutter.BlockCutter.check_rows.Goals as goal
 use Rattle.raptorq.proofs.encoder.block_cutter.BlockCutter.check_rows.Goals.{After-block_symbols-count}
 
@@ -32,7 +32,7 @@ returns-in_err-prepare_plan-clause-refused c =
     let s = c.loop-number.self in
     let v = c.loop-number.invariant in
     let p = err_from_is_err_and c.from_residual.result c.from_residual.ensures.1 in
-    let refused = refuses_block s.table.now s.config.now c.loop-number.number c.block_symbols-count.result c.in_err-prepare_plan.field-0.0 (within at) c.block_symbols-count.ensures c.in_err-prepare_plan.ensures.refused in
+    let refused = refuses_numbered_block s.table.now s.config.now c.loop-number.number c.block_symbols-count.result c.in_err-prepare_plan.field-0.0 (within at) c.block_symbols-count.ensures c.in_err-prepare_plan.ensures.refused in
     rw (p.1, p.2) (rw (v.table, v.config) at refused)
 
 pub loop-number-preserved : goal.loop-number-preserved

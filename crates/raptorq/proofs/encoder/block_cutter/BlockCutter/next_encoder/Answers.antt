@@ -8,7 +8,7 @@ use Rattle.rq_standard.proofs.BlockCuts.{block_symbols_few}
 use Rattle.raptorq.specs.BlockCutting.{from_block}
 use Rattle.raptorq.specs.SourceBlockEncoder.{BlockEncoded, block_encoded_of}
 use Rattle.raptorq.specs.SourceBlockEncodingPlan.{plan_of}
-use Rattle.raptorq.proofs.EncodedBlocks.{block_front, block_behind, encoded_is, refuses_block}
+use Rattle.raptorq.proofs.EncodedBlocks.{block_front, block_behind, encoded_is, refuses_numbered_block}
 use Rattle.raptorq.proofs.encoder.block_cutter.BlockCutter.next_encoder.Goals as goal
 
 pub overflow_cast-count : goal.overflow_cast-count
@@ -25,7 +25,7 @@ pub returns-in_err-prepare_plan-clause-refused : goal.returns-in_err-prepare_pla
 returns-in_err-prepare_plan-clause-refused c =
     let s = c.args.self.now in
     let p = err_from_is_err_and c.from_residual.result c.from_residual.ensures.1 in
-    rw (p.1, p.2) (refuses_block s.table.now s.config.now c.args.number c.block_symbols-count.result c.in_err-prepare_plan.field-0.0 c.requires c.block_symbols-count.ensures c.in_err-prepare_plan.ensures.refused)
+    rw (p.1, p.2) (refuses_numbered_block s.table.now s.config.now c.args.number c.block_symbols-count.result c.in_err-prepare_plan.field-0.0 c.requires c.block_symbols-count.ensures c.in_err-prepare_plan.ensures.refused)
 
 pub returns-clause-encoded : goal.returns-clause-encoded
 returns-clause-encoded c =

@@ -4,7 +4,7 @@ use Rattle.std.proofs.lemmas.List.{length-map}
 use Rattle.std.proofs.lemmas.Result.{err_from_is_err_and}
 use Rattle.raptorq.specs.SourceBlockEncodingPlan.{plan_refusal, RefusesPlan}
 use Rattle.raptorq.specs.SourceBlockEncodingPlanCache.{PlanCache, holds_count, counts_after_use}
-use Rattle.raptorq.proofs.CacheLaws.{held_at, held_by, held_known, place_found, counts_after_use-held, new_last}
+use Rattle.raptorq.proofs.CacheLaws.{held_at, held_by, held_known, count_found, counts_after_use-held, new_last}
 use Rattle.raptorq.proofs.encoder.cache.SourceBlockEncodingPlanCache.get_or_insert.Goals as goal
 
 pub returns-in-Some-clause-used : goal.returns-in-Some-clause-used
@@ -14,7 +14,7 @@ returns-in-Some-clause-used c =
     ap (λ (xs : List ℕ). let s : PlanCache = record { table = cache.table; counts = xs } in s) (sym (counts_after_use-held cache.counts c.args.count held))
 
 pub returns-in-Some-clause-index : goal.returns-in-Some-clause-index
-returns-in-Some-clause-index c = place_found c.args.self.now.counts c.args.count c.in-Some.index (sym (c.index_of.ensures ∙ ap (held_at c.args.count) c.self.view_is) ∙ c.in-Some.is)
+returns-in-Some-clause-index c = count_found c.args.self.now.counts c.args.count c.in-Some.index (sym (c.index_of.ensures ∙ ap (held_at c.args.count) c.self.view_is) ∙ c.in-Some.is)
 
 pub returns-in-Some-clause-taken : goal.returns-in-Some-clause-taken
 returns-in-Some-clause-taken c =
