@@ -9,7 +9,7 @@ use Rattle.rq_algebra.specs.Arrangements.{RowsStandIn}
 use Rattle.rq_algebra.specs.Operations.{Operation, Store, run, unordered, found_by, IsUnread, FindsColumn}
 use Rattle.rq_algebra.specs.Symbols.{symbols, IsSymbol, IsSymbolColumn, AreSymbols, SolvesSymbols, symbol_at}
 use Rattle.rq_algebra.specs.Systems.{HasHomogeneousColumn, IsHomogeneousColumn, rows_of}
-use Rattle.rq_algebra.proofs.Found.{finds_determined, found_are_symbols, found_leaves, found_fits}
+use Rattle.rq_algebra.proofs.Found.{finds_determined, finds_symbols}
 use Rattle.rq_algebra.proofs.Solutions.{determined_stays, homogeneous_not_determined}
 use Rattle.rq_algebra.proofs.Stacks.{stacked_above, stacked_below}
 use Rattle.rq_algebra.proofs.SymbolColumns.{run_keeps_symbols}
@@ -161,14 +161,14 @@ module _ (height width : ℕ) (rows : ℕ → ℕ → ℕ) (operations : List Op
   leaves_zeros column is solves o set i unread =
       let same : o ≡ finds.order = same_Some o finds.order (sym set ∙ order_is) in
       ap (λ (xs : List (List ℕ)). symbol_at xs i) left_is
-      ∙ found_leaves octets height width rows operations finds handed.symbol_size handed.values are column is solves i (subst (λ n. IsUnread n finds.order i) count_is (subst (λ l. IsUnread (length slab.values) l i) same unread))
+      ∙ (finds_symbols octets height width rows operations finds handed.symbol_size handed.values are).leaves column is solves i (subst (λ n. IsUnread n finds.order i) count_is (subst (λ l. IsUnread (length slab.values) l i) same unread))
       ∙ ap (λ n. replicate {A = ℕ} n 0) (sym size_is)
 
   -- and where that is zeros, the column that is found solves the rows
   pub zeros_solve : IsZeroUnread slab → ((k : ℕ) → symbol_in slab k ≡ found_by (symbols octets) operations handed.values k) → SolvesSymbols octets height width rows (symbol_in slab) (symbol_at handed.values)
   unfolding left
   zeros_solve zeros reads = subst (λ (column : ℕ → List ℕ). SolvesSymbols octets height width rows column (symbol_at handed.values)) (λ j k. sym (reads k) j)
-      (found_fits octets height width rows operations finds handed.symbol_size handed.values are (λ i unread.
+      ((finds_symbols octets height width rows operations finds handed.symbol_size handed.values are).consistent (λ i unread.
       ap (λ (xs : List (List ℕ)). symbol_at xs i) (sym left_is) ∙ zeros finds.order order_is i (subst (λ n. IsUnread n finds.order i) (sym count_is) unread) ∙ ap (λ n. replicate {A = ℕ} n 0) size_is))
 
 -- what the operations make of the values is the block's solution
@@ -183,7 +183,7 @@ solution_found row ids solution handed slab from symbols_are order made =
       determined = first_determine row solution.precode_rows ids from.few operations from.finds;
       enough = places_count slab (intermediate_symbols row) s.places;
       size_is = ap (λ (g : Slab). g.symbol_size) made;
-      symbols = λ k l. subst (IsSymbol octets handed.symbol_size) (sym (s.reads k)) (found_are_symbols octets height (intermediate_symbols row) rows operations from.finds handed.symbol_size handed.values symbols_are k l);
+      symbols = λ k l. subst (IsSymbol octets handed.symbol_size) (sym (s.reads k)) ((finds_symbols octets height (intermediate_symbols row) rows operations from.finds handed.symbol_size handed.values symbols_are).are_symbols k l);
       only = λ column is solves k l. s.only handed.symbol_size handed.values column symbols_are is solves k l ∙ sym (s.reads k);
       leaves = leaves_zeros height (intermediate_symbols row) rows operations from.finds handed slab symbols_are order made;
       solves = λ zeros. zeros_solve height (intermediate_symbols row) rows operations from.finds handed slab symbols_are order made zeros s.reads;

@@ -106,14 +106,14 @@ pub record Reaches (c : Configuration) (o : ℕ) : Type 0 where
   pub starts : o < c.symbol_size → sub_block_start c o ≡ o
 
 pub reaches_none : (c : Configuration) → IsAligned c → Reaches c 0
-reaches_none c aligned = record { within = omega arith; starts = λ some. omega (arith, (at_byte c 0 aligned.alignment_positive aligned.aligned some).low) }
+reaches_none c aligned = record { within = omega arith; starts = λ some. omega (arith, (at_byte c 0 aligned some).low) }
 
 pub part_from : (c : Configuration) (o : ℕ) → IsAligned c → Reaches c o → o < c.symbol_size → IsSubBlock c o (sub_block_size c o)
-part_from c o aligned at below = subst (λ s. IsSubBlock c s (sub_block_size c o)) (at.starts below) (at_byte c o aligned.alignment_positive aligned.aligned below).part
+part_from c o aligned at below = subst (λ s. IsSubBlock c s (sub_block_size c o)) (at.starts below) (at_byte c o aligned below).part
 
 pub reaches_more : (c : Configuration) (o z : ℕ) → IsAligned c → Reaches c o → o < c.symbol_size → z ≡ sub_block_size c o → Reaches c (o + z)
 reaches_more c o z aligned at below is =
-    subst (λ w. Reaches c (o + w)) (sym is) (record { within = (part_from c o aligned at below).room; starts = λ more. next_start c o aligned.alignment_positive aligned.aligned below (at.starts below) more })
+    subst (λ w. Reaches c (o + w)) (sym is) (record { within = (part_from c o aligned at below).room; starts = λ more. next_start c o aligned below (at.starts below) more })
 
 -- a sub-block has bytes, and ends within the symbol
 pub width_within : (c : Configuration) (o z size : ℕ) → IsAligned c → Reaches c o → o < size → size ≡ c.symbol_size → z ≡ sub_block_size c o → (0 < z) × (o + z ≤ size)

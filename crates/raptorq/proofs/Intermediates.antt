@@ -6,10 +6,11 @@ use Rattle.std.proofs.lemmas.List.{get_or_append_left, get_or-append_right, get_
 use Rattle.std.proofs.lemmas.List.FromFn.{length-range_with_len}
 use Rattle.rq_algebra.specs.Systems.{at}
 use Rattle.rq_algebra.specs.Operations.{Operation, AreAllowed, FindsColumn}
+use Rattle.rq_algebra.specs.SymbolLaws.{FindsSymbols}
 use Rattle.rq_algebra.specs.Symbols.{IsSymbol, AreSymbols, SolvesSymbols, symbol_at, slice_at}
 use Rattle.rq_algebra.proofs.Stacks.{stacked_above, stacked_below}
 use Rattle.rq_algebra.proofs.Solutions.{solves_same}
-use Rattle.rq_algebra.proofs.Found.{finds_determined, found_are_symbols, found_only, found_solves}
+use Rattle.rq_algebra.proofs.Found.{finds_determined, finds_symbols}
 use Rattle.rq_algebra.proofs.SymbolSums.{zeros_are_symbol}
 use Rattle.rq_bytes.specs.SymbolSlab.{slab_of, symbol_in}
 use Rattle.rq_operations.specs.RecordedOperations.{operations_of}
@@ -103,17 +104,17 @@ module _ (row : TableRow) (operations : List Operation) (finds : FindsColumn oct
   plan_nonsingular = rows_nonsingular row (finds_determined octets (equation_count row (extended_ids row)) (intermediate_symbols row) (equations row (extended_ids row)) operations finds)
 
   module _ (size : ℕ) (source : List (List ℕ)) (fits : length source ≤ row.extended_symbols) (are : AreSymbols octets size (length source) source) where
+    found : FindsSymbols octets (equation_count row (extended_ids row)) (intermediate_symbols row) (equations row (extended_ids row)) operations finds.order size (source_values row size source)
+    found = finds_symbols octets _ _ (equations row (extended_ids row)) operations finds size (source_values row size source) (values_are_symbols row size source fits are)
+
     plan_column : IsIntermediateColumn row size source (symbol_in (planned_slab row operations size source))
-    plan_column =
-        let values = values_are_symbols row size source fits are in
-        record {
-          symbols = found_are_symbols octets (equation_count row (extended_ids row)) (intermediate_symbols row) (equations row (extended_ids row)) operations finds size (source_values row size source) values;
-          solves = same_values row size source fits _ (symbol_at (source_values row size source)) (equation_values row size source) (λ i l. values_are row size i source fits l)
-              (found_solves octets (equation_count row (extended_ids row)) (intermediate_symbols row) (equations row (extended_ids row)) operations finds size (source_values row size source) values (count_source row));
-        }
+    plan_column = record {
+      symbols = found.are_symbols;
+      solves = same_values row size source fits _ (symbol_at (source_values row size source)) (equation_values row size source) (λ i l. values_are row size i source fits l) (found.solves (count_source row));
+    }
 
     plan_only : (other : ℕ → List ℕ) → IsIntermediateColumn row size source other → (k : ℕ) → k < intermediate_symbols row → other k ≡ symbol_in (planned_slab row operations size source) k
-    plan_only other is = found_only octets (equation_count row (extended_ids row)) (intermediate_symbols row) (equations row (extended_ids row)) operations finds size (source_values row size source) (values_are_symbols row size source fits are) other is.symbols
+    plan_only other is = found.only other is.symbols
         (same_values row size source fits other (equation_values row size source) (symbol_at (source_values row size source)) (λ i l. sym (values_are row size i source fits l)) is.solves)
 
   -- operations that find the column of a row's equations are its plan

@@ -1,31 +1,26 @@
 -- Functions of a place, changed at one place, and places that are looked for.
-use Rattle.std.proofs.Common.{◌≡◌, ◌≢◌, ℕ, zero, suc, ◌<◌, ◌⊎◌, cond, eqb, sym, ap, ◌∙◌, refl, arith, inl, inr}
+use Rattle.std.proofs.Common.{◌≡◌, ◌≢◌, ℕ, zero, suc, ◌<◌, ◌⊎◌, cond, eqb, sym, subst, refl, arith, inl, inr}
 use Rattle.std.proofs.lemmas.Bool.{cases_eq, eq-eqb, ne_eqb}
 use Rattle.rq_algebra.specs.Changes.{with_at}
 
+-- a number below n of the one kind, or all are of the other
+search_below : (P Q : ℕ → Type 0) → ((k : ℕ) → P k ⊎ Q k) → (n : ℕ) → ((p : ℕ) × (p < n) × P p) ⊎ ((k : ℕ) → k < n → Q k)
+search_below P Q test zero = inr (λ k l. absurd (omega arith))
+search_below P Q test (suc n) = elim (test n) [
+  | inl p ↦ inl (n, (omega arith), p)
+  | inr q ↦ elim (search_below P Q test n) [
+    | inl r ↦ inl (r.0, (omega (arith, r.1)), r.2)
+    | inr below ↦ inr (λ k l. elim (cases_eq k n) [ inl e ↦ subst Q (sym e) q | inr d ↦ below k (omega arith) ])
+  ]
+]
+
 -- a place below n where f is i, or there is none
 pub find_place : (n : ℕ) (f : ℕ → ℕ) (i : ℕ) → ((p : ℕ) × (p < n) × (f p ≡ i)) ⊎ ((k : ℕ) → k < n → f k ≢ i)
-find_place zero f i = inr (λ k l. absurd (omega arith))
-find_place (suc n) f i =
-    elim (cases_eq (f n) i) [
-      | inl e ↦ inl (n, (omega arith), e)
-      | inr d ↦ elim (find_place n f i) [
-        | inl q ↦ inl (q.0, (omega (arith, q.1)), q.2)
-        | inr g ↦ inr (λ k l. elim (cases_eq k n) [ inl s ↦ (λ e. d (ap f (sym s) ∙ e)) | inr c ↦ g k (omega arith) ])
-      ]
-    ]
+find_place n f i = search_below (λ k. f k ≡ i) (λ k. f k ≢ i) (λ k. cases_eq (f k) i) n
 
 -- a place below n where f is not 0, or there is none
 pub find_nonzero : (n : ℕ) (f : ℕ → ℕ) → ((p : ℕ) × (p < n) × (f p ≢ 0)) ⊎ ((i : ℕ) → i < n → f i ≡ 0)
-find_nonzero zero f = inr (λ i l. absurd (omega arith))
-find_nonzero (suc n) f =
-    elim (cases_eq (f n) 0) [
-      | inr d ↦ inl (n, (omega arith), d)
-      | inl e ↦ elim (find_nonzero n f) [
-        | inl q ↦ inl (q.0, (omega (arith, q.1)), q.2)
-        | inr g ↦ inr (λ i l. elim (cases_eq i n) [ inl s ↦ ap f s ∙ e | inr d ↦ g i (omega arith) ])
-      ]
-    ]
+find_nonzero n f = search_below (λ k. f k ≢ 0) (λ k. f k ≡ 0) (λ k. elim (cases_eq (f k) 0) [ inl e ↦ inr e | inr d ↦ inl d ]) n
 
 pub with_at_same : {X : Type 0} (f : ℕ → X) (n : ℕ) (x : X) (k : ℕ) → k ≡ n → with_at f n x k ≡ x
 unfolding with_at

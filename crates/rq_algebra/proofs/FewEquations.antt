@@ -2,8 +2,9 @@
 use Rattle.std.proofs.Common.{◌≡◌, ◌≢◌, ℕ, zero, suc, ◌<◌, Bool, true, false, cond, eqb, sym, ap, ◌∙◌, refl, arith, inl, inr}
 use Rattle.std.proofs.lemmas.Bool.{cases_eq, eq-eqb, ne_eqb}
 use Rattle.rq_algebra.specs.Field.{Field}
-use Rattle.rq_algebra.specs.Arrangements.{ArePlaces, IsFewOn}
-use Rattle.rq_algebra.specs.Systems.{dot, HasHomogeneousColumn, HasElements}
+use Rattle.rq_algebra.specs.Arrangements.{ArePlaces}
+use Rattle.rq_algebra.specs.Systems.{dot, HasHomogeneousColumn}
+use Rattle.rq_algebra.specs.SystemLaws.{FewEquationsHaveHomogeneousColumn, FewOnColumnsHaveHomogeneousColumn}
 use Rattle.rq_algebra.proofs.Sums.{sum_same, mul_zero, zero_mul, redo_mul, dot_same, dot_fma, dot-suc, dot_zero, dot_one, dot_below_size}
 use Rattle.rq_algebra.specs.Changes.{with_at}
 use Rattle.rq_algebra.proofs.ChangeLaws.{find_place, find_nonzero, with_at_same, with_at_other, without, without_below, without_onto}
@@ -60,43 +61,43 @@ module _ (F : Field) where
     };
   }
 
-  pub few_rows : (width height : ℕ) (a : ℕ → ℕ → ℕ) → height < width → HasElements F height width a → HasHomogeneousColumn F height width a
-  few_rows zero height a few elements = absurd (omega arith)
-  few_rows (suc n) zero a few elements = homogeneous_of_zero n zero a (λ i l. absurd (omega arith))
-  few_rows (suc n) (suc h) a few elements =
-      elim (find_nonzero (suc h) (λ i. a i n)) [
-        | inr empty ↦ homogeneous_of_zero n (suc h) a empty
-        | inl q ↦ homogeneous_step n h a q.0 q.1 q.2 elements
-            (few_rows n h (λ i. cleared a n q.0 (without q.0 h i)) (omega arith)
-            (λ i k l m. unfold cleared in F.add_below _ _ (elements (without q.0 h i) k (without_below q.0 h i l) (omega arith)) (F.mul_below _ _)))
-      ]
+pub few_rows : FewEquationsHaveHomogeneousColumn
+few_rows F zero height a few elements = absurd (omega arith)
+few_rows F (suc n) zero a few elements = homogeneous_of_zero F n zero a (λ i l. absurd (omega arith))
+few_rows F (suc n) (suc h) a few elements =
+    elim (find_nonzero (suc h) (λ i. a i n)) [
+      | inr empty ↦ homogeneous_of_zero F n (suc h) a empty
+      | inl q ↦ homogeneous_step F n h a q.0 q.1 q.2 elements
+          (few_rows F n h (λ i. cleared F a n q.0 (without q.0 h i)) (omega arith)
+          (λ i k l m. unfold cleared in F.add_below _ _ (elements (without q.0 h i) k (without_below q.0 h i l) (omega arith)) (F.mul_below _ _)))
+    ]
 
-  -- on n + 1 of the columns only n of the rows are not zero: then a homogeneous column stands there
-  pub homogeneous_of_few : (height width n : ℕ) (a : ℕ → ℕ → ℕ) (rows columns : ℕ → ℕ) → HasElements F height width a → IsFewOn height width n a rows columns → HasHomogeneousColumn F height width a
-  unfolding dot
-  homogeneous_of_few height width n a rows columns elements few =
-      let are : ArePlaces (suc n) width columns = few.columns_are in
-      let null : HasHomogeneousColumn F n (suc n) (λ p j. a (rows p) (columns j)) = few_rows (suc n) n (λ p j. a (rows p) (columns j)) (omega arith) (λ p j l m. elements (rows p) (columns j) (few.rows_below p l) (are.below j m)) in
-      let x : ℕ → ℕ = spread (suc n) columns null.column in
-      let says : (i : ℕ) → i < height → dot F width (a i) x ≡ dot F (suc n) (λ j. a i (columns j)) null.column = (λ (i : ℕ) (l : i < height).
-      sum_places F (suc n) width (λ k. F.mul (a i k) (x k)) columns are (λ k m free. cc (spread_off (suc n) columns null.column k free, mul_zero F (a i k)))
-      ∙ sum_same F (suc n) (λ j. F.mul (a i (columns j)) (x (columns j))) (λ j. F.mul (a i (columns j)) (null.column j)) (λ j m. ap (λ (y : ℕ). F.mul (a i (columns j)) y) (spread_at (suc n) width columns null.column are j m))) in
-      record {
-        column = x;
-        is_column = λ k l. elim (find_place (suc n) columns k) [
-          | inl q ↦ rw (← q.2, spread_at (suc n) width columns null.column are q.0 q.1) (null.is_column q.0 q.1)
-          | inr free ↦ rw (spread_off (suc n) columns null.column k free) (omega (arith, F.one_below))
+-- on n + 1 of the columns only n of the rows are not zero: then a homogeneous column stands there
+pub homogeneous_of_few : FewOnColumnsHaveHomogeneousColumn
+unfolding dot
+homogeneous_of_few F height width n a rows columns elements few =
+    let are : ArePlaces (suc n) width columns = few.columns_are in
+    let null : HasHomogeneousColumn F n (suc n) (λ p j. a (rows p) (columns j)) = few_rows F (suc n) n (λ p j. a (rows p) (columns j)) (omega arith) (λ p j l m. elements (rows p) (columns j) (few.rows_below p l) (are.below j m)) in
+    let x : ℕ → ℕ = spread (suc n) columns null.column in
+    let says : (i : ℕ) → i < height → dot F width (a i) x ≡ dot F (suc n) (λ j. a i (columns j)) null.column = (λ (i : ℕ) (l : i < height).
+    sum_places F (suc n) width (λ k. F.mul (a i k) (x k)) columns are (λ k m free. cc (spread_off (suc n) columns null.column k free, mul_zero F (a i k)))
+    ∙ sum_same F (suc n) (λ j. F.mul (a i (columns j)) (x (columns j))) (λ j. F.mul (a i (columns j)) (null.column j)) (λ j m. ap (λ (y : ℕ). F.mul (a i (columns j)) y) (spread_at (suc n) width columns null.column are j m))) in
+    record {
+      column = x;
+      is_column = λ k l. elim (find_place (suc n) columns k) [
+        | inl q ↦ rw (← q.2, spread_at (suc n) width columns null.column are q.0 q.1) (null.is_column q.0 q.1)
+        | inr free ↦ rw (spread_off (suc n) columns null.column k free) (omega (arith, F.one_below))
+      ];
+      index = columns null.index;
+      in_width = are.below null.index null.in_width;
+      nonzero = rw (spread_at (suc n) width columns null.column are null.index null.in_width) null.nonzero;
+      solves = record {
+        at = λ i l. says i l ∙ elim (find_place n rows i) [
+          | inl q ↦ ap (λ (r : ℕ). dot F (suc n) (λ j. a r (columns j)) null.column) (sym q.2) ∙ null.solves.at q.0 q.1
+          | inr free ↦ dot_zero F (suc n) (λ j. a i (columns j)) null.column (λ j m. cc (few.zeros i l free j m, zero_mul F (null.column j)))
         ];
-        index = columns null.index;
-        in_width = are.below null.index null.in_width;
-        nonzero = rw (spread_at (suc n) width columns null.column are null.index null.in_width) null.nonzero;
-        solves = record {
-          at = λ i l. says i l ∙ elim (find_place n rows i) [
-            | inl q ↦ ap (λ (r : ℕ). dot F (suc n) (λ j. a r (columns j)) null.column) (sym q.2) ∙ null.solves.at q.0 q.1
-            | inr free ↦ dot_zero F (suc n) (λ j. a i (columns j)) null.column (λ j m. cc (few.zeros i l free j m, zero_mul F (null.column j)))
-          ];
-        };
-      }
+      };
+    }
 
 -- n places below n are all of them: else n unknowns in fewer equations, each of which is one unknown, would not all be 0
 pub all_places : (F : Field) (n : ℕ) (places : ℕ → ℕ) → ArePlaces n n places → (i : ℕ) → i < n → (j : ℕ) × (j < n) × (places j ≡ i)

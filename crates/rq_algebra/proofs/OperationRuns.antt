@@ -1,13 +1,14 @@
 -- One more operation: what it asks, and that it does to the values what was done to the rows.
-use Rattle.std.proofs.Common.{◌≡◌, ◌≢◌, ℕ, ◌<◌, List, [], ◌∷◌, ◌++◌, Option, None, get_or, set, sym, ap, ◌∙◌, refl, subst, arith, inl, inr, replicate}
+use Rattle.std.proofs.Common.{◌≡◌, ◌≢◌, ℕ, ◌<◌, List, [], ◌∷◌, ◌++◌, Option, None, set, sym, ap, ◌∙◌, refl, subst, arith, inl, inr, replicate}
 use Rattle.std.proofs.lemmas.Bool.{cases_eq}
 use Rattle.std.proofs.lemmas.List.{get_or-set_same, get_or-set_other, length-set, length-replicate}
 use Rattle.std.proofs.lemmas.List.Sums.{fold_push}
 use Rattle.rq_algebra.specs.Field.{Field}
 use Rattle.rq_algebra.specs.Systems.{at}
-use Rattle.rq_algebra.specs.Steps.{AddsRow, ScalesRow}
+use Rattle.rq_algebra.specs.Steps.{AddsRow, SameSolutions}
 use Rattle.rq_algebra.specs.Operations.{Operation, AddAssign, MulAssign, Fma, Reorder, Space, Store, step, run, plain, unordered, IsAllowed, AreAllowed, order_after, IsValues}
-use Rattle.rq_algebra.specs.Following.{KeepsSolutions, Follows}
+use Rattle.rq_algebra.specs.Following.{KeepsSolutions, Follows, Extends}
+use Rattle.rq_algebra.specs.OperationLaws.{NothingFollows, AddAssignExtends, FmaExtends, MulAssignExtends}
 use Rattle.rq_algebra.proofs.Placewise.{at-zeros}
 use Rattle.rq_algebra.proofs.Solutions.{SameSolutions-refl, SameSolutions-trans, adds_keeps, scales_keeps}
 
@@ -46,31 +47,17 @@ pub AreAllowed-middle : (n : ℕ) (order : Option (List ℕ)) (before : List Ope
 AreAllowed-middle n order [] operation after all = all.0
 AreAllowed-middle n order (first ∷ before) operation after all = AreAllowed-middle n (order_after order first) before operation after all.1
 
-module _ (F : Field) (height width : ℕ) where
-  pub follows_none : (rows : ℕ → ℕ → ℕ) → Follows F height width rows rows []
-  unfolding run
-  follows_none rows = record { allowed = tt; keeps = λ v e. record { values = e; order = refl; same = SameSolutions-refl F height width rows (at v) } }
+pub follows_none : NothingFollows
+unfolding run
+follows_none F height width rows = record { allowed = tt; keeps = λ v e. record { values = e; order = refl; same = SameSolutions-refl F height width rows (at v) } }
 
+module _ (F : Field) (height width : ℕ) where
   pub zero_values : IsValues F height (replicate height 0)
   zero_values = record { count = length-replicate height 0; elements = λ i l. rw (at-zeros height i) (omega (arith, F.one_below)) }
 
   -- operations that follow rows set no order
   pub follows_unordered : (original rows : ℕ → ℕ → ℕ) (operations : List Operation) → Follows F height width original rows operations → last_order None operations ≡ None
   follows_unordered original rows operations f = sym (order-run (plain F) operations (unordered (replicate height 0))) ∙ (f.keeps (replicate height 0) zero_values).order
-
-  -- what one more operation is to do
-  follows_more : (original a b : ℕ → ℕ → ℕ) (operations : List Operation) (operation : Operation) → IsAllowed height None operation
-      → ((v w : List ℕ) → KeepsSolutions F height width original a v (unordered w) → KeepsSolutions F height width original b v (step (plain F) (unordered w) operation))
-      → Follows F height width original a operations → Follows F height width original b (operations ++ operation ∷ [])
-  follows_more original a b operations operation allowed one f = record {
-    allowed = AreAllowed-push height None operations operation f.allowed (subst (λ (o : Option (List ℕ)). IsAllowed height o operation) (sym (follows_unordered original a operations f)) allowed);
-    keeps = λ v e.
-        let s : Store ℕ = run (plain F) operations (unordered v) in
-        let k : KeepsSolutions F height width original a v s = f.keeps v e in
-        let is : unordered s.values ≡ s = ap (λ (o : Option (List ℕ)). let t : Store ℕ = record { values = s.values; order = o } in t) (sym k.order) in
-        rw (run_push (plain F) operations operation (unordered v)) (
-        subst (λ (t : Store ℕ). KeepsSolutions F height width original b v (step (plain F) t operation)) is (one v s.values record { values = k.values; order = refl; same = k.same }));
-  }
 
   values_set : (v : List ℕ) (i x : ℕ) → i < height → x < F.size → IsValues F height v → IsValues F height (set v i x)
   values_set v i x l m e = record {
@@ -81,38 +68,60 @@ module _ (F : Field) (height width : ℕ) where
     ];
   }
 
-  pub follows_fma : (original a b : ℕ → ℕ → ℕ) (operations : List Operation) (dest src scalar : ℕ) → src ≢ dest → dest < height → src < height → AddsRow F height width dest src scalar a b → Follows F height width original a operations → Follows F height width original b (operations ++ Fma dest src scalar ∷ [])
-  unfolding step
-  follows_fma original a b operations dest src scalar apart in_dest in_src rows =
-      follows_more original a b operations (Fma dest src scalar) (in_dest, in_src, apart) (λ v w k. record {
-        values = values_set w dest _ in_dest (F.add_below _ _ (k.values.elements dest in_dest) (F.mul_below _ _)) k.values;
-        order = refl;
-        same = SameSolutions-trans F height width k.same (adds_keeps F height width dest src scalar apart in_dest in_src a b (at w) _ rows record {
-          at_dest = get_or-set_same w dest _ 0 (omega (arith, k.values.count));
-          elsewhere = λ i l d. get_or-set_other w dest i _ 0 d;
-        });
-      })
+  module _ (a b : ℕ → ℕ → ℕ) (operations : List Operation) (operation : Operation) (dest : ℕ) (allowed : IsAllowed height None operation) (in_dest : dest < height) where
+    -- one more operation, which sets a value so that the changed rows say what the rows said
+    follows_more : ((w : List ℕ) → IsValues F height w → (x : ℕ) × (x < F.size) × (step (plain F) (unordered w) operation ≡ unordered (set w dest x)) × SameSolutions F height width a (at w) b (at (set w dest x)))
+        → Extends F height width a operations b (operations ++ operation ∷ [])
+    follows_more sets original f = record {
+      allowed = AreAllowed-push height None operations operation f.allowed (subst (λ (o : Option (List ℕ)). IsAllowed height o operation) (sym (follows_unordered original a operations f)) allowed);
+      keeps = λ v e.
+          let s : Store ℕ = run (plain F) operations (unordered v) in
+          let k : KeepsSolutions F height width original a v s = f.keeps v e in
+          let is : unordered s.values ≡ s = ap (λ (o : Option (List ℕ)). let t : Store ℕ = record { values = s.values; order = o } in t) (sym k.order) in
+          let one = sets s.values k.values in
+          rw (run_push (plain F) operations operation (unordered v)) (
+          subst (λ (t : Store ℕ). KeepsSolutions F height width original b v (step (plain F) t operation)) is (
+          subst (λ (t : Store ℕ). KeepsSolutions F height width original b v t) (sym one.2) record {
+            values = values_set s.values dest one.0 in_dest one.1 k.values;
+            order = refl;
+            same = SameSolutions-trans F height width k.same one.3;
+          }));
+    }
 
-  pub follows_scale : (original a b : ℕ → ℕ → ℕ) (operations : List Operation) (dest scalar : ℕ) → dest < height → scalar < F.size → scalar ≢ 0 → ScalesRow F height width dest scalar a b → Follows F height width original a operations → Follows F height width original b (operations ++ MulAssign dest scalar ∷ [])
-  unfolding step
-  follows_scale original a b operations dest scalar in_dest is_element nonzero rows =
-      follows_more original a b operations (MulAssign dest scalar) in_dest (λ v w k. record {
-        values = values_set w dest _ in_dest (F.mul_below _ _) k.values;
-        order = refl;
-        same = SameSolutions-trans F height width k.same (scales_keeps F height width dest scalar in_dest is_element nonzero a b (at w) _ k.values.elements rows record {
-          at_dest = get_or-set_same w dest _ 0 (omega (arith, k.values.count));
-          elsewhere = λ i l d. get_or-set_other w dest i _ 0 d;
-        });
-      })
+    -- one that adds a multiple of a value
+    follows_adding : (src scalar : ℕ) → src ≢ dest → src < height → AddsRow F height width dest src scalar a b
+        → ((w : List ℕ) → IsValues F height w → step (plain F) (unordered w) operation ≡ unordered (set w dest (F.add (at w dest) (F.mul scalar (at w src)))))
+        → Extends F height width a operations b (operations ++ operation ∷ [])
+    follows_adding src scalar apart in_src rows sets = follows_more (λ w e. (
+      _,
+      F.add_below _ _ (e.elements dest in_dest) (F.mul_below _ _),
+      sets w e,
+      adds_keeps F height width dest src scalar apart in_dest in_src a b (at w) _ rows record {
+        at_dest = get_or-set_same w dest _ 0 (omega (arith, e.count));
+        elsewhere = λ i l d. get_or-set_other w dest i _ 0 d;
+      },
+    ))
 
-  pub follows_add : (original a b : ℕ → ℕ → ℕ) (operations : List Operation) (dest src : ℕ) → src ≢ dest → dest < height → src < height → AddsRow F height width dest src 1 a b → Follows F height width original a operations → Follows F height width original b (operations ++ AddAssign dest src ∷ [])
-  unfolding step
-  follows_add original a b operations dest src apart in_dest in_src rows =
-      follows_more original a b operations (AddAssign dest src) (in_dest, in_src, apart) (λ v w k. record {
-        values = values_set w dest _ in_dest (F.add_below _ _ (k.values.elements dest in_dest) (k.values.elements src in_src)) k.values;
-        order = refl;
-        same = SameSolutions-trans F height width k.same (adds_keeps F height width dest src 1 apart in_dest in_src a b (at w) _ rows record {
-          at_dest = get_or-set_same w dest _ 0 (omega (arith, k.values.count)) ∙ ap (λ (y : ℕ). F.add (get_or w dest 0) y) (sym (F.one_mul (get_or w src 0) (k.values.elements src in_src)));
-          elsewhere = λ i l d. get_or-set_other w dest i _ 0 d;
-        });
-      })
+pub follows_fma : FmaExtends
+unfolding step
+follows_fma F height width a b operations dest src scalar apart in_dest in_src rows =
+    follows_adding F height width a b operations (Fma dest src scalar) dest (in_dest, in_src, apart) in_dest src scalar apart in_src rows (λ w e. refl)
+
+pub follows_add : AddAssignExtends
+unfolding step
+follows_add F height width a b operations dest src apart in_dest in_src rows =
+    follows_adding F height width a b operations (AddAssign dest src) dest (in_dest, in_src, apart) in_dest src 1 apart in_src rows (λ w e.
+    ap (λ y. unordered (set w dest (F.add (at w dest) y))) (sym (F.one_mul (at w src) (e.elements src in_src))))
+
+pub follows_scale : MulAssignExtends
+unfolding step
+follows_scale F height width a b operations dest scalar in_dest is_element nonzero rows =
+    follows_more F height width a b operations (MulAssign dest scalar) dest in_dest in_dest (λ w e. (
+      _,
+      F.mul_below _ _,
+      refl,
+      scales_keeps F height width dest scalar in_dest is_element nonzero a b (at w) _ e.elements rows record {
+        at_dest = get_or-set_same w dest _ 0 (omega (arith, e.count));
+        elsewhere = λ i l d. get_or-set_other w dest i _ 0 d;
+      },
+    ))

@@ -1,5 +1,5 @@
 -- The sum at listed places is the dot with their parities.
-use Rattle.std.proofs.Common.{◌≡◌, ◌≢◌, ℕ, ◌+◌, ◌<◌, ◌%◌, ◌⊎◌, List, [], ◌∷◌, All, cond, eqb, sym, ap, ◌∙◌, refl, arith, inl, inr}
+use Rattle.std.proofs.Common.{◌≡◌, ◌≢◌, ℕ, ◌+◌, ◌<◌, ◌%◌, ◌⊎◌, List, [], ◌∷◌, cond, eqb, sym, ap, ◌∙◌, refl, arith, inl, inr}
 use Rattle.std.specs.List.{count_by}
 use Rattle.std.proofs.lemmas.Bool.{cases_eq, eq-eqb, ne_eqb}
 use Rattle.std.proofs.lemmas.List.Sums.{sum_by-cons}
@@ -8,6 +8,7 @@ use Rattle.rq_algebra.specs.Field.{Field}
 use Rattle.rq_algebra.specs.Systems.{dot, IsColumn}
 use Rattle.rq_algebra.specs.Operations.{plain}
 use Rattle.rq_algebra.specs.Parities.{sum_listed, parity}
+use Rattle.rq_algebra.specs.SymbolLaws.{SumIsDotOfParities}
 use Rattle.rq_algebra.proofs.Sums.{add_zero, zero_mul, sum_same, sum_add, dot_zero, dot_one}
 
 -- 1 at p alone
@@ -54,11 +55,11 @@ module _ (F : Field) where
       dot_one F width (unit p) column p l (λ k m d. unit_other p k (λ e. d (sym e)))
       ∙ ap (λ (x : ℕ). F.mul x (column p)) (unit_same p p refl) ∙ F.one_mul (column p) (elements p l)
 
-  pub sum_listed_is : (width : ℕ) (places : List ℕ) (column : ℕ → ℕ) → All (λ p. p < width) places → IsColumn F width column → sum_listed (plain F) places column ≡ dot F width (parity places) column
-  unfolding sum_listed dot
-  sum_listed_is width [] column below elements = sym (dot_zero F width (parity []) column (λ k l. unfold parity in zero_mul F (column k)))
-  sum_listed_is width (p ∷ places) column below elements =
-      ap (λ (y : ℕ). F.add y (sum_listed (plain F) places column)) (sym (dot-unit width p column (All-head (λ q. q < width) p places below) elements))
-      ∙ ap (λ (y : ℕ). F.add (dot F width (unit p) column) y) (sum_listed_is width places column (All-tail (λ q. q < width) p places below) elements)
-      ∙ sym (sum_add F width (λ k. F.mul (unit p k) (column k)) (λ k. F.mul (parity places k) (column k)))
-      ∙ sym (sum_same F width _ _ (λ k l. mul_parity p places k (column k)))
+pub sum_listed_is : SumIsDotOfParities
+unfolding sum_listed dot
+sum_listed_is F width [] column below elements = sym (dot_zero F width (parity []) column (λ k l. unfold parity in zero_mul F (column k)))
+sum_listed_is F width (p ∷ places) column below elements =
+    ap (λ (y : ℕ). F.add y (sum_listed (plain F) places column)) (sym (dot-unit F width p column (All-head (λ q. q < width) p places below) elements))
+    ∙ ap (λ (y : ℕ). F.add (dot F width (unit p) column) y) (sum_listed_is F width places column (All-tail (λ q. q < width) p places below) elements)
+    ∙ sym (sum_add F width (λ k. F.mul (unit p k) (column k)) (λ k. F.mul (parity places k) (column k)))
+    ∙ sym (sum_same F width _ _ (λ k l. mul_parity F p places k (column k)))

@@ -2,10 +2,11 @@
 use Rattle.std.proofs.Common.{◌≡◌, ◌≢◌, ℕ, ◌<◌, List, [], ◌∷◌, ◌++◌, None, replicate, get_or, sym, ap, ◌∙◌, refl, arith, inl, inr}
 use Rattle.std.proofs.lemmas.List.Elements.{All-from_get_or, All-get_or}
 use Rattle.rq_algebra.specs.Field.{Field}
-use Rattle.rq_algebra.specs.Systems.{dot, Solves, IsColumn, HasHomogeneousColumn, at}
-use Rattle.rq_algebra.specs.Operations.{Operation, Reorder, Space, Store, step, run, plain, unordered, read, IsOrder, IsValues, IsUnread, found_by, FindsColumn}
+use Rattle.rq_algebra.specs.Systems.{dot, Solves, IsColumn, at}
+use Rattle.rq_algebra.specs.Operations.{Operation, Reorder, Space, Store, step, run, plain, unordered, read, IsOrder, IsValues, IsUnread, LeavesZeros, found_by, FindsColumn}
 use Rattle.rq_algebra.specs.PivotColumns.{HasPivots, ReadsPivots}
 use Rattle.rq_algebra.specs.Following.{Follows}
+use Rattle.rq_algebra.specs.OperationLaws.{HomogeneousColumnGoesBack}
 use Rattle.rq_algebra.proofs.Sums.{dot_one, dot_zero, zero_mul}
 use Rattle.rq_algebra.proofs.ChangeLaws.{find_place}
 use Rattle.rq_algebra.proofs.FewEquations.{all_places}
@@ -54,10 +55,10 @@ module _ (F : Field) (height width : ℕ) (original a : ℕ → ℕ → ℕ) (op
   left_at : (v : List ℕ) (i : ℕ) → at (run (plain F) (operations ++ Reorder order ∷ []) (unordered v)).values i ≡ at (run (plain F) operations (unordered v)).values i
   left_at v i = ap (λ (vs : List ℕ). at vs i) (values-reorder (plain F) operations order v)
 
-  leaves_zeros : (v : List ℕ) → IsValues F height v → (x : ℕ → ℕ) → Solves F height width original x (at v) → (i : ℕ) → IsUnread height order i → at (run (plain F) (operations ++ Reorder order ∷ []) (unordered v)).values i ≡ 0
+  leaves_zeros : (v : List ℕ) → IsValues F height v → (x : ℕ → ℕ) → Solves F height width original x (at v) → LeavesZeros F height order (operations ++ Reorder order ∷ []) v
   leaves_zeros v e x s i unread = left_at v i ∙ sym (((follows.keeps v e).same.onward x s).at i unread.0) ∙ rest_says x i unread.0 (unread_is i unread)
 
-  found_fits : (v : List ℕ) → IsValues F height v → ((i : ℕ) → IsUnread height order i → at (run (plain F) (operations ++ Reorder order ∷ []) (unordered v)).values i ≡ 0)
+  found_fits : (v : List ℕ) → IsValues F height v → LeavesZeros F height order (operations ++ Reorder order ∷ []) v
       → Solves F height width original (found_by (plain F) (operations ++ Reorder order ∷ []) v) (at v)
   found_fits v e zeros = (follows.keeps v e).same.back _ record {
     at = λ i l.
@@ -84,12 +85,12 @@ module _ (F : Field) (height width : ℕ) (original a : ℕ → ℕ → ℕ) (op
     solves = λ square v e. found_fits v e (λ i unread.
         let q = all_places F width rows (rw square at pivots.in_rows) i (rw square at unread.0) in
         absurd (unread_is i unread q.0 q.1 q.2));
-    leaves = λ v e x elements s i unread. leaves_zeros v e x s i unread;
+    leaves = λ v e x elements. leaves_zeros v e x;
     consistent = found_fits;
   }
 
 -- operations that follow rows take a homogeneous column back to the original ones
-pub homogeneous_back : (F : Field) (height width : ℕ) (original a : ℕ → ℕ → ℕ) (operations : List Operation) → Follows F height width original a operations → HasHomogeneousColumn F height width a → HasHomogeneousColumn F height width original
+pub homogeneous_back : HomogeneousColumnGoesBack
 homogeneous_back F height width original a operations follows n = record {
   column = n.column;
   is_column = n.is_column;

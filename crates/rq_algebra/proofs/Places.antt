@@ -4,6 +4,7 @@ use Rattle.std.proofs.lemmas.Bool.{cases_eq, eq-eqb, ne_eqb}
 use Rattle.rq_algebra.specs.Field.{Field}
 use Rattle.rq_algebra.specs.Arrangements.{ArePlaces, exchange}
 use Rattle.rq_algebra.specs.Systems.{sum_below}
+use Rattle.rq_algebra.specs.SystemLaws.{ExchangeIsAnOrder}
 use Rattle.rq_algebra.proofs.Sums.{sum_same, sum_zero, sum_add, sum_one, add_zero}
 use Rattle.rq_algebra.specs.Changes.{with_at}
 use Rattle.rq_algebra.proofs.ChangeLaws.{with_at_same, with_at_other}
@@ -83,7 +84,7 @@ exchange_twice p q i = elim (cases_eq i p) [
 ]
 
 -- an exchange of places, and places that are exchanged
-pub exchange_are : (p q n : ℕ) → p < n → q < n → ArePlaces n n (exchange p q)
+pub exchange_are : ExchangeIsAnOrder
 exchange_are p q n l m = record {
   below = exchange_below p q n l m;
   apart = λ i j o u e. sym (exchange_twice p q i) ∙ ap (exchange p q) e ∙ exchange_twice p q j;

@@ -1,10 +1,11 @@
 -- Operations commute with linear maps: on symbols they are, at each place, the operations on elements, and they keep zeros.
-use Rattle.std.proofs.Common.{◌≡◌, ℕ, zero, suc, List, [], ◌∷◌, map, replicate, get_or, set, sym, ap, ◌∙◌, refl}
+use Rattle.std.proofs.Common.{◌≡◌, ℕ, zero, suc, List, [], ◌∷◌, map, replicate, get_or, sym, ap, ◌∙◌, refl}
 use Rattle.std.proofs.lemmas.List.{map-set, length-map, ext_get_or}
 use Rattle.std.proofs.Math.ListN.{get_or-map}
 use Rattle.rq_algebra.specs.Field.{Field}
 use Rattle.rq_algebra.specs.Systems.{at}
-use Rattle.rq_algebra.specs.Operations.{Operation, AddAssign, MulAssign, Fma, Reorder, Space, Store, step, run, read, plain, meant_at}
+use Rattle.rq_algebra.specs.Operations.{Operation, AddAssign, MulAssign, Fma, Reorder, Space, Store, step, run, read, write, plain, meant_at}
+use Rattle.rq_algebra.specs.OperationLaws.{OperationsKeepZeros}
 use Rattle.rq_algebra.specs.Symbols.{symbols, add_symbols}
 use Rattle.rq_algebra.specs.Parities.{sum_listed}
 use Rattle.rq_algebra.proofs.Sums.{add_zero, mul_zero}
@@ -23,17 +24,17 @@ module _ {X Y : Type 0} (S : Space X) (T : Space Y) (f : X → Y) (linear : IsLi
   pub read_linear : (s : Store X) (i : ℕ) → f (read S s i) ≡ read T (map_store f s) i
   read_linear s i = sym (get_or-map f s.values (meant_at s.order i) S.zero) ∙ ap (λ (d : Y). get_or (map f s.values) (meant_at s.order i) d) linear.zero_is
 
-  write_linear : (s : Store X) (i : ℕ) (x : X) (y : Y) → f x ≡ y → map f (set s.values (meant_at s.order i) x) ≡ set (map f s.values) (meant_at s.order i) y
-  write_linear s i x y e = map-set f s.values (meant_at s.order i) x ∙ ap (λ (z : Y). set (map f s.values) (meant_at s.order i) z) e
+  write_linear : (s : Store X) (i : ℕ) (x : X) (y : Y) → f x ≡ y → map_store f (write s i x) ≡ write (map_store f s) i y
+  write_linear s i x y e =
+      ap (λ (vs : List Y). let t : Store Y = record { values = vs; order = s.order } in t) (map-set f s.values (meant_at s.order i) x)
+      ∙ ap (λ (z : Y). write (map_store f s) i z) e
 
   step_linear : (s : Store X) (operation : Operation) → map_store f (step S s operation) ≡ step T (map_store f s) operation
   unfolding step
-  step_linear s (AddAssign dest src) = ap (λ (vs : List Y). let t : Store Y = record { values = vs; order = s.order } in t)
-      (write_linear s dest _ _ (cc (linear.add_is (read S s dest) (read S s src), read_linear s dest, read_linear s src)))
-  step_linear s (MulAssign dest scalar) = ap (λ (vs : List Y). let t : Store Y = record { values = vs; order = s.order } in t)
-      (write_linear s dest _ _ (cc (linear.scale_is scalar (read S s dest), read_linear s dest)))
-  step_linear s (Fma dest src scalar) = ap (λ (vs : List Y). let t : Store Y = record { values = vs; order = s.order } in t)
-      (write_linear s dest _ _ (cc (linear.add_is (read S s dest) (S.scale scalar (read S s src)), linear.scale_is scalar (read S s src), read_linear s dest, read_linear s src)))
+  step_linear s (AddAssign dest src) = write_linear s dest _ _ (cc (linear.add_is (read S s dest) (read S s src), read_linear s dest, read_linear s src))
+  step_linear s (MulAssign dest scalar) = write_linear s dest _ _ (cc (linear.scale_is scalar (read S s dest), read_linear s dest))
+  step_linear s (Fma dest src scalar) =
+      write_linear s dest _ _ (cc (linear.add_is (read S s dest) (S.scale scalar (read S s src)), linear.scale_is scalar (read S s src), read_linear s dest, read_linear s src))
   step_linear s (Reorder order) = refl
 
   pub run_linear : (operations : List Operation) (s : Store X) → map_store f (run S operations s) ≡ run T operations (map_store f s)
@@ -85,11 +86,10 @@ module _ (F : Field) where
   unfolding nothing
   nothing_linear = record { zero_is = refl; add_is = λ x y. sym (F.zero_add 0); scale_is = λ c x. sym (mul_zero F c) }
 
-  -- operations keep zeros
-  pub zeros_stay : (operations : List Operation) (s : Store ℕ) → ((i : ℕ) → at s.values i ≡ 0) → (i : ℕ) → at (run (plain F) operations s).values i ≡ 0
-  zeros_stay operations s zeros i =
-      let same : map nothing s.values ≡ s.values = ext_get_or 0 (map nothing s.values) s.values (length-map s.values nothing) (λ k l. nothing_at s.values k ∙ sym (zeros k)) in
-      let fixed : map_store nothing s ≡ s = ap (λ (vs : List ℕ). let t : Store ℕ = record { values = vs; order = s.order } in t) same in
-      let t : Store ℕ = run (plain F) operations s in
-      let e : map_store nothing t ≡ t = run_linear (plain F) (plain F) nothing nothing_linear operations s ∙ ap (λ (u : Store ℕ). run (plain F) operations u) fixed in
-      ap (λ (u : Store ℕ). at u.values i) (sym e) ∙ nothing_at t.values i
+pub zeros_stay : OperationsKeepZeros
+zeros_stay F operations s zeros i =
+    let same : map nothing s.values ≡ s.values = ext_get_or 0 (map nothing s.values) s.values (length-map s.values nothing) (λ k l. nothing_at s.values k ∙ sym (zeros k)) in
+    let fixed : map_store nothing s ≡ s = ap (λ (vs : List ℕ). let t : Store ℕ = record { values = vs; order = s.order } in t) same in
+    let t : Store ℕ = run (plain F) operations s in
+    let e : map_store nothing t ≡ t = run_linear (plain F) (plain F) nothing (nothing_linear F) operations s ∙ ap (λ (u : Store ℕ). run (plain F) operations u) fixed in
+    ap (λ (u : Store ℕ). at u.values i) (sym e) ∙ nothing_at t.values i

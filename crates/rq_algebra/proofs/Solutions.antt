@@ -1,17 +1,21 @@
 -- Elementary operations keep the solutions of a system.
-use Rattle.std.proofs.Common.{◌≡◌, ◌≢◌, ◌↔◌, ℕ, List, ◌<◌, sym, ap, ◌∙◌, refl, inl, inr}
+use Rattle.std.proofs.Common.{◌≡◌, ◌≢◌, ℕ, List, ◌<◌, sym, ap, ◌∙◌, refl, inl, inr}
 use Rattle.std.proofs.lemmas.Bool.{cases_eq}
 use Rattle.rq_algebra.specs.Field.{Field}
-use Rattle.rq_algebra.specs.Arrangements.{ArePlaces, EquationsStandIn, RowsStandIn}
-use Rattle.rq_algebra.specs.Systems.{at, dot, Solves, IsColumn, IsDetermined, HasHomogeneousColumn, IsHomogeneousColumn}
-use Rattle.rq_algebra.specs.Steps.{AddsRow, ScalesRow, AddsValue, ScalesValue, SameSolutions}
+use Rattle.rq_algebra.specs.Systems.{at, dot, Solves, IsHomogeneousColumn}
+use Rattle.rq_algebra.specs.Steps.{AddsRow, AddsValue, SameSolutions}
+use Rattle.rq_algebra.specs.SystemLaws.{AddingKeepsSolutions, ScalingKeepsSolutions, RowOrderKeepsSolutions, ColumnOrderKeepsSolutions, NewSolvesOld, DeterminedStays, HomogeneousColumnRefutesDetermined, DeterminedHasOneSolution}
 use Rattle.rq_algebra.proofs.Sums.{add_again, dot_same, dot_fma, dot_mul_row, dot_below_size, undo_mul, dot_add_column}
 use Rattle.rq_algebra.proofs.FewEquations.{all_places, dot_places}
+
+-- an equation of the same coefficients and the same value
+equation_same : (F : Field) (width : ℕ) (r s x : ℕ → ℕ) (v w : ℕ) → ((k : ℕ) → k < width → s k ≡ r k) → w ≡ v → dot F width r x ≡ v → dot F width s x ≡ w
+equation_same F width r s x v w same value e = dot_same F width s r x x same (λ k l. refl) ∙ e ∙ sym value
 
 module _ (F : Field) (height width : ℕ) where
   -- the values of a row, where the rows agree
   pub solves_same : (a b : ℕ → ℕ → ℕ) (x v w : ℕ → ℕ) → ((i k : ℕ) → i < height → k < width → a i k ≡ b i k) → ((i : ℕ) → i < height → v i ≡ w i) → Solves F height width a x v → Solves F height width b x w
-  solves_same a b x v w rows values s = record { at = λ i l. dot_same F width (b i) (a i) x x (λ k m. sym (rows i k l m)) (λ k m. refl) ∙ s.at i l ∙ values i l }
+  solves_same a b x v w rows values s = record { at = λ i l. equation_same F width (a i) (b i) x (v i) (w i) (λ k m. sym (rows i k l m)) (sym (values i l)) (s.at i l) }
 
   -- a column that shows that rows determine none shows it of rows with the same entries
   pub homogeneous_column_same : (a b : ℕ → ℕ → ℕ) → ((i k : ℕ) → i < height → k < width → a i k ≡ b i k) → (column : List ℕ) → IsHomogeneousColumn F height width a column → IsHomogeneousColumn F height width b column
@@ -51,66 +55,65 @@ module _ (F : Field) (height width : ℕ) where
             ∙ dot_same F width (b dest) (λ k. F.add (a dest k) (F.mul c (a src k))) x x rows.at_dest (λ k m. refl)
             ∙ dot_fma F width c (a dest) (a src) x
             ∙ cc (s.at dest in_dest, s.at src in_src, values.at_dest, e)
-        | inr d ↦ dot_same F width (b i) (a i) x x (λ k m. rows.elsewhere i k l m d) (λ k m. refl) ∙ s.at i l ∙ sym (values.elsewhere i l d)
+        | inr d ↦ equation_same F width (a i) (b i) x (v i) (w i) (λ k m. rows.elsewhere i k l m d) (values.elsewhere i l d) (s.at i l)
       ];
     }
 
-    pub adds_keeps : (a b : ℕ → ℕ → ℕ) (v w : ℕ → ℕ) → AddsRow F height width dest src c a b → AddsValue F height dest src c v w → SameSolutions F height width a v b w
-    adds_keeps a b v w rows values = record {
-      onward = adds_onward a b v w rows values;
-      back = adds_onward b a w v (AddsRow-back a b rows) (AddsValue-back v w values);
-    }
+pub adds_keeps : AddingKeepsSolutions
+adds_keeps F height width dest src c apart in_dest in_src a b v w rows values = record {
+  onward = adds_onward F height width dest src c apart in_dest in_src a b v w rows values;
+  back = adds_onward F height width dest src c apart in_dest in_src b a w v
+      (AddsRow-back F height width dest src c apart in_dest in_src a b rows) (AddsValue-back F height width dest src c apart in_dest in_src v w values);
+}
 
-  -- multiplying a row by a nonzero element
-  module _ (dest c : ℕ) (in_dest : dest < height) (is_element : c < F.size) (nonzero : c ≢ 0) where
-    dot_scaled : (a b : ℕ → ℕ → ℕ) → ScalesRow F height width dest c a b → (x : ℕ → ℕ) → dot F width (b dest) x ≡ F.mul c (dot F width (a dest) x)
-    dot_scaled a b rows x = dot_same F width (b dest) (λ k. F.mul c (a dest k)) x x rows.at_dest (λ k m. refl) ∙ dot_mul_row F width c (a dest) x
-
-    pub scales_keeps : (a b : ℕ → ℕ → ℕ) (v w : ℕ → ℕ) → IsColumn F height v → ScalesRow F height width dest c a b → ScalesValue F height dest c v w → SameSolutions F height width a v b w
-    scales_keeps a b v w elements rows values = record {
+pub scales_keeps : ScalingKeepsSolutions
+scales_keeps F height width dest c in_dest is_element nonzero a b v w elements rows values =
+    let scaled : (x : ℕ → ℕ) → dot F width (b dest) x ≡ F.mul c (dot F width (a dest) x) = λ x.
+    dot_same F width (b dest) (λ k. F.mul c (a dest k)) x x rows.at_dest (λ k m. refl) ∙ dot_mul_row F width c (a dest) x in
+    record {
       onward = λ x s. record {
         at = λ i l. elim (cases_eq i dest) [
-          | inl e ↦ cc (dot_scaled a b rows x, s.at dest in_dest, values.at_dest, e)
-          | inr d ↦ dot_same F width (b i) (a i) x x (λ k m. rows.elsewhere i k l m d) (λ k m. refl) ∙ s.at i l ∙ sym (values.elsewhere i l d)
+          | inl e ↦ cc (scaled x, s.at dest in_dest, values.at_dest, e)
+          | inr d ↦ equation_same F width (a i) (b i) x (v i) (w i) (λ k m. rows.elsewhere i k l m d) (values.elsewhere i l d) (s.at i l)
         ];
       };
       back = λ x s. record {
         at = λ i l. elim (cases_eq i dest) [
-          | inl e ↦ cc (e, dot_scaled a b rows x, s.at dest in_dest, values.at_dest, undo_mul F c (dot F width (a dest) x) is_element nonzero (dot_below_size F width (a dest) x), undo_mul F c (v dest) is_element nonzero (elements dest in_dest))
-          | inr d ↦ dot_same F width (a i) (b i) x x (λ k m. sym (rows.elsewhere i k l m d)) (λ k m. refl) ∙ s.at i l ∙ values.elsewhere i l d
+          | inl e ↦ cc (e, scaled x, s.at dest in_dest, values.at_dest, undo_mul F c (dot F width (a dest) x) is_element nonzero (dot_below_size F width (a dest) x), undo_mul F c (v dest) is_element nonzero (elements dest in_dest))
+          | inr d ↦ equation_same F width (b i) (a i) x (w i) (v i) (λ k m. sym (rows.elsewhere i k l m d)) (sym (values.elsewhere i l d)) (s.at i l)
         ];
       };
     }
 
-  -- rows in another order
-  pub reorder_keeps : (to : ℕ → ℕ) → ArePlaces height height to → (a : ℕ → ℕ → ℕ) (v : ℕ → ℕ) → SameSolutions F height width a v (λ i. a (to i)) (λ i. v (to i))
-  reorder_keeps to are a v = record {
-    onward = λ x s. record { at = λ i l. s.at (to i) (are.below i l) };
-    back = λ x s. record { at = λ i l. let q = all_places F height to are i l in rw q.2 at (s.at q.0 q.1) };
-  }
+pub reorder_keeps : RowOrderKeepsSolutions
+reorder_keeps F height width to a v are = record {
+  onward = λ x s. record { at = λ i l. s.at (to i) (are.below i l) };
+  back = λ x s. record { at = λ i l. let q = all_places F height to are i l in rw q.2 at (s.at q.0 q.1) };
+}
 
-  -- columns in another order
-  pub columns_reordered : (to : ℕ → ℕ) → ArePlaces width width to → (a : ℕ → ℕ → ℕ) (x v : ℕ → ℕ) → Solves F height width a x v ↔ Solves F height width (λ i k. a i (to k)) (λ k. x (to k)) v
-  columns_reordered to are a x v = (
-    λ s. record { at = λ i l. dot_places F width (a i) x to are ∙ s.at i l },
-    λ s. record { at = λ i l. sym (dot_places F width (a i) x to are) ∙ s.at i l },
-  )
+pub columns_reordered : ColumnOrderKeepsSolutions
+columns_reordered F height width to a x v are = (
+  λ s. record { at = λ i l. dot_places F width (a i) x to are ∙ s.at i l },
+  λ s. record { at = λ i l. sym (dot_places F width (a i) x to are) ∙ s.at i l },
+)
 
 -- a solution stays one of equations among those that it solves
-pub solves_standing : (F : Field) (width old_height new_height : ℕ) (old new : ℕ → ℕ → ℕ) (x v w : ℕ → ℕ) → EquationsStandIn width old_height old v new_height new w → Solves F new_height width new x w → Solves F old_height width old x v
-solves_standing F width old_height new_height old new x v w stand s = record { at = λ i l. let m = stand i l in dot_same F width (old i) (new m.0) x x (λ k n. sym (m.2 k n)) (λ k n. refl) ∙ s.at m.0 m.1 ∙ m.3 }
+pub solves_standing : NewSolvesOld
+solves_standing F width old_height new_height old new x v w stand s = record {
+  at = λ i l. let m = stand i l in equation_same F width (new m.0) (old i) x (w m.0) (v i) (λ k n. sym (m.2 k n)) (sym m.3) (s.at m.0 m.1);
+}
 
 -- a determined system stays determined where each of its rows stands in the new one: rows added, repeated or in another order
-pub determined_stays : (F : Field) (width old_height new_height : ℕ) (old new : ℕ → ℕ → ℕ) → RowsStandIn width old_height old new_height new → IsDetermined F old_height width old → IsDetermined F new_height width new
+pub determined_stays : DeterminedStays
 determined_stays F width old_height new_height old new stand determined x elements s =
     determined x elements (solves_standing F width old_height new_height old new x (λ _. 0) (λ _. 0) (λ i l. let m = stand i l in (m.0, m.1, m.2, refl)) s)
 
 -- a homogeneous column refutes it
-pub homogeneous_not_determined : (F : Field) (height width : ℕ) (a : ℕ → ℕ → ℕ) → HasHomogeneousColumn F height width a → IsDetermined F height width a → ⊥
+pub homogeneous_not_determined : HomogeneousColumnRefutesDetermined
 homogeneous_not_determined F height width a n determined = n.nonzero (determined n.column n.is_column n.solves n.index n.in_width)
 
 -- a solution of a determined system is the only one
-pub determined_unique : (F : Field) (height width : ℕ) (a : ℕ → ℕ → ℕ) (x y v : ℕ → ℕ) → IsDetermined F height width a → IsColumn F width x → IsColumn F width y → Solves F height width a x v → Solves F height width a y v → (k : ℕ) → k < width → x k ≡ y k
+pub determined_unique : DeterminedHasOneSolution
 determined_unique F height width a x y v determined ex ey sx sy k l =
     let e : F.add (x k) (y k) ≡ 0 = determined (λ j. F.add (x j) (y j)) (λ j m. F.add_below (x j) (y j) (ex j m) (ey j m)) record { at = λ i m. cc (dot_add_column F width (a i) x y, sx.at i m, sy.at i m, F.add_self (v i)) } k l in
     cc (e, add_again F (x k) (y k), F.zero_add (y k))

@@ -3,6 +3,7 @@ use Rattle.std.proofs.Common.{◌≡◌, ◌≢◌, ℕ, zero, suc, ◌+◌, ◌
 use Rattle.std.proofs.lemmas.Bool.{cases_eq}
 use Rattle.rq_algebra.specs.Field.{Field}
 use Rattle.rq_algebra.specs.Systems.{sum_below, dot}
+use Rattle.rq_algebra.specs.SystemLaws.{ProductActsInTurn}
 
 module _ (F : Field) where
   pub add_zero : (x : ℕ) → F.add x 0 ≡ x
@@ -142,12 +143,12 @@ module _ (F : Field) where
   sum_sum zero n f = sym (sum_zero n (λ k. 0) (λ k l. refl))
   sum_sum (suc m) n f = ap (λ (s : ℕ). F.add s (sum_below F n (λ k. f m k))) (sum_sum m n f) ∙ sym (sum_add n (λ k. sum_below F m (λ i. f i k)) (λ k. f m k))
 
-  -- a row times a matrix, times a column, is the row times the matrix times the column
-  pub dot_product : (m n : ℕ) (r : ℕ → ℕ) (a : ℕ → ℕ → ℕ) (x : ℕ → ℕ) → dot F n (λ k. dot F m r (λ i. a i k)) x ≡ dot F m r (λ i. dot F n (a i) x)
-  unfolding dot
-  dot_product m n r a x =
-      sum_same n _ _ (λ k l. F.mul_comm (sum_below F m (λ i. F.mul (r i) (a i k))) (x k) ∙ sym (sum_mul m (x k) (λ i. F.mul (r i) (a i k))))
-      ∙ sym (sum_sum m n (λ i k. F.mul (x k) (F.mul (r i) (a i k))))
-      ∙ sum_same m _ _ (λ i l.
-      sum_same n _ _ (λ k o. cc (F.mul_comm (x k) (F.mul (r i) (a i k)), F.mul_assoc (r i) (a i k) (x k)))
-      ∙ sum_mul n (r i) (λ k. F.mul (a i k) (x k)))
+-- a row times a matrix, times a column, is the row times the matrix times the column
+pub dot_product : ProductActsInTurn
+unfolding dot
+dot_product F m n r a x =
+    sum_same F n _ _ (λ k l. F.mul_comm (sum_below F m (λ i. F.mul (r i) (a i k))) (x k) ∙ sym (sum_mul F m (x k) (λ i. F.mul (r i) (a i k))))
+    ∙ sym (sum_sum F m n (λ i k. F.mul (x k) (F.mul (r i) (a i k))))
+    ∙ sum_same F m _ _ (λ i l.
+    sum_same F n _ _ (λ k o. cc (F.mul_comm (x k) (F.mul (r i) (a i k)), F.mul_assoc (r i) (a i k) (x k)))
+    ∙ sum_mul F n (r i) (λ k. F.mul (a i k) (x k)))

@@ -1,13 +1,14 @@
 -- Sums of symbols.
-use Rattle.std.proofs.Common.{◌≡◌, ℕ, zero, suc, ◌<◌, List, [], ◌∷◌, ◌++◌, All, map, length, replicate, sym, ap, ◌∙◌, refl, arith, inl, inr}
+use Rattle.std.proofs.Common.{◌≡◌, ℕ, zero, suc, ◌<◌, List, [], ◌∷◌, ◌++◌, map, length, replicate, sym, ap, ◌∙◌, refl, arith, inl, inr}
 use Rattle.std.proofs.lemmas.Bool.{cases_lt}
 use Rattle.std.proofs.lemmas.List.{length-map, length-replicate, get_or_past, ext_get_or}
 use Rattle.std.proofs.lemmas.List.Elements.{All-get_or, All-from_get_or, All-head, All-tail}
 use Rattle.rq_algebra.specs.Field.{Field}
-use Rattle.rq_algebra.specs.Systems.{at, dot}
+use Rattle.rq_algebra.specs.Systems.{at}
 use Rattle.rq_algebra.specs.Operations.{plain}
-use Rattle.rq_algebra.specs.Symbols.{add_symbols, symbols, IsSymbol, IsSymbolColumn, slice_at}
-use Rattle.rq_algebra.specs.Parities.{sum_listed, parity}
+use Rattle.rq_algebra.specs.Symbols.{add_symbols, symbols, IsSymbol, slice_at}
+use Rattle.rq_algebra.specs.Parities.{sum_listed}
+use Rattle.rq_algebra.specs.SymbolLaws.{SumIsSymbol, SymbolSumIsDotOfParities}
 use Rattle.rq_algebra.proofs.Placewise.{place, place_linear, add_symbols_at, scale_at, sum_listed-linear, at-zeros}
 use Rattle.rq_algebra.proofs.Parity.{sum_listed_is}
 
@@ -76,15 +77,15 @@ module _ (F : Field) (size : ℕ) where
     elements = All-from_get_or (λ x. x < F.size) (map (F.mul c) xs) 0 (λ p l. rw (scale_at F p c xs) (F.mul_below _ _));
   }
 
-  -- the sum of some of the symbols
-  pub sum_is_symbol : (width p : ℕ) (places : List ℕ) (column : ℕ → List ℕ) → All (λ k. k < width) (p ∷ places) → IsSymbolColumn F size width column → IsSymbol F size (sum_listed (symbols F) (p ∷ places) column)
-  unfolding sum_listed
-  sum_is_symbol width p [] column below are = rw (add_nothing F (column p)) (are p (All-head (λ k. k < width) p [] below))
-  sum_is_symbol width p (q ∷ places) column below are =
-      add_is_symbol (column p) _ (are p (All-head (λ k. k < width) p (q ∷ places) below)) (sum_is_symbol width q places column (All-tail (λ k. k < width) p (q ∷ places) below) are)
+-- the sum of some of the symbols
+pub sum_is_symbol : SumIsSymbol
+unfolding sum_listed
+sum_is_symbol F size width p [] column below are = rw (add_nothing F (column p)) (are p (All-head (λ k. k < width) p [] below))
+sum_is_symbol F size width p (q ∷ places) column below are =
+    add_is_symbol F size (column p) _ (are p (All-head (λ k. k < width) p (q ∷ places) below)) (sum_is_symbol F size width q places column (All-tail (λ k. k < width) p (q ∷ places) below) are)
 
-  -- at each place it is the dot with the parities
-  pub sum_symbols_is : (width : ℕ) (places : List ℕ) (column : ℕ → List ℕ) → All (λ k. k < width) places → IsSymbolColumn F size width column → (p : ℕ) → at (sum_listed (symbols F) places column) p ≡ dot F width (parity places) (slice_at p column)
-  sum_symbols_is width places column below are p =
-      sum_listed-linear (symbols F) (plain F) (place p) (place_linear F p) places column
-      ∙ sum_listed_is F width places (slice_at p column) below (λ k l. symbol_elements (column k) (are k l) p)
+-- at each place it is the dot with the parities
+pub sum_symbols_is : SymbolSumIsDotOfParities
+sum_symbols_is F size width places column below are p =
+    sum_listed-linear (symbols F) (plain F) (place p) (place_linear F p) places column
+    ∙ sum_listed_is F width places (slice_at p column) below (λ k l. symbol_elements F size (column k) (are k l) p)

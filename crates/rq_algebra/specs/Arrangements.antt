@@ -22,7 +22,8 @@ RowsStandIn width old_height old new_height new = (i : ℕ) → i < old_height �
 
 -- each equation of the old system, a row with its value, stands somewhere in the new one
 abbrev pub EquationsStandIn : ℕ → ℕ → (ℕ → ℕ → ℕ) → (ℕ → ℕ) → ℕ → (ℕ → ℕ → ℕ) → (ℕ → ℕ) → Type 0
-EquationsStandIn width old_height old v new_height new w = (i : ℕ) → i < old_height → (j : ℕ) × (j < new_height) × ((k : ℕ) → k < width → new j k ≡ old i k) × (w j ≡ v i)
+EquationsStandIn width old_height old v new_height new w =
+    (i : ℕ) → i < old_height → (j : ℕ) × (j < new_height) × ((k : ℕ) → k < width → new j k ≡ old i k) × (w j ≡ v i)
 
 -- each id of the old list is in the new one, in whatever order and however often
 abbrev pub IdsStandIn : List ℕ → List ℕ → Type 0

@@ -91,11 +91,13 @@ tall = rows ((1 ∷ []) ∷ (0 ∷ []) ∷ [])
 
 -- a row that is added to itself is lost, and a solution that was none comes in
 abbrev pub AddingNeedsTwoRows : Type 0
-AddingNeedsTwoRows = AddsRow two 1 1 0 0 1 single empty × AddsValue two 1 0 0 1 (at (1 ∷ [])) (at (0 ∷ [])) × (¬ SameSolutions two 1 1 single (at (1 ∷ [])) empty (at (0 ∷ [])))
+AddingNeedsTwoRows =
+    AddsRow two 1 1 0 0 1 single empty × AddsValue two 1 0 0 1 (at (1 ∷ [])) (at (0 ∷ [])) × (¬ SameSolutions two 1 1 single (at (1 ∷ [])) empty (at (0 ∷ [])))
 
 -- so is a row that is multiplied by zero
 abbrev pub ScalingNeedsNonzero : Type 0
-ScalingNeedsNonzero = ScalesRow two 1 1 0 0 single empty × ScalesValue two 1 0 0 (at (1 ∷ [])) (at (0 ∷ [])) × (¬ SameSolutions two 1 1 single (at (1 ∷ [])) empty (at (0 ∷ [])))
+ScalingNeedsNonzero =
+    ScalesRow two 1 1 0 0 single empty × ScalesValue two 1 0 0 (at (1 ∷ [])) (at (0 ∷ [])) × (¬ SameSolutions two 1 1 single (at (1 ∷ [])) empty (at (0 ∷ [])))
 
 -- as many equations as unknowns may determine, so only fewer never do: one equation of the two leaves a homogeneous column
 abbrev pub OneEquationIsTooFew : Type 0
@@ -107,8 +109,12 @@ SquareNeedsDetermined = (¬ IsDetermined two 1 1 empty) × (¬ HasSolution two 1
 
 -- the operations find the column of a system with more equations than unknowns, and of values that contradict they make no solution
 abbrev pub FoundNeedsAsManyEquations : Type 0
-FoundNeedsAsManyEquations = FindsColumn two 2 1 tall (Reorder (0 ∷ []) ∷ []) × (¬ Solves two 2 1 tall (found_by (plain two) (Reorder (0 ∷ []) ∷ []) (0 ∷ 1 ∷ [])) (at (0 ∷ 1 ∷ [])))
+FoundNeedsAsManyEquations =
+    FindsColumn two 2 1 tall (Reorder (0 ∷ []) ∷ [])
+    × (¬ Solves two 2 1 tall (found_by (plain two) (Reorder (0 ∷ []) ∷ []) (0 ∷ 1 ∷ [])) (at (0 ∷ 1 ∷ [])))
 
 -- an index past the width, or an entry that is no element, makes another sum than the dot with the parities
 abbrev pub SumNeedsIndicesAndElements : Type 0
-SumNeedsIndicesAndElements = (sum_listed (plain two) (1 ∷ []) (at (0 ∷ 1 ∷ [])) ≢ dot two 1 (parity (1 ∷ [])) (at (0 ∷ 1 ∷ []))) × (sum_listed (plain two) (0 ∷ []) (at (2 ∷ [])) ≢ dot two 1 (parity (0 ∷ [])) (at (2 ∷ [])))
+SumNeedsIndicesAndElements =
+    (sum_listed (plain two) (1 ∷ []) (at (0 ∷ 1 ∷ [])) ≢ dot two 1 (parity (1 ∷ [])) (at (0 ∷ 1 ∷ [])))
+    × (sum_listed (plain two) (0 ∷ []) (at (2 ∷ [])) ≢ dot two 1 (parity (0 ∷ [])) (at (2 ∷ [])))

@@ -36,7 +36,11 @@ module _ (bits : ℕ) (mul : ℕ → ℕ → ℕ) (inverse : ℕ → ℕ) (laws 
   low_mul_comm x y = laws.mul_comm (low x) (low y) (low_below x) (low_below y)
 
   pub low_mul_assoc : (x y z : ℕ) → mul_low (mul_low x y) z ≡ mul_low x (mul_low y z)
-  low_mul_assoc x y z = cc (low_is (mul_low x y) (low_mul_below x y), low_is (mul_low y z) (low_mul_below y z), laws.mul_assoc (low x) (low y) (low z) (low_below x) (low_below y) (low_below z))
+  low_mul_assoc x y z = cc (
+    low_is (mul_low x y) (low_mul_below x y),
+    low_is (mul_low y z) (low_mul_below y z),
+    laws.mul_assoc (low x) (low y) (low z) (low_below x) (low_below y) (low_below z),
+  )
 
   pub low_mul_add : (x y z : ℕ) → mul_low x (bit_xor y z) ≡ bit_xor (mul_low x y) (mul_low x z)
   low_mul_add x y z = cc (xor_mod y z bits, laws.mul_add (low x) (low y) (low z) (low_below x) (low_below y) (low_below z))

@@ -11,19 +11,19 @@ NothingFollows = (F : Field) (height width : ℕ) (rows : ℕ → ℕ → ℕ) �
 
 abbrev pub AddAssignExtends : Type 0
 AddAssignExtends =
-    (F : Field) (height width dest src : ℕ) (a b : ℕ → ℕ → ℕ) (operations : List Operation)
+    (F : Field) (height width : ℕ) (a b : ℕ → ℕ → ℕ) (operations : List Operation) (dest src : ℕ)
     → src ≢ dest → dest < height → src < height → AddsRow F height width dest src 1 a b
     → Extends F height width a operations b (operations ++ AddAssign dest src ∷ [])
 
 abbrev pub FmaExtends : Type 0
 FmaExtends =
-    (F : Field) (height width dest src scalar : ℕ) (a b : ℕ → ℕ → ℕ) (operations : List Operation)
+    (F : Field) (height width : ℕ) (a b : ℕ → ℕ → ℕ) (operations : List Operation) (dest src scalar : ℕ)
     → src ≢ dest → dest < height → src < height → AddsRow F height width dest src scalar a b
     → Extends F height width a operations b (operations ++ Fma dest src scalar ∷ [])
 
 abbrev pub MulAssignExtends : Type 0
 MulAssignExtends =
-    (F : Field) (height width dest scalar : ℕ) (a b : ℕ → ℕ → ℕ) (operations : List Operation)
+    (F : Field) (height width : ℕ) (a b : ℕ → ℕ → ℕ) (operations : List Operation) (dest scalar : ℕ)
     → dest < height → scalar < F.size → scalar ≢ 0 → ScalesRow F height width dest scalar a b
     → Extends F height width a operations b (operations ++ MulAssign dest scalar ∷ [])
 

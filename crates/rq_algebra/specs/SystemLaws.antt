@@ -32,17 +32,15 @@ ProductActsInTurn =
 -- a multiple of another row is added, to the rows and to the values
 abbrev pub AddingKeepsSolutions : Type 0
 AddingKeepsSolutions =
-    (F : Field) (height width dest src scalar : ℕ) (a b : ℕ → ℕ → ℕ) (v w : ℕ → ℕ)
-    → src ≢ dest → dest < height → src < height
-    → AddsRow F height width dest src scalar a b → AddsValue F height dest src scalar v w
+    (F : Field) (height width dest src scalar : ℕ) → src ≢ dest → dest < height → src < height
+    → (a b : ℕ → ℕ → ℕ) (v w : ℕ → ℕ) → AddsRow F height width dest src scalar a b → AddsValue F height dest src scalar v w
     → SameSolutions F height width a v b w
 
 -- a row and its value are multiplied by an element that is not zero
 abbrev pub ScalingKeepsSolutions : Type 0
 ScalingKeepsSolutions =
-    (F : Field) (height width dest scalar : ℕ) (a b : ℕ → ℕ → ℕ) (v w : ℕ → ℕ)
-    → dest < height → scalar < F.size → scalar ≢ 0 → IsColumn F height v
-    → ScalesRow F height width dest scalar a b → ScalesValue F height dest scalar v w
+    (F : Field) (height width dest scalar : ℕ) → dest < height → scalar < F.size → scalar ≢ 0
+    → (a b : ℕ → ℕ → ℕ) (v w : ℕ → ℕ) → IsColumn F height v → ScalesRow F height width dest scalar a b → ScalesValue F height dest scalar v w
     → SameSolutions F height width a v b w
 
 -- rows stand in another order, with their values
@@ -88,7 +86,9 @@ DeterminedHasOneSolution =
     → (k : ℕ) → k < width → x k ≡ y k
 
 abbrev pub HomogeneousColumnRefutesDetermined : Type 0
-HomogeneousColumnRefutesDetermined = (F : Field) (height width : ℕ) (rows : ℕ → ℕ → ℕ) → HasHomogeneousColumn F height width rows → ¬ IsDetermined F height width rows
+HomogeneousColumnRefutesDetermined =
+    (F : Field) (height width : ℕ) (rows : ℕ → ℕ → ℕ)
+    → HasHomogeneousColumn F height width rows → ¬ IsDetermined F height width rows
 
 abbrev pub FewEquationsHaveHomogeneousColumn : Type 0
 FewEquationsHaveHomogeneousColumn =

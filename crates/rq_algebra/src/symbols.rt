@@ -1,5 +1,5 @@
 //! The laws of symbols, and of equations as lists of indices.
-ghost use Rattle.rq_algebra.specs.SymbolLaws.{OperationsActPlacewise, OperationsKeepSymbols, FoundAreSymbols, OnlyFoundSolves, FoundSolves, FoundLeavesZeros, FoundFits, DeterminedSquareHasSolutionInSymbols, DeterminedHasOneSolutionInSymbols, StackedIsBothInSymbols, SumIsDotOfParities, SymbolSumIsDotOfParities, SumIsSymbol};
+ghost use Rattle.rq_algebra.specs.SymbolLaws.{OperationsActPlacewise, OperationsKeepSymbols, FoundInSymbols, DeterminedSquareHasSolutionInSymbols, DeterminedHasOneSolutionInSymbols, StackedIsBothInSymbols, SumIsDotOfParities, SymbolSumIsDotOfParities, SumIsSymbol};
 
 /// Operations on symbols are, at each place of a symbol, operations on elements.
 pub fn operations()
@@ -9,11 +9,7 @@ pub fn operations()
 
 /// Operations that find the column find it in symbols.
 pub fn found()
-    ensures symbols { FoundAreSymbols }
-    ensures only { OnlyFoundSolves }
-    ensures solves { FoundSolves }
-    ensures leaves { FoundLeavesZeros }
-    ensures fits { FoundFits }
+    ensures { FoundInSymbols }
 {}
 
 /// A determined system has at most one solution in symbols.

@@ -79,9 +79,9 @@ module _ (F : Field) (height width : ℕ) (rows : List ℕ) (below : All (λ r. 
 
   -- the steps, done to the values, follow
   follows_step : (step : Operation) (original a : ℕ → ℕ → ℕ) (operations : List Operation) → IsStepAmong F rows step → HasElements F height width a → Follows F height width original a operations → Follows F height width original (row_step F step a) (operations ++ step ∷ [])
-  follows_step (AddAssign dest src) original a operations is elements follows = follows_add F height width original a _ operations dest src is.2 (in_height dest is.0) (in_height src is.1) (row_step_adds_one F height width dest a src elements (in_height src is.1)) follows
-  follows_step (MulAssign dest scalar) original a operations is elements follows = follows_scale F height width original a _ operations dest scalar (in_height dest is.0) is.1 is.2 (row_step_scales F height width dest a scalar) follows
-  follows_step (Fma dest src scalar) original a operations is elements follows = follows_fma F height width original a _ operations dest src scalar is.2 (in_height dest is.0) (in_height src is.1) (row_step_adds F height width dest a src scalar) follows
+  follows_step (AddAssign dest src) original a operations is elements follows = follows_add F height width a _ operations dest src is.2 (in_height dest is.0) (in_height src is.1) (row_step_adds_one F height width dest a src elements (in_height src is.1)) original follows
+  follows_step (MulAssign dest scalar) original a operations is elements follows = follows_scale F height width a _ operations dest scalar (in_height dest is.0) is.1 is.2 (row_step_scales F height width dest a scalar) original follows
+  follows_step (Fma dest src scalar) original a operations is elements follows = follows_fma F height width a _ operations dest src scalar is.2 (in_height dest is.0) (in_height src is.1) (row_step_adds F height width dest a src scalar) original follows
   follows_step (Reorder order) original a operations is elements follows = elim is [ ]
 
   pub follows_steps : (steps : List Operation) (original a : ℕ → ℕ → ℕ) (operations : List Operation) → All (IsStepAmong F rows) steps → HasElements F height width a → Follows F height width original a operations → Follows F height width original (rows_after F steps a) (operations ++ steps)

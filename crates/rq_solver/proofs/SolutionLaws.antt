@@ -9,7 +9,7 @@ use Rattle.rq_algebra.specs.Operations.{Operation, Reorder, Store, step, run, re
 use Rattle.rq_algebra.specs.Symbols.{symbols}
 use Rattle.rq_algebra.proofs.Solutions.{solves_same}
 use Rattle.rq_algebra.proofs.OperationRuns.{run_push}
-use Rattle.rq_algebra.proofs.Found.{found_only, found_solves}
+use Rattle.rq_algebra.proofs.Found.{finds_symbols}
 use Rattle.rq_algebra.proofs.Pivots.{homogeneous_back}
 use Rattle.rq_standard.specs.OctetField.{octets}
 use Rattle.rq_bytes.specs.declared.error.Error.{Error}
@@ -83,8 +83,8 @@ module _ (height width : ℕ) (rows : ℕ → ℕ → ℕ) (operations : List Op
     made = made;
     places = λ k l. rw made (found_places k l);
     reads = λ k. rw made (symbol_in-after_all operations handed k unordered_is);
-    only = λ size values column are is solves. found_only octets height width rows operations finds size values are column is solves;
-    solves = λ square size values are. found_solves octets height width rows operations finds size values are square;
+    only = λ size values column are. (finds_symbols octets height width rows operations finds size values are).only column;
+    solves = λ square size values are. (finds_symbols octets height width rows operations finds size values are).solves square;
   }
 
 -- a fact of the value that an option has

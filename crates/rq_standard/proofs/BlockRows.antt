@@ -1,11 +1,11 @@
 -- The blocks of a configuration that coders take, over a checked table.
-use Rattle.std.proofs.Common.{◌↔◌, ℕ, ◌<◌, ◌≤◌, List, arith}
+use Rattle.std.proofs.Common.{ℕ, ◌<◌, ◌≤◌, List, arith}
 use Rattle.rq_standard.specs.declared.row.TableRow.{TableRow}
 use Rattle.rq_standard.specs.TableRows.{IsTable, greatest_size}
 use Rattle.rq_standard.specs.Configuration.{Configuration, IsAccepted, IsAligned}
 use Rattle.rq_standard.specs.Cutting.{block_symbols}
-use Rattle.rq_standard.specs.Packet.{Packet}
-use Rattle.rq_standard.specs.Headline.{block_row, IsHonestRun, IsAnswerable, IsOnlyObject}
+use Rattle.rq_standard.specs.Headline.{block_row}
+use Rattle.rq_standard.specs.PacketLaws.{AnswerableIsOnlyObject}
 use Rattle.rq_standard.proofs.BlockCuts.{block_symbols_few}
 use Rattle.rq_standard.proofs.OneObject.{one_object}
 use Rattle.rq_standard.proofs.OtherObjects.{HasRow, only_is_answerable}
@@ -19,7 +19,7 @@ block_has_row table c checked accepted b below =
     record { checked = q.0; fits = q.1 }
 
 -- so an honest run determines each of them exactly where no other object fits
-pub answerable_only : (table : List TableRow) (c : Configuration) (object : List ℕ) (packets : List Packet) → IsTable table → IsAccepted (greatest_size table) c → IsHonestRun table c object packets → IsAnswerable table c packets ↔ IsOnlyObject table c packets object
+pub answerable_only : AnswerableIsOnlyObject
 answerable_only table c object packets checked accepted run =
     let rows = block_has_row table c checked accepted in
     let aligned : IsAligned c = record { alignment_positive = accepted.alignment_positive; aligned = accepted.aligned } in (

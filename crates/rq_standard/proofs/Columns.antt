@@ -7,7 +7,7 @@ use Rattle.std.proofs.lemmas.List.FromFn.{length-range_with_len, length-map-rang
 use Rattle.rq_algebra.specs.Systems.{dot, at, rows_of}
 use Rattle.rq_algebra.specs.Symbols.{symbols, IsSymbol, IsSymbolColumn, SolvesSymbols, slice_at}
 use Rattle.rq_algebra.specs.Parities.{sum_listed}
-use Rattle.rq_algebra.proofs.Stacks.{solves_symbols_above, solves_symbols_below}
+use Rattle.rq_algebra.proofs.Stacks.{symbols_stacked}
 use Rattle.rq_algebra.proofs.SymbolColumns.{symbols_unique}
 use Rattle.rq_algebra.proofs.SymbolSums.{sum_symbols_is, sum_is_symbol}
 use Rattle.rq_standard.specs.declared.row.TableRow.{TableRow}
@@ -20,7 +20,8 @@ use Rattle.rq_standard.specs.ReceivedBlock.{ReceivedBlock, SolvesReceived}
 use Rattle.rq_standard.proofs.PlaceLaws.{row_indices_below, enough_lt}
 use Rattle.rq_standard.proofs.TupleLaws.{between}
 use Rattle.rq_standard.proofs.KnownIds.{range_at, nonsingular_rows}
-use Rattle.rq_standard.specs.Headline.{IsNonsingular, IsIntermediateColumn, IsOnlyIntermediateColumn, IsEncodingSymbol}
+use Rattle.rq_standard.specs.Headline.{IsIntermediateColumn, IsEncodingSymbol}
+use Rattle.rq_standard.specs.PacketLaws.{IntermediateSymbolsAreOnly}
 
 -- ---- an id has a place at least
 
@@ -72,7 +73,7 @@ solved_sum : (row : TableRow) (size j : ℕ) (ids : List ℕ) (carried : List (L
     → tuple_sum row column (at ids j) ≡ get_or carried j (zero_symbol size)
 solved_sum row size j ids carried column checked are solves below long =
     let f : ℕ = row.ldpc_symbols + row.hdpc_symbols in
-    let own = solves_symbols_below octets f (length ids) (intermediate_symbols row) (precode_equations row) (rows_of (symbol_coefficient row) ids) column (λ _. zero_symbol size) (λ i. get_or carried i (zero_symbol size)) solves in
+    let own = ((symbols_stacked octets f (length ids) (intermediate_symbols row) (precode_equations row) (rows_of (symbol_coefficient row) ids) column (λ _. zero_symbol size) (λ i. get_or carried i (zero_symbol size))).0 solves).1 in
     ext_get_or 0 (tuple_sum row column (at ids j)) (get_or carried j (zero_symbol size)) ((sum_symbol row size (at ids j) column checked are).size_is ∙ sym long)
     (λ p _. sum_at row size (at ids j) column checked are p ∙ (own.at_place p).at j below)
 
@@ -87,7 +88,7 @@ source_sum row size x source column checked is are below =
     (solved_sum row size x (extended_ids row) source column checked is.symbols is.solves (omega (arith, length-range_with_len 0 row.extended_symbols)) (are x))
 
 -- over a row that isn't singular they are the only ones
-pub only_column : (row : TableRow) (size : ℕ) (source : List (List ℕ)) (column : ℕ → List ℕ) → IsNonsingular row → IsIntermediateColumn row size source column → IsOnlyIntermediateColumn row size source column
+pub only_column : IntermediateSymbolsAreOnly
 only_column row size source column nonsingular is = record {
   is = is;
   only = λ other also. symbols_unique octets size (equation_count row (extended_ids row)) (intermediate_symbols row) (equations row (extended_ids row)) other column (equation_values row size source) (nonsingular_rows row nonsingular) also.symbols is.symbols also.solves is.solves;
@@ -112,7 +113,7 @@ solves_received h source column checked long are is honest =
     let f : ℕ = row.ldpc_symbols + row.hdpc_symbols in
     record {
       symbols = is.symbols;
-      precode = solves_symbols_above octets f (length (extended_ids row)) (intermediate_symbols row) (precode_equations row) (rows_of (symbol_coefficient row) (extended_ids row)) column (λ _. zero_symbol size) (λ i. get_or source i (zero_symbol size)) is.solves;
+      precode = ((symbols_stacked octets f (length (extended_ids row)) (intermediate_symbols row) (precode_equations row) (rows_of (symbol_coefficient row) (extended_ids row)) column (λ _. zero_symbol size) (λ i. get_or source i (zero_symbol size))).0 is.solves).0;
       padding = λ x from below. source_sum row size x source column checked is are below ∙ get_or_past source x (zero_symbol size) (omega arith);
       received = λ e. if_some-weaker (h.received e) _ _ (λ payload symbol. encoding_sum row size e source column payload checked is symbol ∙ ap (λ k. tuple_sum row column (internal_id row k e)) long) (honest e);
     }

@@ -1,5 +1,5 @@
 -- What is contradictory stays so, and an object's packets never are.
-use Rattle.std.proofs.Common.{◌≡◌, ◌≢◌, ◌↔◌, ℕ, ◌<◌, cond, eqb, List, [], ◌∷◌, ◌++◌, Option, Some, None, refl, sym, ap, ◌∙◌, subst, inl, inr}
+use Rattle.std.proofs.Common.{◌≡◌, ◌≢◌, ℕ, ◌<◌, cond, eqb, List, [], ◌∷◌, ◌++◌, Option, Some, None, refl, sym, ap, ◌∙◌, subst, inl, inr}
 use Rattle.std.specs.Prelude.{IfSome}
 use Rattle.std.specs.List.{AllByRecursion}
 use Rattle.std.proofs.lemmas.Bool.{cases_eq}
@@ -10,14 +10,15 @@ use Rattle.rq_standard.specs.Configuration.{Configuration}
 use Rattle.rq_standard.specs.Cutting.{block_symbols}
 use Rattle.rq_standard.specs.Received.{or_later}
 use Rattle.rq_standard.specs.Headline.{IsIntermediateColumn, DetermineBlock, block_row, block_source, IsPacketOf}
-use Rattle.rq_standard.specs.ReceivedBlock.{ReceivedBlock, has_received, with_received, SolvesReceived, HasReceivedSolution, ReceivedDetermine, IsContradictory, IsBlockAnswer}
+use Rattle.rq_standard.specs.ReceivedBlock.{ReceivedBlock, has_received, with_received, SolvesReceived, HasReceivedSolution, IsContradictory, IsBlockAnswer}
 use Rattle.rq_standard.specs.DecoderState.{State, IsNewState, IsReceivedOf}
 use Rattle.rq_standard.specs.DecoderSteps.{kept_of, AddsOpen, AddsToBlock, IsSameElsewhere, Adds, RecordsOnly, Contradicts, IsBlockContradictory, KeepsContradictions, received_after, HasReceivedRun, HasReceivedMore}
-use Rattle.rq_standard.specs.Standing.{IsHonestPacket, BlockStandsFor}
+use Rattle.rq_standard.specs.Standing.{HoldsFirst, IsHonestPacket, BlockStandsFor}
+use Rattle.rq_standard.specs.PacketLaws.{DeterminedByIdsAlone, ContradictionsStay}
 use Rattle.rq_standard.proofs.KnownIds.{block_more, block_same}
 use Rattle.rq_standard.proofs.Columns.{solves_received}
 use Rattle.rq_standard.proofs.Firsts.{stays, first_payload-here, first_payload-elsewhere}
-use Rattle.rq_standard.proofs.StandingSteps.{HasReceivedFirsts, push-all, length-block_source, source_sized, received_with, received_is, received_symbol, firsts_more, recorded_shape}
+use Rattle.rq_standard.proofs.StandingSteps.{push-all, length-block_source, source_sized, received_with, received_is, received_symbol, firsts_more, recorded_shape}
 
 -- ---- a block
 
@@ -26,7 +27,7 @@ less None later P h = tt
 less (Some x) later P h = h
 
 -- the ids alone say whether what was received determines its block
-pub determined_by_ids : (one other : ReceivedBlock) → one.row ≡ other.row → one.source_symbols ≡ other.source_symbols → ((e : ℕ) → has_received one e ≡ has_received other e) → ReceivedDetermine one ↔ ReceivedDetermine other
+pub determined_by_ids : DeterminedByIdsAlone
 determined_by_ids one other row symbols same = (
   λ d. subst (λ r. DetermineBlock r other.source_symbols (has_received other)) row (subst (λ k. DetermineBlock one.row k (has_received other)) symbols (block_same one.row one.source_symbols (has_received one) (has_received other) same d)),
   λ d. block_same one.row one.source_symbols (has_received other) (has_received one) (λ e. sym (same e)) (subst (λ k. DetermineBlock one.row k (has_received other)) (sym symbols) (subst (λ r. DetermineBlock r other.source_symbols (has_received other)) (sym row) d)),
@@ -42,7 +43,7 @@ solves_less h esi payload column s = record {
 }
 
 -- more that is recorded stays contradictory
-pub contradicts_more : (h : ReceivedBlock) (esi : ℕ) (payload : List ℕ) → IsContradictory h → IsContradictory (with_received h esi payload)
+pub contradicts_more : ContradictionsStay
 contradicts_more h esi payload c = record {
   determined = block_more h.row h.source_symbols (has_received h) (has_received (with_received h esi payload)) (λ e has. stays (h.received e) (cond (eqb esi e) (Some payload) None) has) c.determined;
   unsolved = λ s. c.unsolved (record { column = s.column; solves = solves_less h esi payload s.column s.solves });
@@ -99,7 +100,7 @@ keeps_same old new same b c = subst (λ s. IsBlockContradictory s b) (sym same) 
 -- ---- an object's packets
 
 -- what was received of them has a solution
-honest_solution : (table : List TableRow) (c : Configuration) (object : List ℕ) (packets : List Packet) (b : ℕ) (h : ReceivedBlock) (column : ℕ → List ℕ) → AllByRecursion (IsPacketOf table c object) packets → IsReceivedOf table c b h → HasReceivedFirsts b packets h
+honest_solution : (table : List TableRow) (c : Configuration) (object : List ℕ) (packets : List Packet) (b : ℕ) (h : ReceivedBlock) (column : ℕ → List ℕ) → AllByRecursion (IsPacketOf table c object) packets → IsReceivedOf table c b h → HoldsFirst h b packets
     → IsIntermediateColumn (block_row table c b) c.symbol_size (block_source c object b) column → HasReceivedSolution h
 honest_solution table c object packets b h column honest shape reads is =
     let same = received_is table c b h shape in

@@ -28,6 +28,11 @@ length-zero size = length-replicate {A = ℕ} size 0
 pub add_zero_symbols : (size : ℕ) → add_symbols octets (zero_symbol size) (zero_symbol size) ≡ zero_symbol size
 add_zero_symbols size = add_zeros octets size (zero_symbol size) (length-zero size)
 
+dot-added : (row : TableRow) (r : ℕ → ℕ) (x y : ℕ → List ℕ) (p : ℕ) → dot octets (intermediate_symbols row) r (slice_at p (λ k. add_symbols octets (x k) (y k))) ≡ octets.add (dot octets (intermediate_symbols row) r (slice_at p x)) (dot octets (intermediate_symbols row) r (slice_at p y))
+dot-added row r x y p =
+    dot_same octets (intermediate_symbols row) r r _ _ (λ k l. refl) (λ k l. add_symbols_at octets p (x k) (y k))
+    ∙ dot_add_column octets (intermediate_symbols row) r (slice_at p x) (slice_at p y)
+
 module _ (row : TableRow) (size : ℕ) (checked : IsChecked row) where
   -- a sum of sums
   tuple_sum-add : (x y : ℕ → List ℕ) (e : ℕ) → IsSymbolColumn octets size (intermediate_symbols row) x → IsSymbolColumn octets size (intermediate_symbols row) y
@@ -38,8 +43,7 @@ module _ (row : TableRow) (size : ℕ) (checked : IsChecked row) where
       same_symbol octets size (tuple_sum row (λ k. add_symbols octets (x k) (y k)) e) (add_symbols octets (tuple_sum row x e) (tuple_sum row y e))
       (sum_symbol row size e (λ k. add_symbols octets (x k) (y k)) checked both) (add_is_symbol octets size (tuple_sum row x e) (tuple_sum row y e) (sum_symbol row size e x checked are_x) (sum_symbol row size e y checked are_y))
       (λ p. sum_at row size e (λ k. add_symbols octets (x k) (y k)) checked both p
-      ∙ dot_same octets n (symbol_coefficient row e) (symbol_coefficient row e) (slice_at p (λ k. add_symbols octets (x k) (y k))) (λ k. octets.add (slice_at p x k) (slice_at p y k)) (λ k l. refl) (λ k l. add_symbols_at octets p (x k) (y k))
-      ∙ dot_add_column octets n (symbol_coefficient row e) (slice_at p x) (slice_at p y)
+      ∙ dot-added row (symbol_coefficient row e) x y p
       ∙ cc (sum_at row size e x checked are_x p, sum_at row size e y checked are_y p, add_symbols_at octets p (tuple_sum row x e) (tuple_sum row y e)))
 
   module _ (xs ys zs : List (List ℕ)) (added : (i : ℕ) → get_or zs i (zero_symbol size) ≡ add_symbols octets (get_or xs i (zero_symbol size)) (get_or ys i (zero_symbol size))) where
@@ -56,15 +60,12 @@ module _ (row : TableRow) (size : ℕ) (checked : IsChecked row) where
 
     intermediate-add : (x y : ℕ → List ℕ) → IsIntermediateColumn row size xs x → IsIntermediateColumn row size ys y → IsIntermediateColumn row size zs (λ k. add_symbols octets (x k) (y k))
     intermediate-add x y is_x is_y =
-        let n = intermediate_symbols row in
-        let rows = equations row (extended_ids row) in
         record {
           symbols = λ k l. add_is_symbol octets size (x k) (y k) (is_x.symbols k l) (is_y.symbols k l);
           solves = record {
             at_place = λ p. record {
               at = λ i l.
-                  dot_same octets n (rows i) (rows i) (slice_at p (λ k. add_symbols octets (x k) (y k))) (λ k. octets.add (slice_at p x k) (slice_at p y k)) (λ k m. refl) (λ k m. add_symbols_at octets p (x k) (y k))
-                  ∙ dot_add_column octets n (rows i) (slice_at p x) (slice_at p y)
+                  dot-added row (equations row (extended_ids row) i) x y p
                   ∙ cc ((is_x.solves.at_place p).at i l, (is_y.solves.at_place p).at i l, add_symbols_at octets p (equation_values row size xs i) (equation_values row size ys i))
                   ∙ ap (λ s. at s p) (sym (value-add i));
             };

@@ -11,7 +11,7 @@ use Rattle.std.proofs.lemmas.List.FromFn.{length-map-range_with_len, get_or-map-
 use Rattle.rq_algebra.proofs.Placewise.{at-zeros}
 use Rattle.rq_standard.specs.Configuration.{Configuration, IsAligned, total_symbols}
 use Rattle.rq_standard.specs.Cutting.{block_symbols, symbols_before, sub_block_size, sub_block_start, place_in_block, block_bytes, symbol_of_block, source_symbol}
-use Rattle.rq_standard.specs.Differences.{first_octets_block}
+use Rattle.rq_standard.specs.Differences.{first_octets_below, first_octets_block}
 use Rattle.rq_standard.specs.Equations.{zero_symbol}
 use Rattle.rq_standard.proofs.BlockCuts.{pieces, symbols_before-first, symbols_before-next, symbols_before-all}
 use Rattle.rq_standard.proofs.Interleaved.{IsSubBlock, at_byte, place_in, place_below, get_or-symbol_of_block}
@@ -21,13 +21,20 @@ use Rattle.rq_standard.proofs.StandingSteps.{length-symbol_of_block}
 abbrev pub first_octet : ℕ → ℕ → List ℕ
 first_octet size octet = octet ∷ zero_symbol (size - 1)
 
+module _ (c : Configuration) (k : ℕ) (octet : ℕ → ℕ) (n : ℕ) where
+  below_at : (i : ℕ) → i < k * c.symbol_size → get_or (first_octets_below c k octet n) i 0 ≡ cond (eqb (i % sub_block_size c 0) 0 && ltb (i / sub_block_size c 0) n) (octet (i / sub_block_size c 0)) 0
+  below_at i below = get_or-map-range_with_len _ 0 (k * c.symbol_size) i i 0 below (omega arith)
+
+  pub length-octets_below : length (first_octets_below c k octet n) ≡ k * c.symbol_size
+  length-octets_below = length-map-range_with_len _ 0 (k * c.symbol_size)
+
 -- ---- where first octets stand
 
 module _ (c : Configuration) (pos : 0 < c.symbol_size) (aligned : IsAligned c) where
   -- the first sub-block starts at byte 0
   pub first_sub_block : IsSubBlock c 0 (sub_block_size c 0)
   first_sub_block =
-      let h = at_byte c 0 aligned.alignment_positive aligned.aligned pos in
+      let h = at_byte c 0 aligned pos in
       let start : sub_block_start c 0 ≡ 0 = omega (arith, h.low) in
       subst (λ o. IsSubBlock c o (sub_block_size c 0)) start h.part
 
@@ -42,7 +49,7 @@ module _ (c : Configuration) (pos : 0 < c.symbol_size) (aligned : IsAligned c) w
       elim (cases_lt t z) [
         | inl lt ↦ inl (lt, place_in c k e 0 z t first_sub_block (omega arith) (omega arith) ∙ omega arith)
         | inr past ↦
-            let h = at_byte c t aligned.alignment_positive aligned.aligned below in
+            let h = at_byte c t aligned below in
             let o = sub_block_start c t in
             let s = sub_block_size c t in
             elim (cases_lt o z) [
@@ -54,12 +61,6 @@ module _ (c : Configuration) (pos : 0 < c.symbol_size) (aligned : IsAligned c) w
             ]
       ]
 
-  -- its bytes
-  pub octet_at : (k : ℕ) (octet : ℕ → ℕ) (i : ℕ) → i < k * c.symbol_size
-      → get_or (first_octets_block c k octet) i 0 ≡ cond (eqb (i % sub_block_size c 0) 0 && ltb (i / sub_block_size c 0) k) (octet (i / sub_block_size c 0)) 0
-  unfolding first_octets_block
-  octet_at k octet i below = get_or-map-range_with_len _ 0 (k * c.symbol_size) i i 0 below (omega arith)
-
   -- the block's symbols
   module _ (k : ℕ) (octet : ℕ → ℕ) (e : ℕ) (in_block : e < k) where
     place_of_first : sub_block_size c 0 * e < k * c.symbol_size
@@ -69,17 +70,19 @@ module _ (c : Configuration) (pos : 0 < c.symbol_size) (aligned : IsAligned c) w
         omega (arith, mul-le-mul_right c.symbol_size b, mul-le-mul_right e room, first_sub_block.positive)
 
     at_first : get_or (first_octets_block c k octet) (sub_block_size c 0 * e) 0 ≡ octet e
+    unfolding first_octets_block
     at_first =
         let z = sub_block_size c 0 in
         let quotient : z * e / z ≡ e = ap (λ n. n / z) (let s : z * e ≡ e * z + 0 = omega arith in s) ∙ div-mul-add e z 0 first_sub_block.positive in
         let rest : z * e % z ≡ 0 = ap (λ n. n % z) (let s : z * e ≡ e * z = omega arith in s) ∙ mul-mod_left e z in
-        octet_at k octet (z * e) place_of_first ∙ ap (λ n. cond (eqb (z * e % z) 0 && ltb n k) (octet n) 0) quotient ∙ ap (λ b. cond (b && ltb e k) (octet e) 0) (eq-eqb (z * e % z) 0 rest) ∙ ap (λ b. cond b (octet e) 0) (lt-ltb e k in_block)
+        below_at c k octet k (z * e) place_of_first ∙ ap (λ n. cond (eqb (z * e % z) 0 && ltb n k) (octet n) 0) quotient ∙ ap (λ b. cond (b && ltb e k) (octet e) 0) (eq-eqb (z * e % z) 0 rest) ∙ ap (λ b. cond b (octet e) 0) (lt-ltb e k in_block)
 
     at_later : (t : ℕ) → 0 < t → t < c.symbol_size → place_in_block c k e t < k * c.symbol_size → get_or (first_octets_block c k octet) (place_in_block c k e t) 0 ≡ 0
+    unfolding first_octets_block
     at_later t some below within =
         let z = sub_block_size c 0 in
         let i = place_in_block c k e t in
-        octet_at k octet i within ∙ elim (later_place k e t some below) [
+        below_at c k octet k i within ∙ elim (later_place k e t some below) [
           | inl near ↦
               let rest : i % z ≡ t = ap (λ n. n % z) near.1 ∙ mod-mul-add e z t near.0 in
               ap (λ b. cond (b && ltb (i / z) k) (octet (i / z)) 0) (ne_eqb (i % z) 0 (λ none. omega (arith, rest, none)))
@@ -105,7 +108,7 @@ module _ (c : Configuration) (pos : 0 < c.symbol_size) (aligned : IsAligned c) w
         get_or-symbol_of_block c k (first_octets_block c k octet) e t below ∙ by_place t below) where
           by_place : (t : ℕ) → t < c.symbol_size → get_or (first_octets_block c k octet) (place_in_block c k e t) 0 ≡ get_or (first_octet c.symbol_size (octet e)) t 0
           by_place zero below = ap (λ n. get_or (first_octets_block c k octet) n 0) (first_place k e) ∙ at_first
-          by_place (suc t) below = at_later (suc t) (omega arith) below (place_below c k e (suc t) aligned.alignment_positive aligned.aligned in_block below) ∙ sym (at-zeros (c.symbol_size - 1) t)
+          by_place (suc t) below = at_later (suc t) (omega arith) below (place_below c k e (suc t) aligned in_block below) ∙ sym (at-zeros (c.symbol_size - 1) t)
 
 -- ---- the object that has such blocks
 
@@ -113,16 +116,13 @@ module _ (c : Configuration) (pos : 0 < c.symbol_size) (aligned : IsAligned c) w
 abbrev pub first_octets_object : Configuration → (ℕ → ℕ → ℕ) → List ℕ
 first_octets_object c octet = take c.transfer_length (pieces (λ b. first_octets_block c (block_symbols c b) (octet b)) c.source_blocks)
 
-length-first_octets_block : (c : Configuration) (k : ℕ) (octet : ℕ → ℕ) → length (first_octets_block c k octet) ≡ k * c.symbol_size
-unfolding first_octets_block
-length-first_octets_block c k octet = length-map-range_with_len _ 0 (k * c.symbol_size)
-
 module _ (c : Configuration) (octet : ℕ → ℕ → ℕ) where
   abbrev blocks : ℕ → List ℕ
   blocks b = first_octets_block c (block_symbols c b) (octet b)
 
   length-block : (b : ℕ) → length (blocks b) ≡ block_symbols c b * c.symbol_size
-  length-block b = length-first_octets_block c (block_symbols c b) (octet b)
+  unfolding first_octets_block
+  length-block b = length-octets_below c (block_symbols c b) (octet b) (block_symbols c b)
 
   length-blocks : (n : ℕ) → n ≤ c.source_blocks → length (pieces blocks n) ≡ symbols_before c n * c.symbol_size
   length-blocks zero h = let none : 0 ≡ 0 * c.symbol_size = omega arith in none ∙ ap (λ n. n * c.symbol_size) (sym (symbols_before-first c))
@@ -183,10 +183,11 @@ module _ (c : Configuration) (octet : ℕ → ℕ → ℕ) where
 
     -- its bytes past the end are zeros
     zero_past : (b i : ℕ) → b < c.source_blocks → i < block_symbols c b * c.symbol_size → c.transfer_length ≤ symbols_before c b * c.symbol_size + i → get_or (blocks b) i 0 ≡ 0
+    unfolding first_octets_block
     zero_past b i below within past =
         let z = sub_block_size c 0 in
         let k = block_symbols c b in
-        octet_at c pos aligned k (octet b) i within ∙ elim (cases_eq (i % z) 0) [
+        below_at c k (octet b) k i within ∙ elim (cases_eq (i % z) 0) [
           | inr ne ↦ ap (λ t. cond (t && ltb (i / z) k) (octet b (i / z)) 0) (ne_eqb (i % z) 0 ne)
           | inl none ↦ ap (λ t. cond (t && ltb (i / z) k) (octet b (i / z)) 0) (eq-eqb (i % z) 0 none) ∙ elim (cases_lt (i / z) k) [
             | inr far ↦ ap (λ t. cond t (octet b (i / z)) 0) (le-ltb (i / z) k far)
@@ -221,28 +222,18 @@ module _ (c : Configuration) (octet : ℕ → ℕ → ℕ) where
 
 -- ---- octets written one after another
 
--- the block with the first n of them
-abbrev pub first_octets_below : Configuration → ℕ → (ℕ → ℕ) → ℕ → List ℕ
-first_octets_below c k octet n = map (λ i. cond (eqb (i % sub_block_size c 0) 0 && ltb (i / sub_block_size c 0) n) (octet (i / sub_block_size c 0)) 0) (range_with_len 0 (k * c.symbol_size))
-
 pub all_octets : (c : Configuration) (k : ℕ) (octet : ℕ → ℕ) → first_octets_below c k octet k ≡ first_octets_block c k octet
 unfolding first_octets_block
 all_octets c k octet = refl
 
 module _ (c : Configuration) (k : ℕ) (octet : ℕ → ℕ) where
-  below_at : (n i : ℕ) → i < k * c.symbol_size → get_or (first_octets_below c k octet n) i 0 ≡ cond (eqb (i % sub_block_size c 0) 0 && ltb (i / sub_block_size c 0) n) (octet (i / sub_block_size c 0)) 0
-  below_at n i below = get_or-map-range_with_len _ 0 (k * c.symbol_size) i i 0 below (omega arith)
-
-  pub length-octets_below : (n : ℕ) → length (first_octets_below c k octet n) ≡ k * c.symbol_size
-  length-octets_below n = length-map-range_with_len _ 0 (k * c.symbol_size)
-
   pub no_octets : replicate {A = ℕ} (k * c.symbol_size) 0 ≡ first_octets_below c k octet 0
   no_octets =
       let size = k * c.symbol_size in
       let long = length-replicate {A = ℕ} size 0 in
-      ext_get_or 0 (replicate size 0) (first_octets_below c k octet 0) (long ∙ sym (length-octets_below 0))
+      ext_get_or 0 (replicate size 0) (first_octets_below c k octet 0) (long ∙ sym (length-octets_below c k octet 0))
       (λ i lt. let within : i < size = omega (arith, long) in
-      at-zeros size i ∙ sym (below_at 0 i within ∙ none (eqb (i % sub_block_size c 0) 0) (i / sub_block_size c 0))) where
+      at-zeros size i ∙ sym (below_at c k octet 0 i within ∙ none (eqb (i % sub_block_size c 0) 0) (i / sub_block_size c 0))) where
         neither : (t : Bool) (v : ℕ) → cond (t && false) v 0 ≡ 0
         neither true v = refl
         neither false v = refl
@@ -254,8 +245,8 @@ module _ (c : Configuration) (k : ℕ) (octet : ℕ → ℕ) where
   pub zero_octets : ((e : ℕ) → octet e ≡ 0) → first_octets_block c k octet ≡ replicate {A = ℕ} (k * c.symbol_size) 0
   zero_octets zeros =
       let size = k * c.symbol_size in
-      sym (all_octets c k octet) ∙ ext_get_or 0 (first_octets_below c k octet k) (replicate {A = ℕ} size 0) (length-octets_below k ∙ sym (length-replicate {A = ℕ} size 0))
-      (λ i lt. below_at k i (omega (arith, length-octets_below k)) ∙ picked (eqb (i % sub_block_size c 0) 0 && ltb (i / sub_block_size c 0) k) (octet (i / sub_block_size c 0)) (zeros (i / sub_block_size c 0)) ∙ sym (at-zeros size i)) where
+      sym (all_octets c k octet) ∙ ext_get_or 0 (first_octets_below c k octet k) (replicate {A = ℕ} size 0) (length-octets_below c k octet k ∙ sym (length-replicate {A = ℕ} size 0))
+      (λ i lt. below_at c k octet k i (omega (arith, length-octets_below c k octet k)) ∙ picked (eqb (i % sub_block_size c 0) 0 && ltb (i / sub_block_size c 0) k) (octet (i / sub_block_size c 0)) (zeros (i / sub_block_size c 0)) ∙ sym (at-zeros size i)) where
         picked : (t : Bool) (v : ℕ) → v ≡ 0 → cond t v 0 ≡ 0
         picked true v h = h
         picked false v h = refl
@@ -269,12 +260,12 @@ module _ (c : Configuration) (k : ℕ) (octet : ℕ → ℕ) where
     octet_written v is =
         let z = sub_block_size c 0 in
         let old = first_octets_below c k octet n in
-        let long = length-set old (n * z) v ∙ length-octets_below n in
-        ext_get_or 0 (set old (n * z) v) (first_octets_below c k octet (n + 1)) (long ∙ sym (length-octets_below (n + 1)))
+        let long = length-set old (n * z) v ∙ length-octets_below c k octet n in
+        ext_get_or 0 (set old (n * z) v) (first_octets_below c k octet (n + 1)) (long ∙ sym (length-octets_below c k octet (n + 1)))
         (λ i lt. let within : i < k * c.symbol_size = omega (arith, long) in
         elim (cases_eq i (n * z)) [
-          | inl e ↦ ap (λ j. get_or (set old (n * z) v) j 0) e ∙ get_or-set_same old (n * z) v 0 (omega (arith, length-octets_below n, next_index)) ∙ is ∙ sym (here z refl) ∙ sym (below_at (n + 1) (n * z) next_index) ∙ ap (λ j. get_or (first_octets_below c k octet (n + 1)) j 0) (sym e)
-          | inr ne ↦ get_or-set_other old (n * z) i v 0 ne ∙ below_at n i within ∙ elsewhere z i ne ∙ sym (below_at (n + 1) i within)
+          | inl e ↦ ap (λ j. get_or (set old (n * z) v) j 0) e ∙ get_or-set_same old (n * z) v 0 (omega (arith, length-octets_below c k octet n, next_index)) ∙ is ∙ sym (here z refl) ∙ sym (below_at c k octet (n + 1) (n * z) next_index) ∙ ap (λ j. get_or (first_octets_below c k octet (n + 1)) j 0) (sym e)
+          | inr ne ↦ get_or-set_other old (n * z) i v 0 ne ∙ below_at c k octet n i within ∙ elsewhere z i ne ∙ sym (below_at c k octet (n + 1) i within)
         ]) where
           positive : 0 < sub_block_size c 0
           positive = (first_sub_block c pos aligned).positive

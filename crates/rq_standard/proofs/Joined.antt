@@ -1,11 +1,12 @@
 -- Joining undoes cutting, and cutting undoes joining.
-use Rattle.std.proofs.Common.{◌≡◌, ℕ, ◌+◌, ◌-◌, ◌*◌, ◌/◌, ◌%◌, ◌<◌, ◌≤◌, List, [], All, length, get_or, arith, sym, ap, ◌∙◌}
+use Rattle.std.proofs.Common.{◌≡◌, ℕ, ◌+◌, ◌-◌, ◌*◌, ◌/◌, ◌%◌, ◌<◌, ◌≤◌, List, [], length, get_or, arith, sym, ap, ◌∙◌}
 use Rattle.std.proofs.lemmas.Nat.{div-mul-add, mod-mul-add, div_below, le-div}
 use Rattle.std.proofs.lemmas.List.{ext_get_or}
 use Rattle.std.proofs.lemmas.List.FromFn.{length-map-range_with_len, get_or-map-range_with_len}
 use Rattle.rq_standard.specs.Configuration.{Configuration, IsAligned}
 use Rattle.rq_standard.specs.Cutting.{sub_block_size, sub_block_start, place_in_block, symbol_of_block}
 use Rattle.rq_standard.specs.Joining.{symbol_of_place, byte_of_place, symbols_of_block, joined_block}
+use Rattle.rq_standard.specs.PacketLaws.{JoiningUndoesCutting, CuttingUndoesJoining}
 use Rattle.rq_standard.proofs.Interleaved.{at_byte, place_in, place_low, place_below, place_found, get_or-symbol_of_block}
 use Rattle.rq_standard.proofs.StandingSteps.{length-symbol_of_block}
 
@@ -26,7 +27,7 @@ module _ (c : Configuration) (k e t : ℕ) (aligned : IsAligned c) (here : e < k
       let o = sub_block_start c t in
       let z = sub_block_size c t in
       let i = place_in_block c k e t in
-      let b = at_byte c t aligned.alignment_positive aligned.aligned below in
+      let b = at_byte c t aligned below in
       let is : i ≡ o * k + z * e + (t - o) = place_in c k e o z t b.part b.low b.high in
       let from : o ≤ i / k = le-div o i k (omega arith) (omega (arith, is)) in
       let to : i / k < o + z = div_below i k (o + z) (omega arith) (omega (arith, is, place_low k e o z t here b.low b.high)) in
@@ -70,17 +71,17 @@ get_or-joined_block c k symbols i below = get_or-map-range_with_len (λ i. get_o
 -- byte t of symbol e in the block that symbols make
 placed_byte : (c : Configuration) (k e t : ℕ) (symbols : List (List ℕ)) → IsAligned c → e < k → t < c.symbol_size → get_or (joined_block c k symbols) (place_in_block c k e t) 0 ≡ get_or (get_or symbols e []) t 0
 placed_byte c k e t symbols aligned here below =
-    get_or-joined_block c k symbols (place_in_block c k e t) (place_below c k e t aligned.alignment_positive aligned.aligned here below)
+    get_or-joined_block c k symbols (place_in_block c k e t) (place_below c k e t aligned here below)
     ∙ ap (λ n. get_or (get_or symbols n []) (byte_of_place c k (place_in_block c k e t)) 0) (symbol_of_place-place c k e t aligned here below)
     ∙ ap (λ n. get_or (get_or symbols e []) n 0) (byte_of_place-place c k e t aligned here below)
 
 -- a block is what its symbols make
-pub joined_is_block : (c : Configuration) (k : ℕ) (block : List ℕ) → IsAligned c → length block ≡ k * c.symbol_size → joined_block c k (symbols_of_block c k block) ≡ block
+pub joined_is_block : JoiningUndoesCutting
 joined_is_block c k block aligned long =
     let symbols = symbols_of_block c k block in
     let whole = length-joined_block c k symbols in
     ext_get_or 0 (joined_block c k symbols) block (whole ∙ sym long) (λ i lt.
-    let found = place_found c k i aligned.alignment_positive aligned.aligned (omega (arith, whole)) in
+    let found = place_found c k i aligned (omega (arith, whole)) in
     let e = found.0 in
     let t = found.1 in
     let h = found.2 in
@@ -91,7 +92,7 @@ joined_is_block c k block aligned long =
     ∙ ap (λ n. get_or block n 0) h.place)
 
 -- and the symbols of what symbols make are those
-pub symbols_of_joined : (c : Configuration) (k : ℕ) (symbols : List (List ℕ)) → IsAligned c → length symbols ≡ k → All (λ s. length s ≡ c.symbol_size) symbols → symbols_of_block c k (joined_block c k symbols) ≡ symbols
+pub symbols_of_joined : CuttingUndoesJoining
 symbols_of_joined c k symbols aligned count sized =
     let block = joined_block c k symbols in
     let long = length-map-range_with_len (symbol_of_block c k block) 0 k in

@@ -1,12 +1,12 @@
 -- What is determined, by known ids and by a list of them.
-use Rattle.std.proofs.Common.{◌≡◌, ℕ, ◌+◌, ◌-◌, ◌<◌, ◌≤◌, Bool, true, false, cond, ltb, eqb, ◌%◌, List, length, refl, sym, ap, ◌∙◌, subst, arith, inl, inr}
+use Rattle.std.proofs.Common.{◌≡◌, ℕ, ◌+◌, ◌-◌, ◌<◌, ◌≤◌, Bool, true, false, cond, ltb, eqb, ◌%◌, List, length, refl, sym, ap, ◌∙◌, arith, inl, inr}
 use Rattle.std.specs.Prelude.{◌||◌}
 use Rattle.std.specs.List.{range_with_len}
 use Rattle.std.proofs.lemmas.Bool.{cases_lt, lt-ltb, le-ltb, ltb-true}
 use Rattle.std.proofs.lemmas.List.FromFn.{length-range_with_len, get_or-range_with_len}
 use Rattle.rq_algebra.specs.Systems.{sum_below, dot, Solves, at, rows_of}
 use Rattle.rq_algebra.specs.Parities.{parity}
-use Rattle.rq_algebra.proofs.Stacks.{stacked_above, stacked_below}
+use Rattle.rq_algebra.proofs.Stacks.{stacked_above, stacked_below, stacked_all}
 use Rattle.rq_algebra.proofs.FewEquations.{few_rows}
 use Rattle.rq_algebra.proofs.Solutions.{homogeneous_not_determined}
 use Rattle.rq_algebra.proofs.Sums.{sum_below_size}
@@ -151,20 +151,10 @@ parity_below places k = omega arith
 
 equations_below : (row : TableRow) (ids : List ℕ) (i k : ℕ) → equations row ids i k < 256
 equations_below row ids i k =
-    let f : ℕ = row.ldpc_symbols + row.hdpc_symbols in
-    elim (cases_lt i f) [
-      | inl lt ↦ elim (cases_lt i row.ldpc_symbols) [
-        | inl l ↦ subst (λ (r : ℕ → ℕ). r k < 256) (sym (stacked_above f (precode_equations row) (rows_of (symbol_coefficient row) ids) i lt ∙ stacked_above row.ldpc_symbols (ldpc_coefficient row) (hdpc_coefficient row) i l)) (ldpc_below row i k)
-        | inr g ↦
-            let j : ℕ = i - row.ldpc_symbols in
-            let e : row.ldpc_symbols + j ≡ i = omega arith in
-            subst (λ (r : ℕ → ℕ). r k < 256) (sym (stacked_above f (precode_equations row) (rows_of (symbol_coefficient row) ids) i lt ∙ ap (precode_equations row) (sym e) ∙ stacked_below row.ldpc_symbols (ldpc_coefficient row) (hdpc_coefficient row) j)) (hdpc_below row j k)
-      ]
-      | inr past ↦
-          let j : ℕ = i - f in
-          let e : f + j ≡ i = omega arith in
-          subst (λ (r : ℕ → ℕ). r k < 256) (sym (ap (equations row ids) (sym e) ∙ stacked_below f (precode_equations row) (rows_of (symbol_coefficient row) ids) j)) (parity_below (row_indices row (at ids j)) k)
-    ]
+    let small : (ℕ → ℕ) → Type 0 = λ r. r k < 256 in
+    stacked_all (row.ldpc_symbols + row.hdpc_symbols) (precode_equations row) (rows_of (symbol_coefficient row) ids) small
+    (λ m _. stacked_all row.ldpc_symbols (ldpc_coefficient row) (hdpc_coefficient row) small (λ n _. ldpc_below row n k) (λ n. hdpc_below row n k) m)
+    (λ j. parity_below (row_indices row (at ids j)) k) i
 
 -- fewer equations than intermediate symbols determine nothing
 pub few_not_determining : (row : TableRow) (ids : List ℕ) → equation_count row ids < intermediate_symbols row → HasDeterminedRows row ids → ⊥

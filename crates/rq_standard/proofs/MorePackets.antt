@@ -1,5 +1,5 @@
 -- Of a list of packets, only which ids were received decides what it determines.
-use Rattle.std.proofs.Common.{◌≡◌, ◌↔◌, ℕ, true, List, [], ◌∷◌, All, Option, Some, None, refl, sym, ◌∙◌, subst}
+use Rattle.std.proofs.Common.{◌≡◌, ℕ, true, List, [], ◌∷◌, All, Option, Some, None, refl, sym, ◌∙◌, subst}
 use Rattle.std.specs.Prelude.{Contains, IsSome, is_some}
 use Rattle.std.specs.List.{AllByRecursion}
 use Rattle.std.proofs.lemmas.List.Elements.{All-head, All-tail, All-map, All-contains, All-from_recursion}
@@ -9,7 +9,8 @@ use Rattle.rq_standard.specs.Cutting.{block_symbols}
 use Rattle.rq_standard.specs.Packet.{SymbolId, Packet}
 use Rattle.rq_standard.specs.Received.{first_payload, has_id}
 use Rattle.rq_standard.specs.SameIds.{ids_of, HasIdsOf, HaveSameIds}
-use Rattle.rq_standard.specs.Headline.{DetermineBlock, block_row, IsHonestRun, IsAnswerable, IsObjectAnswer, AnswersExactly}
+use Rattle.rq_standard.specs.Headline.{block_row, IsObjectAnswer}
+use Rattle.rq_standard.specs.PacketLaws.{MorePacketsDetermine, MorePacketsAreAnswerable, AnswersStay, SameIdsAreAnswerable, SameIdsAnswerTheSame}
 use Rattle.rq_standard.proofs.Firsts.{first_payload-packet}
 use Rattle.rq_standard.proofs.KnownIds.{block_more}
 use Rattle.rq_standard.proofs.OtherObjects.{all_came}
@@ -40,13 +41,13 @@ came_in_more packets more ids b e came = came_by packets more ids b e (first_pay
 -- ---- what they determine
 
 -- a block that is determined stays so when more packets come
-pub more_determine_block : (row : TableRow) (k b : ℕ) (packets more : List Packet) → HasIdsOf more packets → DetermineBlock row k (has_id b packets) → DetermineBlock row k (has_id b more)
+pub more_determine_block : MorePacketsDetermine
 more_determine_block row k b packets more ids = block_more row k (has_id b packets) (has_id b more) (came_in_more packets more ids b)
 
-pub more_answerable : (table : List TableRow) (c : Configuration) (packets more : List Packet) → HasIdsOf more packets → IsAnswerable table c packets → IsAnswerable table c more
+pub more_answerable : MorePacketsAreAnswerable
 more_answerable table c packets more ids determined b below = more_determine_block (block_row table c b) (block_symbols c b) b packets more ids (determined b below)
 
-pub same_answerable : (table : List TableRow) (c : Configuration) (one other : List Packet) → HaveSameIds one other → IsAnswerable table c one ↔ IsAnswerable table c other
+pub same_answerable : SameIdsAreAnswerable
 same_answerable table c one other same = (more_answerable table c one other same.there, more_answerable table c other one same.back)
 
 -- ---- what is answered
@@ -64,10 +65,9 @@ module _ (table : List TableRow) (c : Configuration) (object : List ℕ) where
   same_by one other None None same is after = refl
 
 -- Two answers, each right for its own list of an object's packets: what is answered stays the answer when more packets come,
-pub answer_stays : (table : List TableRow) (c : Configuration) (object : List ℕ) (packets more : List Packet) (answer later : Option (List ℕ)) → IsHonestRun table c object packets → IsHonestRun table c object more → HasIdsOf more packets → AnswersExactly table c packets answer → AnswersExactly table c more later
-    → IsSome answer → later ≡ answer
+pub answer_stays : AnswersStay
 answer_stays table c object packets more answer later run longer ids right after = stays table c object packets more answer later ids (right object run) (after object longer)
 
 -- and lists of the same ids have the same answer
-pub same_answers : (table : List TableRow) (c : Configuration) (object : List ℕ) (one other : List Packet) (answer later : Option (List ℕ)) → IsHonestRun table c object one → IsHonestRun table c object other → HaveSameIds one other → AnswersExactly table c one answer → AnswersExactly table c other later → answer ≡ later
+pub same_answers : SameIdsAnswerTheSame
 same_answers table c object one other answer later run again same right after = same_by table c object one other answer later same (right object run) (after object again)

@@ -116,7 +116,7 @@ module _ (table : List TableRow) (c : Configuration) (one other : List ℕ) (b :
         let solves_x = solves_received came (block_source c one b) x checked (length-block_source c one b) (source_sized c one b) s.is_only.is (received_symbol table c one packets b (first_payload b packets) run.honest (λ e. refl)) in
         let solves_y = solves_received came (block_source c other b) y checked (length-block_source c other b) (source_sized c other b) t.is_only.is (received_symbol table c other packets b (first_payload b packets) also.honest (λ e. refl)) in
         let same = received_unique came x y checked fits solves_x solves_y determined in
-        same_symbols c k (block_bytes c one b) (block_bytes c other b) aligned.alignment_positive aligned.aligned (length-block_bytes c one b) (length-block_bytes c other b) (λ e l.
+        same_symbols c k (block_bytes c one b) (block_bytes c other b) aligned (length-block_bytes c one b) (length-block_bytes c other b) (λ e l.
         sym (source_at c one b e l) ∙ sym (source_sum row c.symbol_size e (block_source c one b) x checked s.is_only.is (source_sized c one b) (omega (arith, fits)))
         ∙ sum_same row e x y checked same
         ∙ source_sum row c.symbol_size e (block_source c other b) y checked t.is_only.is (source_sized c other b) (omega (arith, fits)) ∙ source_at c other b e l)

@@ -1,5 +1,5 @@
 -- The places of the LDPC equations are three, and the places of an id lie below L.
-use Rattle.std.proofs.Common.{◌≡◌, ◌≢◌, ℕ, ◌+◌, ◌-◌, ◌*◌, ◌/◌, ◌%◌, ◌≤◌, ◌<◌, true, ltb, List, [], ◌∷◌, take, filter, sym, ap, ◌∙◌, arith, ⊎_elim, inl, inr, ◌⊎◌}
+use Rattle.std.proofs.Common.{◌≡◌, ◌≢◌, ℕ, ◌+◌, ◌-◌, ◌*◌, ◌/◌, ◌%◌, ◌≤◌, ◌<◌, true, ltb, List, [], ◌∷◌, take, filter, refl, sym, ap, ◌∙◌, arith, ⊎_elim, inl, inr, ◌⊎◌}
 use Rattle.std.proofs.lemmas.Bool.{cases_lt, ltb-true}
 use Rattle.std.proofs.Math.Nat.{mod-eq_of_lt, add-mod_right, mod-add-mod, lt_of_mul-lt-mul_left}
 use Rattle.std.specs.List.{All, range_with_len}
@@ -10,41 +10,29 @@ use Rattle.rq_standard.specs.TableRows.{IsChecked, b_of, pi_symbols, intermediat
 use Rattle.rq_standard.specs.Equations.{ldpc_step, row_indices}
 use Rattle.rq_standard.specs.TableLaws.{LdpcRowsAreThree, IndicesAreBelow}
 
--- the sum modulo m of two numbers below it
-sum_cases : (m x y : ℕ) → x < m → y < m → ((x + y) % m ≡ x + y) ⊎ ((m ≤ x + y) × ((x + y) % m ≡ x + y - m))
-sum_cases m x y hx hy =
-    ⊎_elim
-    (λ (low : x + y < m). inl (mod-eq_of_lt low))
-    (λ (high : m ≤ x + y).
-    let same : x + y ≡ (x + y - m) + m = omega arith in
-    inr (high, ap (λ (n : ℕ). n % m) same ∙ add-mod_right (x + y - m) m ∙ mod-eq_of_lt (let lt : x + y - m < m = omega arith in lt)))
-    (cases_lt (x + y) m)
+-- a step leads to the sum, or to what is m less
+step_to : (m x a y : ℕ) → x < m → a < m → y ≡ (x + a) % m → (x + a ≡ y) ⊎ (x + a ≡ y + m)
+step_to m x a y hx below is = elim (cases_lt (x + a) m) [
+  | inl low ↦ inl (sym (is ∙ mod-eq_of_lt low))
+  | inr high ↦
+      let same : x + a ≡ (x + a - m) + m = omega arith in
+      let rest : y ≡ x + a - m = is ∙ ap (λ (n : ℕ). n % m) same ∙ add-mod_right (x + a - m) m ∙ mod-eq_of_lt (let lt : x + a - m < m = omega arith in lt) in
+      inr (omega (arith, rest))
+]
 
 -- a step that is neither 0 nor the modulus leads elsewhere, and so do two where the modulus is odd
 one_step : (m x a : ℕ) → x < m → 1 ≤ a → a < m → x ≢ (x + a) % m
-one_step m x a hx some below =
-    λ same. (⊎_elim
-    (λ (low : (x + a) % m ≡ x + a). let c : x ≡ x + a = same ∙ low in let h : ⊥ = omega arith in h)
-    (λ (high : (m ≤ x + a) × ((x + a) % m ≡ x + a - m)). let c : x ≡ x + a - m = same ∙ high.1 in let h : ⊥ = omega (arith, high.0) in h)
-    (sum_cases m x a hx below))
+one_step m x a hx some below = λ same. elim (step_to m x a x hx below same) [ inl e ↦ omega arith | inr e ↦ omega arith ]
 
 two_steps : (m x a : ℕ) → x < m → 1 ≤ a → a < m → m % 2 ≡ 1 → x ≢ ((x + a) % m + a) % m
-two_steps m x a hx some below odd =
-    λ same.
-    (let y = (x + a) % m in
+two_steps m x a hx some below odd = λ same.
+    let y = (x + a) % m in
     let there : y < m = omega arith in
-    ⊎_elim
-    (λ (low : y ≡ x + a).
-    ⊎_elim
-    (λ (low2 : (y + a) % m ≡ y + a). let c : x ≡ y + a = same ∙ low2 in let h : ⊥ = omega (arith, low) in h)
-    (λ (high2 : (m ≤ y + a) × ((y + a) % m ≡ y + a - m)). let c : x ≡ y + a - m = same ∙ high2.1 in let h : ⊥ = omega (arith, low, high2.0) in h)
-    (sum_cases m y a there below))
-    (λ (high : (m ≤ x + a) × (y ≡ x + a - m)).
-    ⊎_elim
-    (λ (low2 : (y + a) % m ≡ y + a). let c : x ≡ y + a = same ∙ low2 in let h : ⊥ = omega (arith, high.0, high.1) in h)
-    (λ (high2 : (m ≤ y + a) × ((y + a) % m ≡ y + a - m)). let c : x ≡ y + a - m = same ∙ high2.1 in let h : ⊥ = omega (arith, high.0, high.1, high2.0) in h)
-    (sum_cases m y a there below))
-    (sum_cases m x a hx below))
+    let second = step_to m y a x there below same in
+    elim (step_to m x a y hx below refl) [
+      | inl e ↦ elim second [ inl f ↦ omega (arith, e, f) | inr f ↦ omega (arith, e, f) ]
+      | inr e ↦ elim second [ inl f ↦ omega (arith, e, f) | inr f ↦ omega (arith, e, f) ]
+    ]
 
 -- the step of one of the first B symbols is below S
 step-lt : (row : TableRow) (i : ℕ) → IsChecked row → i < b_of row → ldpc_step row i < row.ldpc_symbols

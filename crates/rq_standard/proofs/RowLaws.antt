@@ -81,6 +81,10 @@ all_pass_at place (first ∷ rows) e (suc i) row is =
     subst (λ (n : ℕ). first_failing_check n row ≡ None) (let same : place + 1 + i ≡ place + suc i = omega arith in same)
     (all_pass_at (place + 1) rows both.1 i row is)
 
+pass_each : (rows : List TableRow) → all_pass 0 rows ≡ true → (place : ℕ) (row : TableRow) → slice_get rows place ≡ Some row → first_failing_check place row ≡ None
+pass_each rows all place row is =
+    subst (λ (n : ℕ). first_failing_check n row ≡ None) (let same : 0 + place ≡ place = omega arith in same) (all_pass_at 0 rows all place row is)
+
 built_in_pass : all_pass 0 built_in_rows ≡ true
 unfolding built_in_rows rows_from first_failing_check
 built_in_pass = refl
@@ -90,11 +94,7 @@ unfolding built_in_rows rows_from
 built_in_length = refl
 
 pub built_in_table : IsTable built_in_rows
-built_in_table = record {
-  built_in_first = built_in_length;
-  passes = λ place row is. subst (λ (n : ℕ). first_failing_check n row ≡ None) (let same : 0 + place ≡ place = omega arith in same)
-      (all_pass_at 0 built_in_rows built_in_pass place row is);
-}
+built_in_table = record { built_in_first = built_in_length; passes = pass_each built_in_rows built_in_pass }
 
 -- ---- look-ups
 
@@ -163,8 +163,7 @@ further_table numbers e =
     let enough : 74 ≤ length built_in_rows = omega (arith, length-built_in_rows) in
     record {
       built_in_first = take-append-le 74 built_in_rows (rows_from 74 numbers) enough ∙ built_in_length;
-      passes = λ place row is. subst (λ (n : ℕ). first_failing_check n row ≡ None) (let same : 0 + place ≡ place = omega arith in same)
-          (all_pass_at 0 (built_in_rows ++ rows_from 74 numbers) all place row is);
+      passes = pass_each (built_in_rows ++ rows_from 74 numbers) all;
     }
 
 -- ---- the list of sizes

@@ -1,18 +1,15 @@
 -- The packets of source symbols carry them.
-use Rattle.std.proofs.Common.{◌≡◌, ℕ, ◌+◌, ◌-◌, ◌<◌, cond, List, length, ap, ◌∙◌, arith}
+use Rattle.std.proofs.Common.{◌≡◌, ◌+◌, ◌-◌, cond, length, ap, ◌∙◌, arith}
 use Rattle.std.proofs.lemmas.Bool.{lt-ltb}
-use Rattle.rq_standard.specs.declared.row.TableRow.{TableRow}
-use Rattle.rq_standard.specs.TableRows.{IsTable, greatest_size}
-use Rattle.rq_standard.specs.Configuration.{Configuration, IsAccepted}
-use Rattle.rq_standard.specs.Cutting.{block_symbols, source_symbol}
+use Rattle.rq_standard.specs.Cutting.{block_symbols}
 use Rattle.rq_standard.specs.Equations.{tuple_sum, internal_id}
-use Rattle.rq_standard.specs.Headline.{block_row, block_source, IsPacketOf}
-use Rattle.rq_standard.specs.Packet.{Packet}
+use Rattle.rq_standard.specs.Headline.{block_row, block_source}
+use Rattle.rq_standard.specs.PacketLaws.{SourcePacketsAreSymbols}
 use Rattle.rq_standard.proofs.BlockRows.{block_has_row}
 use Rattle.rq_standard.proofs.Columns.{source_sum}
 use Rattle.rq_standard.proofs.StandingSteps.{length-block_source, source_at, source_sized}
 
-pub source_packet : (table : List TableRow) (c : Configuration) (object : List ℕ) (p : Packet) → IsTable table → IsAccepted (greatest_size table) c → IsPacketOf table c object p → p.id.esi < block_symbols c p.id.block → p.payload ≡ source_symbol c object p.id.block p.id.esi
+pub source_packet : SourcePacketsAreSymbols
 source_packet table c object p checked accepted is below =
     let b = p.id.block in
     let e = p.id.esi in

@@ -5,6 +5,8 @@ use Rattle.std.specs.List.{AllByRecursion}
 use Rattle.std.proofs.lemmas.Bool.{cases_eq, cases_lt, eq-eqb, ne_eqb}
 use Rattle.std.proofs.lemmas.List.{get_or_past, length-replicate, nil_from_length}
 use Rattle.std.proofs.lemmas.List.FromFn.{length-map-range_with_len, get_or-map-range_with_len}
+use Rattle.rq_algebra.specs.Changes.{with_at}
+use Rattle.rq_algebra.proofs.ChangeLaws.{with_at_same, with_at_other}
 use Rattle.rq_standard.specs.declared.row.TableRow.{TableRow}
 use Rattle.rq_standard.specs.TableRows.{IsChecked}
 use Rattle.rq_standard.specs.Packet.{Packet}
@@ -16,16 +18,12 @@ use Rattle.rq_standard.specs.Headline.{IsNonsingular, IsIntermediateColumn, IsEn
 use Rattle.rq_standard.specs.ReceivedBlock.{ReceivedBlock, with_received, CanAnswer, IsBlockAnswer}
 use Rattle.rq_standard.specs.DecoderState.{State, IsReceivedOf, new_received, new_answer, IsNewState}
 use Rattle.rq_standard.specs.DecoderSteps.{kept_of, AddsToBlock, IsSameElsewhere, Adds, RecordsOnly, StopsEarly}
-use Rattle.rq_standard.specs.Standing.{BlockStandsFor, StandsForButLate, with_late, StandsForNone, StandsForMore, AnswersLateBlock, LeavesBlockLate}
+use Rattle.rq_standard.specs.Standing.{HoldsFirst, BlockStandsFor, StandsForButLate, StandsForNone, StandsForMore, IsHonestPacket, AnswersLateBlock, LeavesBlockLate}
 use Rattle.rq_standard.proofs.KnownIds.{block_more, block_same, block_of_source, none_determined}
 use Rattle.rq_standard.proofs.Columns.{source_sum, solves_received}
 use Rattle.rq_standard.proofs.Firsts.{first_payload-here, first_payload-elsewhere, first_payload-packet, has_id-push}
 use Rattle.rq_standard.proofs.PlainCut.{length-block_bytes}
 use Rattle.rq_standard.proofs.Interleaved.{same_symbols}
-
--- what was received of a block are the first payloads of its ids in a list of packets
-abbrev pub HasReceivedFirsts : ℕ → List Packet → ReceivedBlock → Type 0
-HasReceivedFirsts b packets h = (e : ℕ) → h.received e ≡ first_payload b packets e
 
 pub push-all : (P : Packet → Type 0) (packets : List Packet) (p : Packet) → AllByRecursion P packets → P p → AllByRecursion P (packets ++ p ∷ [])
 push-all P [] p h x = (x, tt)
@@ -87,14 +85,14 @@ module _ (table : List TableRow) (c : Configuration) (object : List ℕ) (packet
     answered_at late column (Some bytes) is ans =
         let d = can_answer (ans.some refl) in
         let solves = solves_received (received_with table c b received) (block_source c object b) column checked (length-block_source c object b) (source_sized c object b) is (received_symbol honest reads) in (
-          same_symbols c (block_symbols c b) bytes (block_bytes c object b) aligned.alignment_positive aligned.aligned ans.block.long (length-block_bytes c object b)
+          same_symbols c (block_symbols c b) bytes (block_bytes c object b) aligned ans.block.long (length-block_bytes c object b)
               (λ e below. ans.block.solved (received_back d) column solves e below ∙ source_sum (block_row table c b) c.symbol_size e (block_source c object b) column checked is (source_sized c object b) (omega (arith, fits)) ∙ source_at c object b e below),
           d,
         )
 
 -- a block that holds the first payloads of a list, once it is answered
 stands_answered : (table : List TableRow) (c : Configuration) (object : List ℕ) (packets : List Packet) (b : ℕ) (late : Bool) (h : ReceivedBlock) (column : ℕ → List ℕ) (answer : Option (List ℕ)) → IsAligned c → IsNonsingular (block_row table c b) → AllByRecursion (IsPacketOf table c object) packets → IsReceivedOf table c b h
-    → HasReceivedFirsts b packets h → IsIntermediateColumn (block_row table c b) c.symbol_size (block_source c object b) column → IsBlockAnswer h answer → BlockStandsFor late (block_bytes c object b) b packets h answer
+    → HoldsFirst h b packets → IsIntermediateColumn (block_row table c b) c.symbol_size (block_source c object b) column → IsBlockAnswer h answer → BlockStandsFor late (block_bytes c object b) b packets h answer
 stands_answered table c object packets b late h column answer aligned nonsingular honest shape reads is ans =
     let same = received_is table c b h shape in
     subst (λ g. BlockStandsFor late (block_bytes c object b) b packets g answer) same
@@ -103,7 +101,7 @@ stands_answered table c object packets b late h column answer aligned nonsingula
     late column answer is (subst (λ g. IsBlockAnswer g answer) (sym same) ans))
 
 -- a packet more is recorded
-pub firsts_more : (packets : List Packet) (p : Packet) (old new : ReceivedBlock) → HasReceivedFirsts p.id.block packets old → new ≡ with_received old p.id.esi p.payload → HasReceivedFirsts p.id.block (packets ++ p ∷ []) new
+pub firsts_more : (packets : List Packet) (p : Packet) (old new : ReceivedBlock) → HoldsFirst old p.id.block packets → new ≡ with_received old p.id.esi p.payload → HoldsFirst new p.id.block (packets ++ p ∷ [])
 firsts_more packets p old new reads is e = ap (λ h. h.received e) is ∙ ap (λ o. or_later o (cond (eqb p.id.esi e) (Some p.payload) None)) (reads e) ∙ sym (first_payload-here p.id.block packets p e refl)
 
 pub recorded_shape : (table : List TableRow) (c : Configuration) (b : ℕ) (p : Packet) (old new : ReceivedBlock) → IsReceivedOf table c b old → new ≡ with_received old p.id.esi p.payload → IsReceivedOf table c b new
@@ -152,46 +150,47 @@ shape_step table c b p old new (Some bytes) answer shape add = subst (IsReceived
 
 -- ---- all blocks
 
-late_here : (b : ℕ) (now : Bool) (late : ℕ → Bool) → with_late b now late b ≡ now
-late_here b now late = rw (eq-eqb b b refl) refl
-
-late_elsewhere : (b n : ℕ) (now : Bool) (late : ℕ → Bool) → b ≢ n → with_late b now late n ≡ late n
-late_elsewhere b n now late ne = rw (ne_eqb n b (λ e. ne (sym e))) refl
-
 -- the packet's own block, and the others, one packet later
-module _ (table : List TableRow) (object : List ℕ) (packets : List Packet) (p : Packet) (old new : State) (late : ℕ → Bool) (now : Bool) (st : StandsForButLate late table object packets old) (pk : IsPacketOf table old.configuration object p) (other : IsSameElsewhere old p.id.block new) where
-  moved : IsReceivedOf table old.configuration p.id.block (new.received p.id.block) → BlockStandsFor now (block_bytes old.configuration object p.id.block) p.id.block (packets ++ p ∷ []) (new.received p.id.block) (new.answer p.id.block)
-      → StandsForButLate (with_late p.id.block now late) table object (packets ++ p ∷ []) new
-  moved shape_here block_here =
-      let c = old.configuration in
-      let here = p.id.block in
-      let after : State = record { configuration = c; received = new.received; answer = new.answer } in
-      let is : after ≡ new = λ i. record { configuration = sym other.configuration i; received = new.received; answer = new.answer } in
-      subst (StandsForButLate (with_late here now late) table object (packets ++ p ∷ [])) is (record {
-        run = record { long = st.run.long; nonsingular = st.run.nonsingular; honest = push-all (IsPacketOf table c object) packets p st.run.honest pk };
-        shape = λ b below. elim (cases_eq here b) [
-          | inl e ↦ subst (λ n. IsReceivedOf table c n (new.received n)) e shape_here
-          | inr ne ↦ subst (IsReceivedOf table c b) (sym (other.other b below (λ e. ne (sym e))).0) (st.shape b below)
-        ];
-        block = λ b below. elim (cases_eq here b) [
-          | inl e ↦ subst (λ n. BlockStandsFor (with_late here now late n) (block_bytes c object n) n (packets ++ p ∷ []) (new.received n) (new.answer n)) e
-              (subst (λ l. BlockStandsFor l (block_bytes c object here) here (packets ++ p ∷ []) (new.received here) (new.answer here)) (sym (late_here here now late)) block_here)
-          | inr ne ↦ let q = other.other b below (λ e. ne (sym e)) in
-              subst (λ l. BlockStandsFor l (block_bytes c object b) b (packets ++ p ∷ []) (new.received b) (new.answer b)) (sym (late_elsewhere here b now late ne))
-              (subst (λ h. BlockStandsFor (late b) (block_bytes c object b) b (packets ++ p ∷ []) h (new.answer b)) (sym q.0)
-              (subst (λ a. BlockStandsFor (late b) (block_bytes c object b) b (packets ++ p ∷ []) (old.received b) a) (sym q.1)
-              (other_step (late b) (block_bytes c object b) b packets p (old.received b) (old.answer b) ne (st.block b below))))
-        ];
-      })
+moved : (p : Packet) (old new : State) (honest : IsHonestPacket old p) (now : Bool) → IsSameElsewhere old p.id.block new → IsReceivedOf honest.table old.configuration p.id.block (new.received p.id.block)
+    → BlockStandsFor now (block_bytes old.configuration honest.object p.id.block) p.id.block (honest.packets ++ p ∷ []) (new.received p.id.block) (new.answer p.id.block)
+    → StandsForButLate (with_at honest.late p.id.block now) honest.table honest.object (honest.packets ++ p ∷ []) new
+moved p old new honest now other shape_here block_here =
+    let c = old.configuration in
+    let here = p.id.block in
+    let st = honest.stands in
+    let more = honest.packets ++ p ∷ [] in
+    let late = with_at honest.late here now in
+    let after : State = record { configuration = c; received = new.received; answer = new.answer } in
+    let is : after ≡ new = λ i. record { configuration = sym other.configuration i; received = new.received; answer = new.answer } in
+    subst (StandsForButLate late honest.table honest.object more) is (record {
+      run = record { long = st.run.long; nonsingular = st.run.nonsingular; honest = push-all (IsPacketOf honest.table c honest.object) honest.packets p st.run.honest honest.of_object };
+      shape = λ b below. elim (cases_eq here b) [
+        | inl e ↦ subst (λ n. IsReceivedOf honest.table c n (new.received n)) e shape_here
+        | inr ne ↦ subst (IsReceivedOf honest.table c b) (sym (other.other b below (λ e. ne (sym e))).0) (st.shape b below)
+      ];
+      block = λ b below. elim (cases_eq here b) [
+        | inl e ↦ subst (λ n. BlockStandsFor (late n) (block_bytes c honest.object n) n more (new.received n) (new.answer n)) e
+            (subst (λ l. BlockStandsFor l (block_bytes c honest.object here) here more (new.received here) (new.answer here)) (sym (with_at_same honest.late here now here refl)) block_here)
+        | inr ne ↦ let q = other.other b below (λ e. ne (sym e)) in
+            subst (λ l. BlockStandsFor l (block_bytes c honest.object b) b more (new.received b) (new.answer b)) (sym (with_at_other honest.late here now b (λ e. ne (sym e))))
+            (subst (λ h. BlockStandsFor (honest.late b) (block_bytes c honest.object b) b more h (new.answer b)) (sym q.0)
+            (subst (λ a. BlockStandsFor (honest.late b) (block_bytes c honest.object b) b more (old.received b) a) (sym q.1)
+            (other_step (honest.late b) (block_bytes c honest.object b) b honest.packets p (old.received b) (old.answer b) ne (st.block b below))))
+      ];
+    })
 
 -- one packet more, whichever block it is of: its block isn't late any more
 pub answers_late : (p : Packet) (old new : State) → IsAligned old.configuration → Adds old p new → AnswersLateBlock old p new
-answers_late p old new aligned add table object packets late st pk =
+answers_late p old new aligned add honest =
+    let table = honest.table in
     let c = old.configuration in
     let here = p.id.block in
+    let st = honest.stands in
+    let pk = honest.of_object in
     let shape_here = shape_step table c here p (old.received here) (new.received here) (old.answer here) (new.answer here) (st.shape here pk.block) add.here in
-    moved table object packets p old new late false st pk add.elsewhere shape_here
-    (own_step table c object packets p (late here) (old.received here) (new.received here) (old.answer here) (new.answer here) aligned (st.run.nonsingular here pk.block) (push-all (IsPacketOf table c object) packets p st.run.honest pk) pk (st.shape here pk.block) (st.block here pk.block) add.here)
+    moved p old new honest false add.elsewhere shape_here
+    (own_step table c honest.object honest.packets p (honest.late here) (old.received here) (new.received here) (old.answer here) (new.answer here) aligned (st.run.nonsingular here pk.block)
+    (push-all (IsPacketOf table c honest.object) honest.packets p st.run.honest pk) pk (st.shape here pk.block) (st.block here pk.block) add.here)
 
 -- fewer blocks are late
 stands_later : (late more : ℕ → Bool) (table : List TableRow) (object : List ℕ) (packets : List Packet) (s : State) → ((b : ℕ) → more b ≡ false → late b ≡ false) → StandsForButLate late table object packets s → StandsForButLate more table object packets s
@@ -205,8 +204,10 @@ stands_later late more table object packets s fewer st = record {
   weaker l m block b packets h (Some bytes) less x = x
 
 pub stands_more : (p : Packet) (old new : State) → IsAligned old.configuration → Adds old p new → StandsForMore old p new
+unfolding with_at
 stands_more p old new aligned add table object packets st pk =
-    stands_later (with_late p.id.block false (λ _. false)) (λ _. false) table object (packets ++ p ∷ []) new (λ b _. none (eqb b p.id.block)) (answers_late p old new aligned add table object packets (λ _. false) st pk) where
+    stands_later (with_at (λ _. false) p.id.block false) (λ _. false) table object (packets ++ p ∷ []) new (λ b _. none (eqb b p.id.block))
+    (answers_late p old new aligned add record { table = table; object = object; packets = packets; late = λ _. false; stands = st; of_object = pk }) where
       none : (x : Bool) → cond x false false ≡ false
       none true = refl
       none false = refl
@@ -227,18 +228,20 @@ unmoved late table object packets old new configuration same st =
     })
 
 -- the packet is recorded, and its block is late
-records_late : (p : Packet) (old new : State) → RecordsOnly old p new → (table : List TableRow) (object : List ℕ) (packets : List Packet) (late : ℕ → Bool) → StandsForButLate late table object packets old → IsPacketOf table old.configuration object p
-    → StandsForButLate (with_late p.id.block true late) table object (packets ++ p ∷ []) new
-records_late p old new more table object packets late st pk =
+records_late : (p : Packet) (old new : State) → RecordsOnly old p new → (honest : IsHonestPacket old p) → StandsForButLate (with_at honest.late p.id.block true) honest.table honest.object (honest.packets ++ p ∷ []) new
+records_late p old new more honest =
     let c = old.configuration in
     let here = p.id.block in
-    let reads = (subst (BlockStandsFor (late here) (block_bytes c object here) here packets (old.received here)) more.here.unanswered (st.block here pk.block)).0 in
-    moved table object packets p old new late true st pk more.elsewhere (recorded_shape table c here p (old.received here) (new.received here) (st.shape here pk.block) more.here.received)
-    (subst (BlockStandsFor true (block_bytes c object here) here (packets ++ p ∷ []) (new.received here)) (sym more.here.waits) (firsts_more packets p (old.received here) (new.received here) reads more.here.received, λ now. absurd (cc now)))
+    let st = honest.stands in
+    let below = honest.of_object.block in
+    let block = block_bytes c honest.object here in
+    let reads = (subst (BlockStandsFor (honest.late here) block here honest.packets (old.received here)) more.here.unanswered (st.block here below)).0 in
+    moved p old new honest true more.elsewhere (recorded_shape honest.table c here p (old.received here) (new.received here) (st.shape here below) more.here.received)
+    (subst (BlockStandsFor true block here (honest.packets ++ p ∷ []) (new.received here)) (sym more.here.waits) (firsts_more honest.packets p (old.received here) (new.received here) reads more.here.received, λ now. absurd (cc now)))
 
 pub leaves_late : (p : Packet) (old new : State) → StopsEarly old p new → LeavesBlockLate old p new
-leaves_late p old new (inl same) table object packets late st pk = inl (subst (StandsForButLate late table object packets) (sym same) st)
-leaves_late p old new (inr more) table object packets late st pk = inr (records_late p old new more table object packets late st pk)
+leaves_late p old new (inl same) honest = inl (subst (StandsForButLate honest.late honest.table honest.object honest.packets) (sym same) honest.stands)
+leaves_late p old new (inr more) honest = inr (records_late p old new more honest)
 
 -- ---- before any packet
 

@@ -14,37 +14,26 @@ first_above_cases v start starts =
 
 first_above-le : (v : ℕ) (starts : List ℕ) → first_above v starts ≤ length starts
 first_above-le v [] = omega arith
-first_above-le v (start ∷ starts) = let rest = first_above-le v starts in
-    ⊎_elim
-    (λ (here : (v < start) × (first_above v (start ∷ starts) ≡ 0)). omega (arith, here.1))
-    (λ (later : (start ≤ v) × (first_above v (start ∷ starts) ≡ 1 + first_above v starts)). omega (arith, later.1, rest))
-    (first_above_cases v start starts)
+first_above-le v (start ∷ starts) =
+    let rest = first_above-le v starts in
+    elim (first_above_cases v start starts) [ inl here ↦ omega (arith, here.1) | inr later ↦ omega (arith, later.1, rest) ]
 
 -- the number at that place is above v
 above_there : (v : ℕ) (starts : List ℕ) → first_above v starts < length starts → v < get_or starts (first_above v starts) 0
 above_there v [] lt = absurd (omega arith)
-above_there v (start ∷ starts) lt =
-    ⊎_elim
-    (λ (here : (v < start) × (first_above v (start ∷ starts) ≡ 0)). rw here.1 here.0)
-    (λ (later : (start ≤ v) × (first_above v (start ∷ starts) ≡ 1 + first_above v starts)).
-    let less : first_above v starts < length starts = omega (arith, later.1) in
-    let same : first_above v (start ∷ starts) ≡ suc (first_above v starts) = omega (arith, later.1) in
-    rw same (above_there v starts less))
-    (first_above_cases v start starts)
+above_there v (start ∷ starts) lt = elim (first_above_cases v start starts) [
+  | inl here ↦ rw here.1 here.0
+  | inr later ↦
+      let same : first_above v (start ∷ starts) ≡ suc (first_above v starts) = omega (arith, later.1) in
+      rw same (above_there v starts (omega (arith, later.1)))
+]
 
 -- those before it are not
 reached_before : (v : ℕ) (starts : List ℕ) (k : ℕ) → k < first_above v starts → get_or starts k 0 ≤ v
 reached_before v [] k lt = absurd (omega arith)
-reached_before v (start ∷ starts) zero lt =
-    ⊎_elim
-    (λ (here : (v < start) × (first_above v (start ∷ starts) ≡ 0)). absurd (omega (arith, here.1)))
-    (λ (later : (start ≤ v) × (first_above v (start ∷ starts) ≡ 1 + first_above v starts)). later.0)
-    (first_above_cases v start starts)
+reached_before v (start ∷ starts) zero lt = elim (first_above_cases v start starts) [ inl here ↦ absurd (omega (arith, here.1)) | inr later ↦ later.0 ]
 reached_before v (start ∷ starts) (suc k) lt =
-    ⊎_elim
-    (λ (here : (v < start) × (first_above v (start ∷ starts) ≡ 0)). absurd (omega (arith, here.1)))
-    (λ (later : (start ≤ v) × (first_above v (start ∷ starts) ≡ 1 + first_above v starts)). reached_before v starts k (omega (arith, later.1)))
-    (first_above_cases v start starts)
+    elim (first_above_cases v start starts) [ inl here ↦ absurd (omega (arith, here.1)) | inr later ↦ reached_before v starts k (omega (arith, later.1)) ]
 
 -- the place that a number below 2^20 has among the starts of the degrees
 pub between : (v : ℕ) → v < 2 ^ 20 → IsBetween v (first_above v DEGREE_STARTS)

@@ -45,7 +45,9 @@ pub record IsConfiguration (c : Configuration) : Type 0 where
 
 -- The header of 12 bytes: F in five, a reserved zero, T in two, Z in one, N in two, Al in one.
 unfoldable pub header_bytes : Configuration → List ℕ
-header_bytes c = drop 3 (to_be_bytes w64 c.transfer_length) ++ 0 ∷ to_be_bytes w16 c.symbol_size ++ c.source_blocks ∷ to_be_bytes w16 c.sub_blocks ++ c.alignment ∷ []
+header_bytes c =
+    drop 3 (to_be_bytes w64 c.transfer_length)
+    ++ 0 ∷ to_be_bytes w16 c.symbol_size ++ c.source_blocks ∷ to_be_bytes w16 c.sub_blocks ++ c.alignment ∷ []
 
 -- the configuration that 12 bytes spell, whatever the reserved byte is
 unfoldable pub configuration_of_bytes : List ℕ → Configuration

@@ -80,6 +80,7 @@ HasReceivedMore old p new = (table : List TableRow) (packets : List Packet) → 
 abbrev pub StopsEarly : State → Packet → State → Type 0
 StopsEarly old p new = (new ≡ old) ⊎ RecordsOnly old p new
 
--- Where memory is refused for a packet behind which the blocks are joined: as where it is refused earlier, or the packet's block has the answer that it can have, and no block lost one.
+-- Where memory is refused for a packet behind which the blocks are joined: as where it is refused earlier, or the packet's block has the answer that
+-- it can have, and no block lost one.
 abbrev pub Stops : State → Packet → State → Type 0
 Stops old p new = StopsEarly old p new ⊎ Adds old p new

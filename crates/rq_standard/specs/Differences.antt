@@ -59,8 +59,12 @@ MakesOthersFit s bytes =
 abbrev pub plain_sum : TableRow → (ℕ → ℕ) → ℕ → ℕ
 plain_sum row column x = dot octets (intermediate_symbols row) (symbol_coefficient row x) column
 
--- the block of k symbols that have these first octets: they stand where the first sub-block has the first byte of each symbol
-unfoldable pub first_octets_block : Configuration → ℕ → (ℕ → ℕ) → List ℕ
-first_octets_block c k octet =
+-- the block of k symbols, the first n of which have these first octets: they stand where the first sub-block has the first byte of each symbol
+abbrev pub first_octets_below : Configuration → ℕ → (ℕ → ℕ) → ℕ → List ℕ
+first_octets_below c k octet n =
     let z = sub_block_size c 0 in
-    map (λ i. if i % z == 0 && nat_lt (i / z) k then octet (i / z) else 0) (range_with_len 0 (k * c.symbol_size))
+    map (λ i. if i % z == 0 && nat_lt (i / z) n then octet (i / z) else 0) (range_with_len 0 (k * c.symbol_size))
+
+-- and all k of which have them
+unfoldable pub first_octets_block : Configuration → ℕ → (ℕ → ℕ) → List ℕ
+first_octets_block c k octet = first_octets_below c k octet k

@@ -1,4 +1,5 @@
--- The headline and all that it says, down to the equations of RFC 6330, sections 5.3 and 5.4. Read it from the end: the last definitions are what `decode_all` promises, each in words of those above it.
+-- The headline and all that it says, down to the equations of RFC 6330, sections 5.3 and 5.4. Read it from the end: the last definitions are what
+-- `decode_all` promises, each in words of those above it.
 use Rattle.std.specs.Prelude.{◌≡◌, ◌↔◌, ℕ, ◌+◌, ◌-◌, ◌<◌, ◌^◌, Bool, true, if◌then◌else◌, nat_lt, List, length, map, Option, Some, IsSome}
 use Rattle.std.specs.List.{range_with_len, AllByRecursion}
 use Rattle.rq_algebra.specs.Systems.{dot, Solves, IsColumn}
@@ -83,7 +84,8 @@ pub record IsPacketOf (table : List TableRow) (c : Configuration) (object : List
 abbrev pub HasNonsingularRows : List TableRow → Configuration → Type 0
 HasNonsingularRows table c = (b : ℕ) → b < c.source_blocks → IsNonsingular (block_row table c b)
 
--- An honest run: an object of the configuration's length, blocks whose rows aren't singular, and a list of the object's packets, in any order and any number of times. We say that the object fits the list.
+-- An honest run: an object of the configuration's length, blocks whose rows aren't singular, and a list of the object's packets, in any order and
+-- any number of times. We say that the object fits the list.
 pub record IsHonestRun (table : List TableRow) (c : Configuration) (object : List ℕ) (packets : List Packet) : Type 0 where
   pub long : length object ≡ c.transfer_length
   pub nonsingular : HasNonsingularRows table c

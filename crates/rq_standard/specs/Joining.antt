@@ -24,4 +24,5 @@ symbols_of_block c k block = map (symbol_of_block c k block) (range_with_len 0 k
 
 -- the block of k symbols
 unfoldable pub joined_block : Configuration → ℕ → List (List ℕ) → List ℕ
-joined_block c k symbols = map (λ i. slice_index (slice_index_or symbols (symbol_of_place c k i) []) (byte_of_place c k i)) (range_with_len 0 (k * c.symbol_size))
+joined_block c k symbols =
+    map (λ i. slice_index (slice_index_or symbols (symbol_of_place c k i) []) (byte_of_place c k i)) (range_with_len 0 (k * c.symbol_size))

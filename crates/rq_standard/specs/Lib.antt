@@ -18,6 +18,7 @@ pub mod OctetLaws
 pub mod OctetProducts
 pub mod Octets
 pub mod Packet
+pub mod PacketLaws
 pub mod Parameters
 pub mod Partition
 pub mod Rand

@@ -7,7 +7,8 @@ use Rattle.rq_standard.specs.Configuration.{Configuration}
 -- the greatest size of a table's rows that is at most the limit, or 0 where there is none
 unfoldable pub greatest_within : ℕ → List TableRow → ℕ
 greatest_within limit [] = 0
-greatest_within limit (row ∷ rows) = if nat_le row.extended_symbols limit then max row.extended_symbols (greatest_within limit rows) else greatest_within limit rows
+greatest_within limit (row ∷ rows) =
+    if nat_le row.extended_symbols limit then max row.extended_symbols (greatest_within limit rows) else greatest_within limit rows
 
 -- Al
 abbrev pub alignment_for : ℕ → ℕ

@@ -9,4 +9,5 @@ chosen_entry table y i = slice_index table ((y + i) % 256)
 
 -- Rand[y, i, m]: a number below m
 unfoldable pub rand : ℕ → ℕ → ℕ → ℕ
-rand y i m = bit_xor (bit_xor (bit_xor (chosen_entry V0 y i) (chosen_entry V1 (y / 2 ^ 8) i)) (chosen_entry V2 (y / 2 ^ 16) i)) (chosen_entry V3 (y / 2 ^ 24) i) % m
+rand y i m =
+    bit_xor (bit_xor (bit_xor (chosen_entry V0 y i) (chosen_entry V1 (y / 2 ^ 8) i)) (chosen_entry V2 (y / 2 ^ 16) i)) (chosen_entry V3 (y / 2 ^ 24) i) % m

@@ -1,5 +1,6 @@
 -- What it means that a decoder of an object stands for a list of packets, and what it answers then.
-use Rattle.std.specs.Prelude.{◌≡◌, ◌↔◌, ℕ, ◌<◌, ◌⊎◌, Bool, true, false, List, [], ◌∷◌, ◌++◌, Option, Some, None, IsSome, IfSome, if◌then◌else◌, ◌==◌}
+use Rattle.std.specs.Prelude.{◌≡◌, ◌↔◌, ℕ, ◌<◌, ◌⊎◌, Bool, true, false, List, [], ◌∷◌, ◌++◌, Option, Some, None, IsSome, IfSome}
+use Rattle.rq_algebra.specs.Changes.{with_at}
 use Rattle.rq_standard.specs.declared.row.TableRow.{TableRow}
 use Rattle.rq_standard.specs.Packet.{Packet}
 use Rattle.rq_standard.specs.Configuration.{Configuration}
@@ -37,10 +38,6 @@ StandsFor = StandsForButLate (λ _. false)
 abbrev pub StandsForNone : List TableRow → Configuration → State → Type 0
 StandsForNone table c new = (object : List ℕ) → IsHonestRun table c object [] → StandsFor table object [] new
 
--- with one block more that is late, or one less
-abbrev pub with_late : ℕ → Bool → (ℕ → Bool) → ℕ → Bool
-with_late b now late n = if n == b then now else late n
-
 -- a packet of the object whose packets the decoder stands for, blocks late or not
 pub record IsHonestPacket (old : State) (p : Packet) : Type 0 where
   pub table : List TableRow
@@ -61,16 +58,15 @@ StandsForMore old p new =
 -- block isn't late any more.
 abbrev pub AnswersLateBlock : State → Packet → State → Type 0
 AnswersLateBlock old p new =
-    (table : List TableRow) (object : List ℕ) (packets : List Packet) (late : ℕ → Bool)
-    → StandsForButLate late table object packets old → IsPacketOf table old.configuration object p
-    → StandsForButLate (with_late p.id.block false late) table object (packets ++ p ∷ []) new
+    (honest : IsHonestPacket old p)
+    → StandsForButLate (with_at honest.late p.id.block false) honest.table honest.object (honest.packets ++ p ∷ []) new
 
 -- Where memory is refused, one that stands for the list, or for the longer one but for its block's answer.
 abbrev pub LeavesBlockLate : State → Packet → State → Type 0
 LeavesBlockLate old p new =
-    (table : List TableRow) (object : List ℕ) (packets : List Packet) (late : ℕ → Bool)
-    → StandsForButLate late table object packets old → IsPacketOf table old.configuration object p
-    → StandsForButLate late table object packets new ⊎ StandsForButLate (with_late p.id.block true late) table object (packets ++ p ∷ []) new
+    (honest : IsHonestPacket old p)
+    → StandsForButLate honest.late honest.table honest.object honest.packets new
+    ⊎ StandsForButLate (with_at honest.late p.id.block true) honest.table honest.object (honest.packets ++ p ∷ []) new
 
 -- where memory is refused for a packet behind which the blocks are joined: as where it is refused earlier, or the longer list, with an answer of its block
 abbrev pub LeavesOrAnswersLateBlock : State → Packet → State → Type 0

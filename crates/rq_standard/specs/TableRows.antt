@@ -115,7 +115,8 @@ first_failure (Some check) place later = Some (place, check)
 -- of numbers handed in after the built-in ones, the first that make a row that fails a check: their place among those handed in, and that check
 unfoldable pub first_refused : ℕ → List RowNumbers → Option (ℕ × ℕ)
 first_refused place [] = None
-first_refused place (numbers ∷ rest) = first_failure (first_failing_check (74 + place) (row_of_numbers (74 + place) numbers)) place (first_refused (place + 1) rest)
+first_refused place (numbers ∷ rest) =
+    first_failure (first_failing_check (74 + place) (row_of_numbers (74 + place) numbers)) place (first_refused (place + 1) rest)
 
 -- A checked table: the built-in rows, and then rows that pass all checks at their places.
 pub record IsTable (rows : List TableRow) : Type 0 where

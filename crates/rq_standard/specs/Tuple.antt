@@ -67,7 +67,8 @@ lt_indices w t = map (λ j. (t.2 + t.1 * j) % w) (range_with_len 0 t.0)
 abbrev pub pi_values : ℕ → ℕ → Tuple → List ℕ
 pi_values n p1 t = map (λ j. (t.5 + t.4 * j) % p1) (range_with_len 0 n)
 
--- The indices of a tuple among the PI symbols: W plus the first d1 of the values that are below P. Of each P1 values that follow one another one is below P, so that these are enough.
+-- The indices of a tuple among the PI symbols: W plus the first d1 of the values that are below P. Of each P1 values that follow one another one is
+-- below P, so that these are enough.
 abbrev pub pi_indices : ℕ → ℕ → ℕ → Tuple → List ℕ
 pi_indices w p p1 t = map (λ value. w + value) (take t.3 (filter (λ value. nat_lt value p) (pi_values (t.3 * p1) p1 t)))
 

@@ -16,10 +16,10 @@ exchanged = rows ((0 ∷ 1 ∷ []) ∷ (1 ∷ 0 ∷ []) ∷ [])
 pub returns : goal.returns
 unfolding exchange exchanged
 returns c = finds_by_pivots two 2 2 turned exchanged (_ ∷ [])
-    (follows_add two 2 2 turned turned exchanged [] 1 0 (omega arith) (omega arith) (omega arith) record {
+    (follows_add two 2 2 turned exchanged [] 1 0 (omega arith) (omega arith) (omega arith) record {
       at_dest = below_two _ refl refl;
       elsewhere = λ i k l m d. let e : i ≡ 0 = omega arith in rw e (below_two (λ j. exchanged 0 j ≡ turned 0 j) refl refl k m);
-    } (follows_none two 2 2 turned))
+    } turned (follows_none two 2 2 turned))
     (exchange 0 1) (λ k. k) record {
       in_rows = exchange_are 0 1 2 (omega arith) (omega arith);
       in_columns = record { below = λ i l. l; apart = λ i j l m e. e };

@@ -3,4 +3,4 @@ use Rattle.rq_algebra.proofs.SymbolColumns.{symbols_unique}
 use Rattle.rq_algebra.proofs.symbols.determined.Goals as goal
 
 pub returns : goal.returns
-returns c = λ F height width size. symbols_unique F size height width
+returns c = symbols_unique

@@ -4,8 +4,4 @@ use Rattle.rq_algebra.proofs.SymbolSums.{sum_symbols_is, sum_is_symbol}
 use Rattle.rq_algebra.proofs.symbols.listed_indices.Goals as goal
 
 pub returns : goal.returns
-returns c = record {
-  elements = sum_listed_is;
-  symbols = λ F width size indices column place below are. sum_symbols_is F size width indices column below are place;
-  size = λ F width size. sum_is_symbol F size width;
-}
+returns c = record { elements = sum_listed_is; symbols = sum_symbols_is; size = sum_is_symbol }

@@ -3,4 +3,4 @@ use Rattle.rq_algebra.proofs.SquareSystems.{square_symbols}
 use Rattle.rq_algebra.proofs.symbols.square.Goals as goal
 
 pub returns : goal.returns
-returns c = λ F n size rows. square_symbols F n rows size
+returns c = square_symbols

@@ -7,5 +7,5 @@ returns c = record {
   sum = λ F n c f g. (sum_add F n f g, sum_mul F n c f);
   in_row = λ F n c r s x. (dot_add_row F n r s x, dot_mul_row F n c r x);
   in_column = λ F n c r x y. (dot_add_column F n r x y, dot_mul_column F n c r x);
-  product = λ F height width r a x. dot_product F height width r a x;
+  product = dot_product;
 }

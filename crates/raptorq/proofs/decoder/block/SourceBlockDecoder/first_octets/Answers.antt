@@ -1,7 +1,7 @@
 use Rattle.std.proofs.Common.{◌≡◌, ℕ, ◌*◌, ◌<◌, length, get_or, set, replicate, ap, ◌∙◌, arith}
 use Rattle.rq_algebra.specs.Systems.{at}
-use Rattle.rq_standard.specs.Differences.{plain_sum}
-use Rattle.rq_standard.proofs.FirstOctets.{first_octets_below, all_octets, length-octets_below, no_octets, next_index, octet_written}
+use Rattle.rq_standard.specs.Differences.{first_octets_below, plain_sum}
+use Rattle.rq_standard.proofs.FirstOctets.{all_octets, length-octets_below, no_octets, next_index, octet_written}
 use Rattle.raptorq.proofs.OctetSymbols.{octet_column, octet_sum}
 use Rattle.raptorq.proofs.decoder.block.SourceBlockDecoder.first_octets.Goals as goal
 

@@ -1,7 +1,6 @@
 use Rattle.std.proofs.Common.{◌≡◌}
 use Rattle.rq_algebra.specs.Systems.{at}
-use Rattle.rq_standard.specs.Differences.{plain_sum}
-use Rattle.rq_standard.proofs.FirstOctets.{first_octets_below}
+use Rattle.rq_standard.specs.Differences.{first_octets_below, plain_sum}
 use Rattle.raptorq.proofs.decoder.block.SourceBlockDecoder.first_octets.Given as goal
 
 -- the octets so far are written
