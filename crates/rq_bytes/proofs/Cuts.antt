@@ -48,20 +48,6 @@ cut-replicate (suc n) s x =
     ∙ ap (λ ys. replicate s x ∷ cut n s ys) (drop-replicate s (suc n * s) x ∙ ap (λ k. replicate k x) (let left : suc n * s - s ≡ n * s = omega arith in left))
     ∙ ap (λ zs. replicate s x ∷ zs) (cut-replicate n s x)
 
--- one more piece at the end
-pub cut-append : {X : Type 0} (n s : ℕ) (xs ys : List X) → length xs ≡ n * s → length ys ≡ s → cut (suc n) s (xs ++ ys) ≡ cut n s xs ++ ys ∷ []
-cut-append zero s [] ys long size = ap (λ zs. zs ∷ []) (take_all s ys (omega arith))
-cut-append zero s (x ∷ xs) ys long size = absurd (omega arith)
-cut-append (suc n) s xs ys long size =
-    let first = take s xs in
-    let rest = drop s xs in
-    let few : length first ≡ s = length-take-le s xs (omega arith) in
-    let left : length rest ≡ n * s = length-drop s xs ∙ omega arith in
-    ap (λ zs. cut (suc (suc n)) s (zs ++ ys)) (sym (take-append-drop s xs))
-    ∙ ap (cut (suc (suc n)) s) (append_assoc first rest ys)
-    ∙ cut-append_one (suc n) s first (rest ++ ys) few
-    ∙ ap (λ zs. first ∷ zs) (cut-append n s rest ys left size)
-
 -- two pieces have nothing in common
 pub pieces_apart : (p q s : ℕ) → (q ≡ p → ⊥) → (p * s + s ≤ q * s) ⊎ (q * s + s ≤ p * s)
 pieces_apart p q s ne =
@@ -85,6 +71,13 @@ cut-join (suc k) m s ys zs long =
     ∙ ap (cut (suc (k + m)) s) (append_assoc first rest zs)
     ∙ cut-append_one (k + m) s first (rest ++ zs) few
     ∙ ap (λ xs. first ∷ xs) (cut-join k m s rest zs left)
+
+-- one more piece at the end
+pub cut-append : {X : Type 0} (n s : ℕ) (xs ys : List X) → length xs ≡ n * s → length ys ≡ s → cut (suc n) s (xs ++ ys) ≡ cut n s xs ++ ys ∷ []
+cut-append n s xs ys long size =
+    ap (λ k. cut k s (xs ++ ys)) (let next : suc n ≡ n + 1 = omega arith in next)
+    ∙ cut-join n 1 s xs ys long
+    ∙ ap (λ zs. cut n s xs ++ zs ∷ []) (take_all s ys (omega arith))
 
 drop-cut : {X : Type 0} (k n s : ℕ) (xs : List X) → k ≤ n → length xs ≡ n * s → drop k (cut n s xs) ≡ cut (n - k) s (drop (k * s) xs)
 drop-cut zero n s xs le long =

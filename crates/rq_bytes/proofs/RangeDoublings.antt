@@ -1,37 +1,16 @@
 -- A range of a buffer, doubled and added to others, piece by piece.
-use Rattle.std.proofs.Common.{◌≡◌, ◌⊎◌, inl, inr, ⊎_elim, ℕ, ◌+◌, ◌≤◌, List, [], ◌∷◌, ◌++◌, length, All, refl, sym, ap, ◌∙◌, arith}
+use Rattle.std.proofs.Common.{◌≡◌, ◌⊎◌, inl, inr, ⊎_elim, ℕ, ◌+◌, ◌≤◌, List, ◌++◌, length, All, refl, sym, ap, ◌∙◌, arith}
 use Rattle.std.proofs.lemmas.List.{length-map, map-append}
 use Rattle.std.proofs.lemmas.List.Elements.{All-weaker}
 use Rattle.std.proofs.lemmas.Simd.{length-zip2}
-use Rattle.std.specs.Int.Bits.{bit_xor, xor_assoc, xor_self, xor_zero_l}
+use Rattle.std.specs.Int.Bits.{bit_xor}
 use Rattle.rq_standard.specs.Octets.{octet_mul}
 use Rattle.rq_standard.specs.Rows.{row_sum, row_multiple}
 use Rattle.rq_bytes.specs.Ranges.{range_of, with_range}
 use Rattle.rq_bytes.specs.RangeSums.{with_multiples_added, doubled_sum, with_doubled_sum, IsRangeBeside, BeginsNotInside}
 use Rattle.rq_bytes.proofs.RangeFacts.{length-range, length-with_range, range-written}
-use Rattle.rq_bytes.proofs.RangeMultiples.{HaveRoom, plus, plus-none, plus-is, plus-join, range-plus, all_plus, all_plus-is, length-all_plus, all_plus-none, plus-all_plus, all_plus-join, range-all_plus}
+use Rattle.rq_bytes.proofs.RangeMultiples.{plus, plus-none, plus-join, range-plus, all_plus, all_plus-is, length-all_plus, all_plus-none, plus-all_plus, all_plus-join, range-all_plus, written, room_within, piece_stays}
 use Rattle.rq_bytes.proofs.RangeSumLaws.{range-join, zip2-join}
-
--- ---- a write, as an addition
-
-added_twice : (xs ys : List ℕ) → length xs ≡ length ys → row_sum xs (row_sum xs ys) ≡ ys
-added_twice [] [] e = refl
-added_twice [] (y ∷ ys) e = absurd (omega arith)
-added_twice (x ∷ xs) [] e = absurd (omega arith)
-added_twice (x ∷ xs) (y ∷ ys) e =
-    ap (λ z. z ∷ row_sum xs (row_sum xs ys)) (sym (xor_assoc x x y) ∙ ap (λ z. bit_xor z y) (xor_self x) ∙ xor_zero_l y)
-    ∙ ap (λ zs. y ∷ zs) (added_twice xs ys (omega arith))
-
-written : (xs : List ℕ) (i n : ℕ) (ys : List ℕ) → length ys ≡ n → i + n ≤ length xs → with_range xs i ys ≡ plus xs i (row_sum (range_of xs i n) ys)
-written xs i n ys long le =
-    let old = range_of xs i n in
-    let change = row_sum old ys in
-    let old_long : length old ≡ n = length-range xs i n le in
-    let change_long : length change ≡ n = length-zip2 bit_xor old ys (old_long ∙ sym long) ∙ old_long in
-    sym (
-    sym (plus-is xs i change (omega arith))
-    ∙ ap (λ k. with_range xs i (row_sum (range_of xs i k) change)) change_long
-    ∙ ap (with_range xs i) (added_twice old ys (old_long ∙ sym long)))
 
 -- what is added to a row where it is doubled and another one added to it
 abbrev change_of : List ℕ → List ℕ → List ℕ
@@ -106,14 +85,8 @@ module _ (bytes : List ℕ) (dest src len : ℕ) (targets : List (ℕ × ℕ)) (
   length-front : (k : ℕ) → k ≤ len → length (front k) ≡ k
   length-front k le = length-range (begun k) dest k (omega (arith, length-begun k le))
 
-  abbrev Beside : ℕ × ℕ → Type 0
-  Beside target = IsRangeBeside (length bytes) dest len target.0
-
-  room : (count k : ℕ) → count ≡ length bytes → k ≤ len → HaveRoom count k targets
-  room count k same le = All-weaker Beside (λ target. target.0 + k ≤ count) (λ target b. let w = b.0 in omega arith) targets beside
-
   upto_is : (k : ℕ) → k ≤ len → upto k ≡ all_plus (begun k) (front k) 0 targets
-  upto_is k le = all_plus-is (begun k) (front k) 0 targets (room (length (begun k)) (0 + length (front k)) (length-begun k le) (omega (arith, length-front k le)))
+  upto_is k le = all_plus-is (begun k) (front k) 0 targets (room_within bytes dest len targets fits beside (length (begun k)) (0 + length (front k)) (length-begun k le) (omega (arith, length-front k le)))
 
   pub none_spread : (k : ℕ) → k ≡ 0 → bytes ≡ upto k
   none_spread k none =
@@ -130,11 +103,7 @@ module _ (bytes : List ℕ) (dest src len : ℕ) (targets : List (ℕ × ℕ)) (
 
     -- pieces that are not among the first elements of the range and of the targets
     dest_piece : (xs : List ℕ) → range_of (all_plus xs (front at) 0 targets) (dest + at) m ≡ range_of xs (dest + at) m
-    dest_piece xs =
-        let n = length-front at (omega arith) in
-        range-all_plus xs (front at) 0 targets (dest + at) m
-        (All-weaker Beside (λ target. (dest + at + m ≤ target.0 + 0) ⊎ (target.0 + 0 + length (front at) ≤ dest + at))
-        (λ target b. ⊎_elim (λ behind. inl (omega arith)) (λ before. inr (omega arith)) b.1) targets beside)
+    dest_piece xs = piece_stays bytes dest len targets fits beside xs (front at) 0 at m (omega (arith, length-front at (omega arith))) le
 
     src_piece : (xs : List ℕ) → range_of (all_plus xs (front at) 0 targets) (src + at) m ≡ range_of xs (src + at) m
     src_piece xs =
@@ -186,12 +155,10 @@ module _ (bytes : List ℕ) (dest src len : ℕ) (targets : List (ℕ × ℕ)) (
           let old = range_of now (dest + at) m in
           let n = length-piece_sum in
           next
-          ∙ ap (λ xs. with_range xs (dest + at) sum) (all_plus-is now sum at targets (room (length now) (at + length sum) long (omega (arith, n))))
+          ∙ ap (λ xs. with_range xs (dest + at) sum) (all_plus-is now sum at targets (room_within bytes dest len targets fits beside (length now) (at + length sum) long (omega (arith, n))))
           ∙ written added (dest + at) m sum n (omega (arith, long, length-all_plus now sum at targets))
           ∙ ap (λ xs. plus added (dest + at) (row_sum xs sum)) (
-          range-all_plus now sum at targets (dest + at) m
-          (All-weaker Beside (λ target. (dest + at + m ≤ target.0 + at) ⊎ (target.0 + at + length sum ≤ dest + at))
-          (λ target b. ⊎_elim (λ behind. inl (omega arith)) (λ before. inr (omega arith)) b.1) targets beside))
+          piece_stays bytes dest len targets fits beside now sum at at m (omega (arith, n)) le)
           ∙ plus-all_plus now sum at targets (dest + at) (row_sum old sum)
           ∙ ap (λ xs. all_plus xs sum at targets) (sym middle_written)
 

@@ -1,5 +1,5 @@
 -- Two ranges of a list, read and written.
-use Rattle.std.proofs.Common.{◌≡◌, ℕ, ◌+◌, ◌-◌, ◌≤◌, List, ◌++◌, length, take, drop, sym, ap, ◌∙◌, arith}
+use Rattle.std.proofs.Common.{◌≡◌, ◌⊎◌, ⊎_elim, ℕ, ◌+◌, ◌-◌, ◌≤◌, List, ◌++◌, length, take, drop, sym, ap, ◌∙◌, arith}
 use Rattle.std.proofs.Math.Seq.{take-append_seam, drop-append_seam, drop-append-add}
 use Rattle.std.proofs.lemmas.List.{append_assoc, drop-drop, length-append, length-drop, length-take-le, take-append-drop}
 use Rattle.rq_bytes.specs.Ranges.{range_of, with_range}
@@ -53,36 +53,27 @@ around xs low high n apart within =
           ∙ take-append-drop low xs);
     }
 
-module _ {X : Type 0} {xs : List X} {low high n : ℕ} (a : Around xs low high n) (us vs : List X) (u : length us ≡ n) (v : length vs ≡ n) where
+module _ {X : Type 0} {xs : List X} {low high n : ℕ} (a : Around xs low high n) where
   -- the list with others in both ranges
+  abbrev filled : List X → List X → List X
+  filled us vs = a.front ++ (us ++ (a.gap ++ (vs ++ a.back)))
+
+  grouped : (us vs : List X) → filled us vs ≡ (a.front ++ (us ++ a.gap)) ++ (vs ++ a.back)
+  grouped us vs = sym (append_assoc a.front (us ++ a.gap) (vs ++ a.back) ∙ ap (λ l. a.front ++ l) (append_assoc us a.gap (vs ++ a.back)))
+
+  set_low : (old us vs : List X) → length old ≡ n → length us ≡ n → with_range (filled old vs) low us ≡ filled us vs
+  set_low old us vs o u = with_range-middle a.front old (a.gap ++ (vs ++ a.back)) low us a.front_long (u ∙ sym o)
+
+  set_high : (us old vs : List X) → length us ≡ n → length old ≡ n → length vs ≡ n → with_range (filled us old) high vs ≡ filled us vs
+  set_high us old vs u o v =
+      let f = a.front_long in
+      let g = a.gap_long in
+      let before : length (a.front ++ (us ++ a.gap)) ≡ high = omega (arith, length-append a.front (us ++ a.gap), length-append us a.gap) in
+      ap (λ l. with_range l high vs) (grouped us old) ∙ with_range-middle (a.front ++ (us ++ a.gap)) old a.back high vs before (v ∙ sym o) ∙ sym (grouped us vs)
+
+module _ {X : Type 0} {xs : List X} {low high n : ℕ} (a : Around xs low high n) (us vs : List X) (u : length us ≡ n) (v : length vs ≡ n) where
   abbrev pub rewritten : List X
-  rewritten = a.front ++ (us ++ (a.gap ++ (vs ++ a.back)))
-
-  grouped : (ys zs : List X) → a.front ++ (ys ++ (a.gap ++ (zs ++ a.back))) ≡ (a.front ++ (ys ++ a.gap)) ++ (zs ++ a.back)
-  grouped ys zs = sym (append_assoc a.front (ys ++ a.gap) (zs ++ a.back) ∙ ap (λ l. a.front ++ l) (append_assoc ys a.gap (zs ++ a.back)))
-
-  before : (ys : List X) → length ys ≡ n → length (a.front ++ (ys ++ a.gap)) ≡ high
-  before ys y = let f = a.front_long in let g = a.gap_long in omega (arith, length-append a.front (ys ++ a.gap), length-append ys a.gap)
-
-  -- the one at `low` alone
-  pub rewritten-low : vs ≡ range_of xs high n → rewritten ≡ with_range xs low us
-  rewritten-low same =
-      let old = range_of xs high n in
-      sym (
-      ap (λ l. with_range l low us) a.is
-      ∙ with_range-middle a.front (range_of xs low n) (a.gap ++ (old ++ a.back)) low us a.front_long (u ∙ sym a.first_long)
-      ∙ ap (λ l. a.front ++ (us ++ (a.gap ++ (l ++ a.back)))) (sym same))
-
-  -- the one at `high` alone
-  pub rewritten-high : us ≡ range_of xs low n → rewritten ≡ with_range xs high vs
-  rewritten-high same =
-      let one = range_of xs low n in
-      let two = range_of xs high n in
-      sym (
-      ap (λ l. with_range l high vs) (a.is ∙ grouped one two)
-      ∙ with_range-middle (a.front ++ (one ++ a.gap)) two a.back high vs (before one a.first_long) (v ∙ sym a.second_long)
-      ∙ sym (grouped one vs)
-      ∙ ap (λ l. a.front ++ (l ++ (a.gap ++ (vs ++ a.back)))) (sym same))
+  rewritten = filled a us vs
 
   -- the one at `low` first
   pub rewritten-up : rewritten ≡ with_range (with_range xs low us) high vs
@@ -90,20 +81,17 @@ module _ {X : Type 0} {xs : List X} {low high n : ℕ} (a : Around xs low high n
       let old = range_of xs high n in
       sym (
       ap (λ l. with_range (with_range l low us) high vs) a.is
-      ∙ ap (λ l. with_range l high vs) (with_range-middle a.front (range_of xs low n) (a.gap ++ (old ++ a.back)) low us a.front_long (u ∙ sym a.first_long))
-      ∙ ap (λ l. with_range l high vs) (grouped us old)
-      ∙ with_range-middle (a.front ++ (us ++ a.gap)) old a.back high vs (before us u) (v ∙ sym a.second_long)
-      ∙ sym (grouped us vs))
+      ∙ ap (λ l. with_range l high vs) (set_low a (range_of xs low n) us old a.first_long u)
+      ∙ set_high a us old vs u a.second_long v)
 
   -- the one at `high` first
   pub rewritten-down : rewritten ≡ with_range (with_range xs high vs) low us
   rewritten-down =
-      let one = range_of xs low n in
-      let two = range_of xs high n in
+      let old = range_of xs low n in
       sym (
-      ap (λ l. with_range (with_range l high vs) low us) (a.is ∙ grouped one two)
-      ∙ ap (λ l. with_range l low us) (with_range-middle (a.front ++ (one ++ a.gap)) two a.back high vs (before one a.first_long) (v ∙ sym a.second_long) ∙ sym (grouped one vs))
-      ∙ with_range-middle a.front one (a.gap ++ (vs ++ a.back)) low us a.front_long (u ∙ sym a.first_long))
+      ap (λ l. with_range (with_range l high vs) low us) a.is
+      ∙ ap (λ l. with_range l low us) (set_high a old (range_of xs high n) vs a.first_long a.second_long v)
+      ∙ set_low a old us vs a.first_long u)
 
   pub length-rewritten : length rewritten ≡ length xs
   length-rewritten =
@@ -147,3 +135,17 @@ range-written xs i n ys long within =
     ∙ ap (take n) (drop-append_seam (take i xs) rest)
     ∙ ap (λ k. take k rest) (sym long)
     ∙ take-append_seam ys (drop (i + length ys) xs)
+
+-- a range written after another one, with what it had
+pub second_kept : {X : Type 0} (xs : List X) (i j n : ℕ) (ys : List X) → (i + n ≤ j) ⊎ (j + n ≤ i) → i + n ≤ length xs → j + n ≤ length xs → length ys ≡ n
+    → with_range (with_range xs i ys) j (range_of xs j n) ≡ with_range xs i ys
+second_kept xs i j n ys apart i_in j_in long = ⊎_elim
+    (λ le.
+    let a = around xs i j n le j_in in
+    let two = range_of xs j n in
+    sym (rewritten-up a ys two long a.second_long) ∙ sym (set_low a (range_of xs i n) ys two a.first_long long) ∙ ap (λ l. with_range l i ys) (sym a.is))
+    (λ le.
+    let a = around xs j i n le i_in in
+    let two = range_of xs j n in
+    sym (rewritten-down a two ys a.first_long long) ∙ sym (set_high a two (range_of xs i n) ys a.first_long a.second_long long) ∙ ap (λ l. with_range l i ys) (sym a.is))
+    apart

@@ -39,8 +39,8 @@ use denote.Follow.{follows, follows_both, both_by}
 use denote.FollowSlice.{heres_id, slice_of}
 use borrow.Table.Elements.{at, at_mul, cut_app, join_app}
 use Rattle.std.proofs.Common.{⊎_elim}
-use Rattle.rq_bytes.specs.Ranges.{range_of, with_range}
-use Rattle.rq_bytes.proofs.RangeFacts.{Around, around, rewritten, rewritten-low, rewritten-high, rewritten-up, rewritten-down, length-rewritten}
+use Rattle.rq_bytes.specs.Ranges.{range_of, with_range, with_ranges}
+use Rattle.rq_bytes.proofs.RangeFacts.{Around, around, rewritten, rewritten-up, rewritten-down, length-rewritten, length-range, second_kept}
 
 -- where the product fits a word, the count is zero or the size fits too
 pub uncapped : (i k : ℕ) → i * k < 2 ^ 64 → i * capped k ≡ i * k
@@ -167,30 +167,30 @@ module _ {M : Type 1} {𝓤 : Ura M} (𝓛 : Logic 𝓤) (ℓ : Lifetime) (κ : 
         use1 𝓛 (‵ ((MutSlice ℓ κ R).own_val (record { ref_ptr = (b, p); ghost_name = γs.0; now = one }) (slice_val (b, p) (length one) ∷ []))) (slice_of 𝓛 R ℓ κ b p γs.0 one r) $ move ! (1 ∷ []) $
         use1 𝓛 (‵ ((MutSlice ℓ κ R).own_val (record { ref_ptr = (b, p'); ghost_name = γs.1; now = two }) (slice_val (b, p') (length two) ∷ []))) (slice_of 𝓛 R ℓ κ b p' γs.1 two r') $ move ! (1 ∷ 0 ∷ []) $ now ! $ show ! (BothLent 𝓛 ℓ κ q b γ R one two p p' F) γs $ done !)
 
-  module _ (G : List R.Denot → List R.Denot)
-      (back : (us : List R.Denot) → length us ≡ length one → ent 𝓤 (sep 𝓤 (sem 𝓛 (cells (mem R) us b p)) (sep 𝓤 (sem 𝓛 (cells (mem R) two b p')) Rest)) (sem 𝓛 (cells (mem R) (G us) b o)))
-      (long : (us : List R.Denot) → length us ≡ length one → length (G us) ≡ length xs) where
-    put_one : (us : List R.Denot) → ent 𝓤 (sep 𝓤 (sem 𝓛 ((L (length one)).own_at us b p)) (sep 𝓤 (sem 𝓛 (fseps (row R full_share two b p' ∷ []))) Rest)) (sem 𝓛 ((L (length xs)).own_at (G us) b o))
-    unfolding fseps
-    put_one us = qed 𝓛 (‵ ((L (length one)).own_at us b p) ∷ (‵ (row R full_share two b p') ⊛ ‵ ftrue) ∷ raw Rest ∷ []) ∵ fsplit ! $ feq_l ! (λ u. move ! (1 ∷ []) $ split ! $
-        use1 𝓛 (‵ (cells (mem R) two b p')) (whole_in 𝓛 R two b p') $ keep ! (2 ∷ 0 ∷ 3 ∷ []) $
-        use3 𝓛 (‵ (cells (mem R) (G us) b o)) (back us u) $ feq_i ! ℕ (length (G us)) (length xs) (long us u) $ fjoin ! $ done !)
+    -- the second run alone is read, so that it goes back as it was
+    module _ (G : List R.Denot → List R.Denot) (kept : (us : List R.Denot) → length us ≡ length one → F us two ≡ G us) where
+      put_one : (us : List R.Denot) → ent 𝓤 (sep 𝓤 (sem 𝓛 ((L (length one)).own_at us b p)) (sep 𝓤 (sem 𝓛 (fseps (row R full_share two b p' ∷ []))) Rest)) (sem 𝓛 ((L (length xs)).own_at (G us) b o))
+      unfolding fseps
+      put_one us = qed 𝓛 (‵ ((L (length one)).own_at us b p) ∷ (‵ (row R full_share two b p') ⊛ ‵ ftrue) ∷ raw Rest ∷ []) ∵ fsplit ! $ feq_l ! (λ u. move ! (1 ∷ []) $ split ! $
+          use1 𝓛 (‵ (cells (mem R) two b p')) (whole_in 𝓛 R two b p') $ keep ! (2 ∷ 0 ∷ 3 ∷ []) $
+          use3 𝓛 (‵ (cells (mem R) (F us two) b o)) (back us two u refl) $ rewrite ! 0 (λ (l : List R.Denot). ‵ (cells (mem R) l b o)) (kept us u) refl $
+          feq_i ! ℕ (length (G us)) (length xs) (ap length (sym (kept us u)) ∙ long us two u refl) $ fjoin ! $ done !)
 
-    lends_one : Laws R → κ ⊑ R.lives → Room R (length one) → Room R (length two) → (vs : List Val)
-        → ent 𝓤 (sep 𝓤 (sem 𝓛 ((MutSlice ℓ κ R).own_val (record { ref_ptr = (b, o); ghost_name = γ; now = xs }) vs)) (A.lft κ q)) (H.⇛ (ex 𝓤 (PairLent 𝓛 ℓ κ q b γ R one two p p' G)))
-    unfolding fseps
-    lends_one laws within r r' vs = qed 𝓛 (‵ ((MutSlice ℓ κ R).own_val (record { ref_ptr = (b, o); ghost_name = γ; now = xs }) vs) ∷ ‵ (flft κ q) ∷ []) ∵ updating ! $ fsplit3 ! $ drop ! $
-        rewrite ! 0 (λ (l : List R.Denot). ‵ (fobs γ ((coded_list R.coded).code l))) (heres_id R xs) refl $ open_ref ! tt (L (length xs)) {b = b} {o = o} $ fsplit ! $ drop ! $
-        use1 𝓛 (‵ (cells (mem R) one b p) ⊛ ‵ (cells (mem R) two b p') ⊛ raw Rest) out $ split3 ! $
-        feq_i ! ℕ (length one) (length one) refl $ fjoin ! $ move ! (1 ∷ []) $ use1 𝓛 (‵ (row R full_share two b p')) (whole_out 𝓛 R two b p') $ nothing ! $ move ! (1 ∷ 0 ∷ []) $ fjoin ! $
-        move ! (3 ∷ 4 ∷ 5 ∷ 1 ∷ 0 ∷ 2 ∷ []) $ group ! 6 $
-        use1 𝓛 (later (some (λ (δ : GName). ‵ (fobs δ ((coded_list R.coded).code one)) ⊛ ‵ (fbor κ (Body (L (length one)) b p δ)) ⊛ ‵ (flft κ q) ⊛ ‵ (follows (Array R 0) (Array R 0) γ δ G) ⊛ ‵ (fbor κ (row R full_share two b p')) ⊛ ‵ ftrue)))
-        (takes_beside 𝓛 (L (length xs)) (L (length one)) G κ q b o b p γ (row R full_share two b p' ∷ []) Rest put_one ((coded_list R.coded).code xs) ((coded_list R.coded).code xs) one) $ await ! tt $ pick ! (λ δ. split3 ! $
-        use2 𝓛 (‵ ((MutSlice ℓ κ R).own_val (record { ref_ptr = (b, p); ghost_name = δ; now = one }) (slice_val (b, p) (length one) ∷ []))) (slice_of 𝓛 R ℓ κ b p δ one r) $
-        move ! (1 ∷ []) $ split3 ! $ move ! (2 ∷ []) $ split ! $ move ! (0 ∷ 2 ∷ []) $
-        use2 𝓛 (later (‵ (fhide (elements_shared R two b p' κ)) ⊛ ‵ (flft κ q))) (shares_each 𝓛 R (shared_of R) R.lives (laws.shares 𝓛) two κ ((κ, q) ∷ []) b p' within (Incl-refl κ)) $ await ! tt $ split ! $
-        pure_i ! (shr_slice_at R (record { ref_ptr = (b, p'); now = two }) (slice_val (b, p') (length two) ∷ [])) (tt, (tt, tt)) (refl, r') $ fjoin ! $
-        now ! $ show ! (PairLent 𝓛 ℓ κ q b γ R one two p p' G) δ $ keep ! (4 ∷ 0 ∷ 1 ∷ 3 ∷ []) $ done !)
+      lends_one : Laws R → κ ⊑ R.lives → Room R (length one) → Room R (length two) → (vs : List Val)
+          → ent 𝓤 (sep 𝓤 (sem 𝓛 ((MutSlice ℓ κ R).own_val (record { ref_ptr = (b, o); ghost_name = γ; now = xs }) vs)) (A.lft κ q)) (H.⇛ (ex 𝓤 (PairLent 𝓛 ℓ κ q b γ R one two p p' G)))
+      unfolding fseps
+      lends_one laws within r r' vs = qed 𝓛 (‵ ((MutSlice ℓ κ R).own_val (record { ref_ptr = (b, o); ghost_name = γ; now = xs }) vs) ∷ ‵ (flft κ q) ∷ []) ∵ updating ! $ fsplit3 ! $ drop ! $
+          rewrite ! 0 (λ (l : List R.Denot). ‵ (fobs γ ((coded_list R.coded).code l))) (heres_id R xs) refl $ open_ref ! tt (L (length xs)) {b = b} {o = o} $ fsplit ! $ drop ! $
+          use1 𝓛 (‵ (cells (mem R) one b p) ⊛ ‵ (cells (mem R) two b p') ⊛ raw Rest) out $ split3 ! $
+          feq_i ! ℕ (length one) (length one) refl $ fjoin ! $ move ! (1 ∷ []) $ use1 𝓛 (‵ (row R full_share two b p')) (whole_out 𝓛 R two b p') $ nothing ! $ move ! (1 ∷ 0 ∷ []) $ fjoin ! $
+          move ! (3 ∷ 4 ∷ 5 ∷ 1 ∷ 0 ∷ 2 ∷ []) $ group ! 6 $
+          use1 𝓛 (later (some (λ (δ : GName). ‵ (fobs δ ((coded_list R.coded).code one)) ⊛ ‵ (fbor κ (Body (L (length one)) b p δ)) ⊛ ‵ (flft κ q) ⊛ ‵ (follows (Array R 0) (Array R 0) γ δ G) ⊛ ‵ (fbor κ (row R full_share two b p')) ⊛ ‵ ftrue)))
+          (takes_beside 𝓛 (L (length xs)) (L (length one)) G κ q b o b p γ (row R full_share two b p' ∷ []) Rest put_one ((coded_list R.coded).code xs) ((coded_list R.coded).code xs) one) $ await ! tt $ pick ! (λ δ. split3 ! $
+          use2 𝓛 (‵ ((MutSlice ℓ κ R).own_val (record { ref_ptr = (b, p); ghost_name = δ; now = one }) (slice_val (b, p) (length one) ∷ []))) (slice_of 𝓛 R ℓ κ b p δ one r) $
+          move ! (1 ∷ []) $ split3 ! $ move ! (2 ∷ []) $ split ! $ move ! (0 ∷ 2 ∷ []) $
+          use2 𝓛 (later (‵ (fhide (elements_shared R two b p' κ)) ⊛ ‵ (flft κ q))) (shares_each 𝓛 R (shared_of R) R.lives (laws.shares 𝓛) two κ ((κ, q) ∷ []) b p' within (Incl-refl κ)) $ await ! tt $ split ! $
+          pure_i ! (shr_slice_at R (record { ref_ptr = (b, p'); now = two }) (slice_val (b, p') (length two) ∷ [])) (tt, (tt, tt)) (refl, r') $ fjoin ! $
+          now ! $ show ! (PairLent 𝓛 ℓ κ q b γ R one two p p' G) δ $ keep ! (4 ∷ 0 ∷ 1 ∷ 3 ∷ []) $ done !)
 
 -- ---- the loans of two ranges
 module _ {M : Type 1} {𝓤 : Ura M} (𝓛 : Logic 𝓤) (ℓ : Lifetime) (κ : Lft) (q : Share) (b o : ℕ) (γ : GName) (R : RattleType) (xs : List R.Denot) (i j n : ℕ) (i_in : i + n ≤ length xs) (j_in : j + n ≤ length xs) where
@@ -206,7 +206,7 @@ module _ {M : Type 1} {𝓤 : Ura M} (𝓛 : Logic 𝓤) (ℓ : Lifetime) (κ : 
   P = spot 𝓛 R b o
 
   abbrev F : List R.Denot → List R.Denot → List R.Denot
-  F us vs = with_range (with_range xs i us) j vs
+  F = with_ranges xs i j
 
   abbrev Slice : List Val → SProp 𝓤
   Slice vs = sep 𝓤 (sem 𝓛 ((MutSlice ℓ κ R).own_val (record { ref_ptr = (b, o); ghost_name = γ; now = xs }) vs)) (A.lft κ q)
@@ -227,14 +227,6 @@ module _ {M : Type 1} {𝓤 : Ura M} (𝓛 : Logic 𝓤) (ℓ : Lifetime) (κ : 
     long_up : (us vs : List R.Denot) → length us ≡ length one → length vs ≡ length two → length (F us vs) ≡ length xs
     long_up us vs u v = ap length (sym (rewritten-up a us vs (u ∙ a.first_long) (v ∙ a.second_long))) ∙ length-rewritten a us vs (u ∙ a.first_long) (v ∙ a.second_long)
 
-    back_first_up : (us : List R.Denot) → length us ≡ length one → ent 𝓤 (sep 𝓤 (sem 𝓛 (cells (mem R) us b (P i))) (sep 𝓤 (sem 𝓛 (cells (mem R) two b (P j))) Up)) (sem 𝓛 (cells (mem R) (with_range xs i us) b o))
-    back_first_up us u = qed 𝓛 (‵ (cells (mem R) us b (P i)) ∷ ‵ (cells (mem R) two b (P j)) ∷ raw Up ∷ []) ∵
-        use3 𝓛 (‵ (cells (mem R) (rewritten a us two (u ∙ a.first_long) a.second_long) b o)) (puts_back 𝓛 R b o a.front a.gap a.back i j n a.front_long a.gap_long us two (u ∙ a.first_long) a.second_long) $
-        rewrite ! 0 (λ (l : List R.Denot). ‵ (cells (mem R) l b o)) (rewritten-low a us two (u ∙ a.first_long) a.second_long refl) refl $ done !
-
-    long_first_up : (us : List R.Denot) → length us ≡ length one → length (with_range xs i us) ≡ length xs
-    long_first_up us u = ap length (sym (rewritten-low a us two (u ∙ a.first_long) a.second_long refl)) ∙ length-rewritten a us two (u ∙ a.first_long) a.second_long
-
   module _ (a : Around xs j i n) where
     abbrev Down : SProp 𝓤
     Down = Others 𝓛 R b o a.front a.gap a.back j i n a.front_long a.gap_long
@@ -252,14 +244,6 @@ module _ {M : Type 1} {𝓤 : Ura M} (𝓛 : Logic 𝓤) (ℓ : Lifetime) (κ : 
     long_down : (us vs : List R.Denot) → length us ≡ length one → length vs ≡ length two → length (F us vs) ≡ length xs
     long_down us vs u v = ap length (sym (rewritten-down a vs us (v ∙ a.first_long) (u ∙ a.second_long))) ∙ length-rewritten a vs us (v ∙ a.first_long) (u ∙ a.second_long)
 
-    back_first_down : (us : List R.Denot) → length us ≡ length one → ent 𝓤 (sep 𝓤 (sem 𝓛 (cells (mem R) us b (P i))) (sep 𝓤 (sem 𝓛 (cells (mem R) two b (P j))) Down)) (sem 𝓛 (cells (mem R) (with_range xs i us) b o))
-    back_first_down us u = qed 𝓛 (‵ (cells (mem R) us b (P i)) ∷ ‵ (cells (mem R) two b (P j)) ∷ raw Down ∷ []) ∵ move ! (1 ∷ 0 ∷ []) $
-        use3 𝓛 (‵ (cells (mem R) (rewritten a two us a.first_long (u ∙ a.second_long)) b o)) (puts_back 𝓛 R b o a.front a.gap a.back j i n a.front_long a.gap_long two us a.first_long (u ∙ a.second_long)) $
-        rewrite ! 0 (λ (l : List R.Denot). ‵ (cells (mem R) l b o)) (rewritten-high a two us a.first_long (u ∙ a.second_long) refl) refl $ done !
-
-    long_first_down : (us : List R.Denot) → length us ≡ length one → length (with_range xs i us) ≡ length xs
-    long_first_down us u = ap length (sym (rewritten-high a two us a.first_long (u ∙ a.second_long) refl)) ∙ length-rewritten a two us a.first_long (u ∙ a.second_long)
-
   pub lends_both : (i + n ≤ j) ⊎ (j + n ≤ i) → Room R (length one) → Room R (length two) → (vs : List Val)
       → ent 𝓤 (Slice vs) (H.⇛ (ex 𝓤 (BothLent 𝓛 ℓ κ q b γ R one two (P i) (P j) F)))
   lends_both apart r r' vs = ⊎_elim
@@ -269,7 +253,9 @@ module _ {M : Type 1} {𝓤 : Ura M} (𝓛 : Logic 𝓤) (ℓ : Lifetime) (κ : 
 
   pub lends_pair : (i + n ≤ j) ⊎ (j + n ≤ i) → Laws R → κ ⊑ R.lives → Room R (length one) → Room R (length two) → (vs : List Val)
       → ent 𝓤 (Slice vs) (H.⇛ (ex 𝓤 (PairLent 𝓛 ℓ κ q b γ R one two (P i) (P j) (with_range xs i))))
-  lends_pair apart laws within r r' vs = ⊎_elim
-      (λ le. let a = around xs i j n le j_in in lends_one 𝓛 ℓ κ q b o γ R xs one two (P i) (P j) (Up a) (out_up a) (with_range xs i) (back_first_up a) (long_first_up a) laws within r r' vs)
-      (λ le. let a = around xs j i n le i_in in lends_one 𝓛 ℓ κ q b o γ R xs one two (P i) (P j) (Down a) (out_down a) (with_range xs i) (back_first_down a) (long_first_down a) laws within r r' vs)
+  lends_pair apart laws within r r' vs =
+      let kept : (us : List R.Denot) → length us ≡ length one → F us two ≡ with_range xs i us = λ us u. second_kept xs i j n us apart i_in j_in (u ∙ length-range xs i n i_in) in
+      ⊎_elim
+      (λ le. let a = around xs i j n le j_in in lends_one 𝓛 ℓ κ q b o γ R xs one two (P i) (P j) (Up a) (out_up a) F (back_up a) (long_up a) (with_range xs i) kept laws within r r' vs)
+      (λ le. let a = around xs j i n le i_in in lends_one 𝓛 ℓ κ q b o γ R xs one two (P i) (P j) (Down a) (out_down a) F (back_down a) (long_down a) (with_range xs i) kept laws within r r' vs)
       apart

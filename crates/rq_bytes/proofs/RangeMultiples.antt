@@ -8,6 +8,8 @@ use Rattle.std.proofs.Math.Seq.{drop-cons}
 use Rattle.std.proofs.lemmas.Simd.{length-zip2}
 use Rattle.std.specs.Int.Bits.{bit_xor, xor_assoc}
 use lib.Lanes.{zip2}
+use Rattle.rq_algebra.proofs.Sums.{add_twice}
+use Rattle.rq_standard.specs.OctetField.{octets}
 use Rattle.rq_standard.specs.Octets.{octet_mul}
 use Rattle.rq_standard.specs.Rows.{row_sum, row_multiple}
 use Rattle.rq_bytes.specs.Ranges.{range_of, with_range}
@@ -59,6 +61,24 @@ plus-is xs i ys le =
     ∙ ap (λ zs. take i xs ++ zs) (
     plus-front rest ys enough
     ∙ ap (λ zs. sum ++ zs) (drop-drop n i xs ∙ ap (λ k. drop (i + k) xs) (sym (length-zip2 bit_xor (take n rest) ys old ∙ old)))))
+
+added_twice : (xs ys : List ℕ) → length xs ≡ length ys → row_sum xs (row_sum xs ys) ≡ ys
+added_twice [] [] e = refl
+added_twice [] (y ∷ ys) e = absurd (omega arith)
+added_twice (x ∷ xs) [] e = absurd (omega arith)
+added_twice (x ∷ xs) (y ∷ ys) e = ap (λ z. z ∷ row_sum xs (row_sum xs ys)) (add_twice octets x y) ∙ ap (λ zs. y ∷ zs) (added_twice xs ys (omega arith))
+
+-- any write is such an addition
+pub written : (xs : List ℕ) (i n : ℕ) (ys : List ℕ) → length ys ≡ n → i + n ≤ length xs → with_range xs i ys ≡ plus xs i (row_sum (range_of xs i n) ys)
+written xs i n ys long le =
+    let old = range_of xs i n in
+    let change = row_sum old ys in
+    let old_long : length old ≡ n = length-range xs i n le in
+    let change_long : length change ≡ n = length-zip2 bit_xor old ys (old_long ∙ sym long) ∙ old_long in
+    sym (
+    sym (plus-is xs i change (omega arith))
+    ∙ ap (λ k. with_range xs i (row_sum (range_of xs i k) change)) change_long
+    ∙ ap (with_range xs i) (added_twice old ys (old_long ∙ sym long)))
 
 -- one octet alone
 plus-one : (xs : List ℕ) (i y : ℕ) → set xs i (bit_xor (get_or xs i 0) y) ≡ plus xs i (y ∷ [])
@@ -227,8 +247,15 @@ module _ (bytes : List ℕ) (src len : ℕ) (targets : List (ℕ × ℕ)) (fits 
   abbrev Beside : ℕ × ℕ → Type 0
   Beside target = IsRangeBeside (length bytes) src len target.0
 
-  room_within : (count k : ℕ) → count ≡ length bytes → k ≤ len → HaveRoom count k targets
+  pub room_within : (count k : ℕ) → count ≡ length bytes → k ≤ len → HaveRoom count k targets
   room_within count k same le = All-weaker Beside (λ target. target.0 + k ≤ count) (λ target b. let w = b.0 in omega arith) targets beside
+
+  -- a piece of it stays where multiples of a row of its length are added to the targets
+  pub piece_stays : (xs row : List ℕ) (from at m : ℕ) → from + length row ≤ len → at + m ≤ len → range_of (all_plus xs row from targets) (src + at) m ≡ range_of xs (src + at) m
+  piece_stays xs row from at m fits_row fits_piece =
+      range-all_plus xs row from targets (src + at) m
+      (All-weaker Beside (λ target. (src + at + m ≤ target.0 + from) ⊎ (target.0 + from + length row ≤ src + at))
+      (λ target b. ⊎_elim (λ behind. inl (omega arith)) (λ before. inr (omega arith)) b.1) targets beside)
 
   -- the multiples of its first k elements
   abbrev added_upto : ℕ → List ℕ
@@ -256,8 +283,7 @@ module _ (bytes : List ℕ) (src len : ℕ) (targets : List (ℕ × ℕ)) (fits 
       let begun = all_plus bytes front 0 targets in
       let now_is : now ≡ begun = so_far ∙ upto_is at (omega arith) in
       let count : length begun ≡ length bytes = length-all_plus bytes front 0 targets in
-      let source : range_of begun (src + at) m ≡ piece = range-all_plus bytes front 0 targets (src + at) m
-      (All-weaker Beside (λ target. (src + at + m ≤ target.0 + 0) ⊎ (target.0 + 0 + length front ≤ src + at)) (λ target b. ⊎_elim (λ behind. inl (omega arith)) (λ before. inr (omega arith)) b.1) targets beside) in
+      let source : range_of begun (src + at) m ≡ piece = piece_stays bytes front 0 at m (omega arith) (omega arith) in
       next
       ∙ ap (λ xs. with_multiples_added xs (range_of xs (src + at) m) at targets) now_is
       ∙ ap (λ row. with_multiples_added begun row at targets) source

@@ -9,7 +9,7 @@ use Rattle.rq_algebra.proofs.SymbolColumns.{run_keeps_symbols}
 use Rattle.rq_standard.specs.OctetField.{octets}
 use Rattle.rq_standard.specs.Rows.{row_sum, row_multiple}
 use Rattle.rq_standard.proofs.RowSymbols.{add_symbols-rows, scale-rows}
-use Rattle.rq_bytes.specs.Ranges.{range_of, with_range, cut}
+use Rattle.rq_bytes.specs.Ranges.{range_of, with_range}
 use Rattle.rq_bytes.specs.RangeSums.{with_multiples_added, doubled_sum, with_doubled_sum, by_one, IsRangeBeside, BeginsNotInside}
 use Rattle.rq_bytes.specs.SymbolSlab.{Slab, store_of, after, after_all, Allows, symbol_in}
 use Rattle.rq_bytes.specs.Targets.{start_and_octet_in}
@@ -18,7 +18,7 @@ use Rattle.rq_bytes.proofs.Cuts.{pieces_apart}
 use Rattle.rq_bytes.proofs.Multiples.{times_one}
 use Rattle.rq_bytes.proofs.RangeDoublings.{spread_upto, length-doubled_sum}
 use Rattle.rq_bytes.proofs.RangeFacts.{length-with_range}
-use Rattle.rq_bytes.proofs.SlabFacts.{HoldsSlab, apart, range_at, length-range_at, within, one_written, size_is, are_symbols, length-after, order-after}
+use Rattle.rq_bytes.proofs.SlabFacts.{HoldsSlab, seen, apart, range_at, length-range_at, within, one_written, size_is, are_symbols, length-after, order-after}
 use Rattle.rq_bytes.proofs.SlabMultiples.{fma_of, IsTarget, AreTargets, all_written, after_all-none, after_all-first}
 use Rattle.rq_bytes.proofs.SlabSums.{IsSource, AreSources, start_in, with_symbol, scaled_and_added}
 
@@ -129,8 +129,7 @@ module _ {bytes : List ℕ} {count size : ℕ} {order : Option (List ℕ)} {slab
 
     pub all_spread : All (λ x. x < 256) bytes → (start src_start : ℕ) (starts old new items : List ℕ) → start ≡ start_in slab dest → src_start ≡ start_in slab src
         → starts ≡ map (start_in slab) targets → old ≡ bytes → items ≡ new → new ≡ spread_upto old start src_start (map by_one starts) size
-        → ◌≡◌ {A = Slab} (record { values = cut count size items; symbol_size = size; order = order })
-        (after_all (MulAssign dest 2 ∷ AddAssign dest src ∷ map (λ t. AddAssign t dest) targets) slab)
+        → seen count size order items ≡ after_all (MulAssign dest 2 ∷ AddAssign dest src ∷ map (λ t. AddAssign t dest) targets) slab
     all_spread small start src_start starts old new items e f same_starts same kept is_new =
         let adds = map (λ t. AddAssign t dest) targets in
         let row = range_of middle (start_in slab dest) size in
@@ -141,7 +140,7 @@ module _ {bytes : List ℕ} {count size : ℕ} {order : Option (List ℕ)} {slab
         let all : AreTargets begun dest (map added_once targets) = All-map (IsTarget begun dest) added_once targets (
         All-weaker (IsSource slab dest) (λ t. IsTarget begun dest (added_once t)) (λ t s. (omega (arith, s.0), λ h. s.1 (sym h), omega arith)) targets others) in
         let done = all_written dest row middle_holds (map added_once targets) to_begun (range_at middle_holds (meant_at slab.order dest) to_begun) all in
-        ap (λ (xs : List ℕ). record { values = cut count size xs; symbol_size = size; order = order }) (
+        ap (seen count size order) (
         kept
         ∙ is_new
         ∙ ap (λ xs. spread_upto xs start src_start (map by_one starts) size) same

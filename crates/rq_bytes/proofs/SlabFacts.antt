@@ -13,6 +13,7 @@ use Rattle.rq_standard.proofs.PlainCut.{piece_within}
 use Rattle.rq_bytes.specs.Ranges.{range_of, with_range, cut, joined_pieces}
 use Rattle.rq_bytes.proofs.RangeFacts.{length-range, length-with_range}
 use Rattle.rq_bytes.specs.SymbolSlab.{Slab, among_zeros, after, symbols_in, same_slab, HasPlace}
+use Rattle.rq_bytes.specs.SlabLends.{with_octets_from}
 use Rattle.rq_bytes.specs.contracts.symbol_slab.SymbolSlab.{the_view, the_invariant}
 use Rattle.rq_bytes.specs.declared.symbol_slab.SymbolSlab.TheInside.{Inside}
 use Rattle.std.specs.Option.{option_map, option_eq, ForSome}
@@ -23,9 +24,12 @@ use Rattle.rq_bytes.proofs.Cuts.{cut-join, cut-replicate, refilled, cut-append, 
 abbrev pub ranges_exchanged : List ℕ → ℕ → ℕ → ℕ → List ℕ
 ranges_exchanged xs i j len = with_range (with_range xs i (range_of xs j len)) j (range_of xs i len)
 
--- the buffer `bytes` of `count` symbols of `size` octets, and what callers see of it
+-- what callers see of the buffer `bytes` of `count` symbols of `size` octets
+abbrev pub seen : ℕ → ℕ → Option (List ℕ) → List ℕ → Slab
+seen count size order bytes = record { values = cut count size bytes; symbol_size = size; order = order }
+
 pub record HoldsSlab (bytes : List ℕ) (count size : ℕ) (order : Option (List ℕ)) (slab : Slab) : Type 0 where
-  pub view : ◌≡◌ {A = Slab} (record { values = cut count size bytes; symbol_size = size; order = order }) slab
+  pub view : seen count size order bytes ≡ slab
   pub long : length bytes ≡ count * size
 
 pub holds_slab : (inside : Inside) (slab : Slab) → the_view inside ≡ slab → the_invariant inside
@@ -92,8 +96,7 @@ module _ {bytes : List ℕ} {count size : ℕ} {order : Option (List ℕ)} {slab
 
   -- what callers see after a write of any octets from one symbol on, in a buffer that keeps its length
   pub octets_written : (p a all : ℕ) (ws : List ℕ) → p < length slab.values → a ≡ p * slab.symbol_size → all ≡ length bytes
-      → ◌≡◌ {A = Slab} (record { values = cut count size (refilled all bytes a ws); symbol_size = size; order = order })
-      (record slab { values = cut (length slab.values) slab.symbol_size (with_range (joined_pieces slab.values) (p * slab.symbol_size) ws) })
+      → seen count size order (refilled all bytes a ws) ≡ with_octets_from slab p ws
   octets_written p a all ws lt e whole =
       ap (λ (v : List (List ℕ)). record { values = v; symbol_size = size; order = order }) (
       ap (λ n. cut count size (refilled n bytes a ws)) (whole ∙ is.long)
@@ -106,8 +109,7 @@ module _ {bytes : List ℕ} {count size : ℕ} {order : Option (List ℕ)} {slab
 
   -- and where they are as many as a symbol has
   pub symbol_written : (p : ℕ) (ws : List ℕ) → p < length slab.values → length ws ≡ slab.symbol_size
-      → ◌≡◌ {A = Slab} (record slab { values = cut (length slab.values) slab.symbol_size (with_range (joined_pieces slab.values) (p * slab.symbol_size) ws) })
-      (record slab { values = set slab.values p ws })
+      → with_octets_from slab p ws ≡ record slab { values = set slab.values p ws }
   symbol_written p ws lt long =
       let count_is_there = count_is in
       ap (λ (v : List (List ℕ)). record slab { values = v }) (
@@ -120,8 +122,7 @@ module _ {bytes : List ℕ} {count size : ℕ} {order : Option (List ℕ)} {slab
   -- what callers see after a write of several symbols' octets
   pub block_written : (start k a : ℕ) (old new items source : List ℕ) → start + k ≤ length slab.values → a ≡ start * slab.symbol_size → length source ≡ k * slab.symbol_size
       → old ≡ bytes → items ≡ new → new ≡ with_range old a source
-      → ◌≡◌ {A = Slab} (record { values = cut count size items; symbol_size = size; order = order })
-      (record slab { values = with_range slab.values start (cut k slab.symbol_size source) })
+      → seen count size order items ≡ record slab { values = with_range slab.values start (cut k slab.symbol_size source) }
   block_written start k a old new items source fits e whole same kept is_new =
       let count_is_there = count_is in
       ap (λ (v : List (List ℕ)). record { values = v; symbol_size = size; order = order }) (
@@ -132,8 +133,7 @@ module _ {bytes : List ℕ} {count size : ℕ} {order : Option (List ℕ)} {slab
       ∙ ap (λ (v : Slab). record v { values = with_range slab.values start (cut k slab.symbol_size source) }) is.view
 
   -- what callers see after a symbol of zeros behind the others
-  pub zeros_behind : ◌≡◌ {A = Slab} (record { values = cut (count + 1) size (bytes ++ replicate size 0); symbol_size = size; order = order })
-      (record slab { values = slab.values ++ replicate slab.symbol_size 0 ∷ [] })
+  pub zeros_behind : seen (count + 1) size order (bytes ++ replicate size 0) ≡ record slab { values = slab.values ++ replicate slab.symbol_size 0 ∷ [] }
   zeros_behind =
       ap (λ (v : List (List ℕ)). record { values = v; symbol_size = size; order = order }) (
       ap (λ n. cut n size (bytes ++ replicate size 0)) (add-one count)
@@ -142,7 +142,7 @@ module _ {bytes : List ℕ} {count size : ℕ} {order : Option (List ℕ)} {slab
 
   -- what callers see after an exchange of two symbols' octets
   pub exchanged : (p q : ℕ) (items : List ℕ) → p < length slab.values → q < length slab.values → items ≡ ranges_exchanged bytes (p * size) (q * size) size
-      → ◌≡◌ {A = Slab} (record { values = cut count size items; symbol_size = size; order = order }) (record slab { values = swap slab.values p q })
+      → seen count size order items ≡ record slab { values = swap slab.values p q }
   exchanged p q items first second is_new =
       let count_is_there = count_is in
       let one = range_of bytes (p * size) size in
@@ -166,7 +166,7 @@ module _ {bytes : List ℕ} {count size : ℕ} {order : Option (List ℕ)} {slab
   -- what callers see after a write of the octets of one symbol
   pub one_written : (p a : ℕ) (old new items ws : List ℕ) → p < length slab.values → a ≡ p * slab.symbol_size → length ws ≡ size
       → old ≡ bytes → items ≡ new → new ≡ with_range old a ws
-      → ◌≡◌ {A = Slab} (record { values = cut count size items; symbol_size = size; order = order }) (record slab { values = set slab.values p ws })
+      → seen count size order items ≡ record slab { values = set slab.values p ws }
   one_written p a old new items ws lt e long same kept is_new =
       let count_is_there = count_is in
       ap (λ (v : List (List ℕ)). record { values = v; symbol_size = size; order = order }) (

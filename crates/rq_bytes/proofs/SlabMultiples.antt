@@ -9,7 +9,7 @@ use Rattle.rq_algebra.specs.Symbols.{add_symbols}
 use Rattle.rq_standard.specs.OctetField.{octets}
 use Rattle.rq_standard.specs.Rows.{row_sum, row_multiple}
 use Rattle.rq_standard.proofs.RowSymbols.{add_symbols-rows, scale-rows}
-use Rattle.rq_bytes.specs.Ranges.{range_of, with_range, cut}
+use Rattle.rq_bytes.specs.Ranges.{range_of, with_range}
 use Rattle.rq_bytes.specs.RangeSums.{with_row_added, with_multiples_added, IsRangeBeside}
 use Rattle.rq_bytes.specs.SymbolSlab.{Slab, after, after_all, Allows, symbol_in}
 use Rattle.rq_bytes.specs.Targets.{start_and_octet, start_and_octet_in}
@@ -18,7 +18,7 @@ use Rattle.rq_bytes.specs.declared.range_multiples.Target.{Target}
 use Rattle.rq_bytes.specs.declared.symbol_slab.multiples.Multiple.{Multiple}
 use Rattle.rq_bytes.specs.declared.symbol_slab.SymbolSlab.TheInside.{Inside}
 use Rattle.rq_bytes.proofs.RangeMultiples.{length-multiple, length-row_added}
-use Rattle.rq_bytes.proofs.SlabFacts.{HoldsSlab, apart, range_at, length-range_at, within, one_written, meant_below, length-after}
+use Rattle.rq_bytes.proofs.SlabFacts.{HoldsSlab, seen, apart, range_at, length-range_at, within, one_written, meant_below, length-after}
 
 abbrev pub fma_of : ℕ → Multiple → Operation
 fma_of src m = Fma m.dest src m.scalar
@@ -128,10 +128,10 @@ module _ {bytes : List ℕ} {count size : ℕ} {order : Option (List ℕ)} {slab
   -- what callers see once the multiples are added
   pub all_multiples : (pairs : List (ℕ × ℕ)) (start : ℕ) (old new items : List ℕ) → start ≡ begin → pairs ≡ map (start_and_octet_in slab) multiples → old ≡ bytes → items ≡ new
       → new ≡ with_multiples_added old (range_of old start size) 0 pairs
-      → ◌≡◌ {A = Slab} (record { values = cut count size items; symbol_size = size; order = order }) (after_all (map (fma_of src) multiples) slab)
+      → seen count size order items ≡ after_all (map (fma_of src) multiples) slab
   all_multiples pairs start old new items e same_pairs same kept is_new =
       let row = symbol_in slab src in
-      ap (λ (xs : List ℕ). record { values = cut count size xs; symbol_size = size; order = order }) (
+      ap (seen count size order) (
       kept
       ∙ is_new
       ∙ ap (λ xs. with_multiples_added xs (range_of xs start size) 0 pairs) same

@@ -9,11 +9,11 @@ use Rattle.rq_algebra.proofs.SymbolSums.{length-add_symbols}
 use Rattle.rq_standard.specs.OctetField.{octets}
 use Rattle.rq_standard.specs.Rows.{row_sum}
 use Rattle.rq_standard.proofs.RowSymbols.{add_symbols-rows}
-use Rattle.rq_bytes.specs.Ranges.{range_of, with_range, cut}
+use Rattle.rq_bytes.specs.Ranges.{range_of, with_range}
 use Rattle.rq_bytes.specs.RangeSums.{with_ranges_added, sum_of_ranges, IsRangeBeside}
 use Rattle.rq_bytes.specs.SymbolSlab.{Slab, store_of, after, after_all, HasPlace, Allows, symbol_in, with_symbols_added}
 use Rattle.rq_bytes.proofs.RangeSumLaws.{summed, length-summed}
-use Rattle.rq_bytes.proofs.SlabFacts.{HoldsSlab, apart, range_at, length-range_at, size_is, within, one_written, meant_below, length-after, order-after}
+use Rattle.rq_bytes.proofs.SlabFacts.{HoldsSlab, seen, apart, range_at, length-range_at, size_is, within, one_written, meant_below, length-after, order-after}
 use Rattle.rq_bytes.specs.contracts.symbol_slab.SymbolSlab.{the_view, the_invariant}
 use Rattle.rq_bytes.specs.declared.symbol_slab.SymbolSlab.TheInside.{Inside}
 
@@ -178,7 +178,7 @@ module _ {bytes : List ℕ} {count size : ℕ} {order : Option (List ℕ)} {slab
     -- what callers see once the sum is written
     pub all_added : (start : ℕ) (starts old new items : List ℕ) → start ≡ start_in slab dest → starts ≡ map (start_in slab) sources → old ≡ bytes → items ≡ new
         → new ≡ with_range old start (sum_of_ranges old start starts 0 size)
-        → ◌≡◌ {A = Slab} (record { values = cut count size items; symbol_size = size; order = order }) (after_all (map (λ src. AddAssign dest src) sources) slab)
+        → seen count size order items ≡ after_all (map (λ src. AddAssign dest src) sources) slab
     all_added start starts old new items e same_starts same kept is_new =
         let d = meant_at slab.order dest in
         let x = symbol_in slab dest in

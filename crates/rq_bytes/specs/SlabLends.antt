@@ -6,13 +6,20 @@ use Rattle.rq_bytes.specs.Ranges.{with_range, cut, joined_pieces}
 use Rattle.rq_bytes.specs.SymbolSlab.{Slab}
 use Rattle.rq_bytes.specs.contracts.symbol_slab.SymbolSlab.{the_row}
 
--- the slab with these octets written from the symbol on that a place means
+-- the slab with these octets written from symbol p on
+abbrev pub with_octets_from : Slab → ℕ → List ℕ → Slab
+with_octets_from slab p octets =
+    record slab { values = cut (length slab.values) slab.symbol_size (with_range (joined_pieces slab.values) (p * slab.symbol_size) octets) }
+
+-- and from the symbol on that a place means
 abbrev pub with_octets : Slab → ℕ → List ℕ → Slab
-with_octets slab i octets = record slab { values = cut (length slab.values) slab.symbol_size (with_range (joined_pieces slab.values) (meant_at slab.order i * slab.symbol_size) octets) }
+with_octets slab i octets = with_octets_from slab (meant_at slab.order i) octets
 
 -- as many octets as a symbol has are the symbol that the place then means, and no other symbol changes
 abbrev pub IsSymbolWrite : Slab → ℕ → Type 0
-IsSymbolWrite slab i = (octets : List ℕ) → length octets ≡ slab.symbol_size → with_octets slab i octets ≡ record slab { values = slice_set slab.values (meant_at slab.order i) octets }
+IsSymbolWrite slab i =
+    (octets : List ℕ) → length octets ≡ slab.symbol_size
+    → with_octets slab i octets ≡ record slab { values = slice_set slab.values (meant_at slab.order i) octets }
 
 -- the slab ends with the last octets behind r written at place i
 abbrev pub LendsSymbol : MutBor Slab → ℕ → MutBor (List ℕ) → Fml

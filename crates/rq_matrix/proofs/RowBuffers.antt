@@ -10,24 +10,11 @@ use Rattle.std.specs.List.{copy_within}
 use Rattle.rq_standard.proofs.PlainCut.{piece_within}
 use Rattle.rq_bytes.specs.Ranges.{range_of, with_range, cut, joined_pieces}
 use Rattle.rq_bytes.proofs.Cuts.{length-cut, get_or-cut, cut-append, cut-join, cut-with_range, joined-cut, refilled, cut-refilled}
-use Rattle.rq_bytes.proofs.RangeFacts.{around, rewritten-low, rewritten-high, rewritten-up, rewritten-down, length-range, length-with_range}
+use Rattle.rq_bytes.proofs.RangeFacts.{length-range, length-with_range}
 use Rattle.rq_matrix.specs.BitRows.{same_rows}
 use Rattle.rq_matrix.specs.RowLends.{with_words, IsRowWrite}
 use Rattle.rq_matrix.specs.contracts.bit_rows.BitRows.{the_view, the_invariant}
 use Rattle.rq_matrix.specs.declared.bit_rows.BitRows.TheInside.{Inside}
-
--- a range written after another one, with what it had
-pub second_kept : (xs : List ℕ) (i j n : ℕ) (ys : List ℕ) → (i + n ≤ j) ⊎ (j + n ≤ i) → i + n ≤ length xs → j + n ≤ length xs → length ys ≡ n
-    → with_range (with_range xs i ys) j (range_of xs j n) ≡ with_range xs i ys
-second_kept xs i j n ys apart i_in j_in long =
-    ⊎_elim
-    (λ (le : i + n ≤ j).
-    let a = around xs i j n le j_in in
-    sym (rewritten-up a ys (range_of xs j n) long a.second_long) ∙ rewritten-low a ys (range_of xs j n) long a.second_long refl)
-    (λ (le : j + n ≤ i).
-    let a = around xs j i n le i_in in
-    sym (rewritten-down a (range_of xs j n) ys a.first_long long) ∙ rewritten-high a (range_of xs j n) ys a.first_long long refl)
-    apart
 
 -- the buffer `words` of `count` rows of `size` words, and what callers see of it
 pub record HoldsRows (words : List ℕ) (count size : ℕ) (rows : List (List ℕ)) : Type 0 where

@@ -5,7 +5,7 @@ use Rattle.std.proofs.lemmas.Simd.{length-zip2}
 use Rattle.rq_bytes.specs.Ranges.{range_of, with_range}
 use Rattle.rq_bytes.proofs.RangeFacts.{length-range}
 use Rattle.rq_standard.specs.Rows.{row_sum}
-use Rattle.rq_matrix.proofs.RowBuffers.{second_kept}
+use Rattle.rq_bytes.proofs.RangeFacts.{second_kept}
 use Rattle.rq_matrix.proofs.bit_rows.add_range.Goals as goal
 
 pub returns : goal.returns
