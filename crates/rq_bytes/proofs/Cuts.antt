@@ -142,7 +142,7 @@ abbrev pub refilled : {X : Type 0} → ℕ → List X → ℕ → List X → Lis
 refilled all xs i ys = let zs = take i xs ++ (ys ++ drop (length ys) (drop i xs)) in take all (zs ++ drop (length zs) xs)
 
 -- the pieces end where the list is cut
-cut-take : {X : Type 0} (n s : ℕ) (xs : List X) → cut n s (take (n * s) xs) ≡ cut n s xs
+pub cut-take : {X : Type 0} (n s : ℕ) (xs : List X) → cut n s (take (n * s) xs) ≡ cut n s xs
 cut-take zero s xs = refl
 cut-take (suc n) s xs =
     let more : suc n * s ≡ s + n * s = omega arith in

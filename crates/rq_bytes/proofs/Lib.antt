@@ -7,6 +7,7 @@ pub mod HalfTables
 pub mod Halves
 pub mod Multiples
 pub mod PackedRows
+pub mod Pieces
 pub mod PlaneFacts
 pub mod ProductSteps
 pub mod RangeDoublings

@@ -1,28 +1,23 @@
 -- A slab's buffer and the symbols that callers see.
 use Rattle.std.proofs.Common.{length-set, ◌&&◌, ◌≡◌, ◌⊎◌, inl, inr, ⊎_elim, Global, ℕ, ◌+◌, ◌-◌, ◌*◌, ◌^◌, ◌<◌, ◌≤◌, List, [], ◌∷◌, ◌++◌, Vec, length, take, drop, replicate, append_assoc, set, get_or, All, Option, None, Some, refl, sym, ap, ◌∙◌, arith, subst, add-one}
 use Rattle.std.specs.Prelude.{◌==◌}
-use Rattle.std.proofs.lemmas.List.{length-append, length-replicate, length-take-le, length-drop, length-map, get_or-map, get_or_read, take_all}
-use Rattle.std.proofs.lemmas.List.Edits.{swap_is}
+use Rattle.std.proofs.lemmas.List.{length-append, length-replicate, length-map, get_or-map, get_or_read, take_all}
 use Rattle.std.specs.List.{swap}
 use Rattle.std.proofs.Math.Nat.{mul-le-mul_right}
 use Rattle.rq_algebra.specs.Operations.{Operation, AddAssign, MulAssign, Fma, Reorder, step, values_in, meant_at, order_after, IsPlace, IsOrder}
 use Rattle.rq_algebra.specs.Symbols.{symbols, AreSymbols}
 use Rattle.std.proofs.lemmas.List.Elements.{All-take, All-drop}
 use Rattle.rq_standard.specs.OctetField.{octets}
-use Rattle.rq_standard.proofs.PlainCut.{piece_within}
-use Rattle.rq_bytes.specs.Ranges.{range_of, with_range, cut, joined_pieces}
-use Rattle.rq_bytes.proofs.RangeFacts.{length-range, length-with_range}
+use Rattle.rq_bytes.specs.Ranges.{range_of, with_range, ranges_exchanged, cut, joined_pieces}
+use Rattle.rq_bytes.proofs.Pieces as Pieces
+use Rattle.rq_bytes.proofs.Pieces.{HoldsPieces, piece_at, length-piece, piece_written, written_is, refilled_is}
 use Rattle.rq_bytes.specs.SymbolSlab.{Slab, among_zeros, after, symbols_in, same_slab, HasPlace}
 use Rattle.rq_bytes.specs.SlabLends.{with_octets_from}
 use Rattle.rq_bytes.specs.contracts.symbol_slab.SymbolSlab.{the_view, the_invariant}
 use Rattle.rq_bytes.specs.declared.symbol_slab.SymbolSlab.TheInside.{Inside}
 use Rattle.std.specs.Option.{option_map, option_eq, ForSome}
 use Rattle.std.specs.Cmp.Lexicographic.{pointwise}
-use Rattle.rq_bytes.proofs.Cuts.{cut-join, cut-replicate, refilled, cut-append, cut-refilled, joined-cut, length-cut, get_or-cut, cut-with_range, cut-with_ranges, pieces_apart}
-
--- two ranges exchanged
-abbrev pub ranges_exchanged : List ℕ → ℕ → ℕ → ℕ → List ℕ
-ranges_exchanged xs i j len = with_range (with_range xs i (range_of xs j len)) j (range_of xs i len)
+use Rattle.rq_bytes.proofs.Cuts.{cut-join, cut-replicate, refilled, cut-append, joined-cut, length-cut, cut-with_ranges, pieces_apart}
 
 -- what callers see of the buffer `bytes` of `count` symbols of `size` octets
 abbrev pub seen : ℕ → ℕ → Option (List ℕ) → List ℕ → Slab
@@ -37,8 +32,11 @@ pub holds_slab : (inside : Inside) (slab : Slab) → the_view inside ≡ slab �
 holds_slab inside slab view invariant = record { view = view; long = sym inside.data.ok.0 ∙ invariant.0 }
 
 module _ {bytes : List ℕ} {count size : ℕ} {order : Option (List ℕ)} {slab : Slab} (is : HoldsSlab bytes count size order slab) where
+  held : HoldsPieces bytes count size slab.values
+  held = record { view = ap (λ (v : Slab). v.values) is.view; long = is.long }
+
   pub count_is : count ≡ length slab.values
-  count_is = sym (length-cut count size bytes) ∙ ap (λ (v : Slab). length v.values) is.view
+  count_is = Pieces.count_is held
 
   pub size_is : size ≡ slab.symbol_size
   size_is = ap (λ (v : Slab). v.symbol_size) is.view
@@ -48,17 +46,10 @@ module _ {bytes : List ℕ} {count size : ℕ} {order : Option (List ℕ)} {slab
 
   -- the octets of one symbol
   pub range_at : (p : ℕ) → p < length slab.values → range_of bytes (p * slab.symbol_size) size ≡ get_or slab.values p []
-  range_at p lt =
-      let count_is_there = count_is in
-      ap (λ s. range_of bytes (p * s) size) (sym size_is)
-      ∙ sym (get_or-cut count size p bytes (omega arith) is.long)
-      ∙ ap (λ (v : Slab). get_or v.values p []) is.view
+  range_at p lt = ap (λ s. range_of bytes (p * s) size) (sym size_is) ∙ piece_at held p lt
 
   pub length-range_at : (p : ℕ) → p < length slab.values → length (get_or slab.values p []) ≡ size
-  length-range_at p lt =
-      let count_is_there = count_is in
-      ap length (sym (range_at p lt))
-      ∙ length-take-le size (drop (p * slab.symbol_size) bytes) (omega (arith, length-drop (p * slab.symbol_size) bytes, piece_within p count size (omega arith), is.long, ap (λ s. p * s) size_is))
+  length-range_at p lt = length-piece held p lt
 
   -- the values are symbols
   pub are_symbols : All (λ x. x < 256) bytes → AreSymbols octets slab.symbol_size count slab.values
@@ -74,7 +65,7 @@ module _ {bytes : List ℕ} {count size : ℕ} {order : Option (List ℕ)} {slab
 
   -- where a symbol stands
   pub within : (p : ℕ) → p < length slab.values → p * slab.symbol_size + size ≤ length bytes
-  within p lt = let count_is_there = count_is in omega (arith, piece_within p count size (omega arith), is.long, ap (λ s. p * s) size_is)
+  within p lt = omega (arith, Pieces.within held p lt, ap (λ s. p * s) size_is)
 
   pub within_slice : (p a : ℕ) (now : List ℕ) → p < length slab.values → a ≡ p * slab.symbol_size → now ≡ bytes → a + size ≤ length now
   within_slice p a now lt e same = omega (arith, within p lt, ap length same)
@@ -92,32 +83,23 @@ module _ {bytes : List ℕ} {count size : ℕ} {order : Option (List ℕ)} {slab
 
   -- the buffer again, of what callers see
   pub joined_is : joined_pieces slab.values ≡ bytes
-  joined_is = sym (ap (λ (v : Slab). joined_pieces v.values) is.view) ∙ joined-cut count size bytes is.long
+  joined_is = Pieces.joined_is held
 
   -- what callers see after a write of any octets from one symbol on, in a buffer that keeps its length
   pub octets_written : (p a all : ℕ) (ws : List ℕ) → p < length slab.values → a ≡ p * slab.symbol_size → all ≡ length bytes
       → seen count size order (refilled all bytes a ws) ≡ with_octets_from slab p ws
   octets_written p a all ws lt e whole =
-      ap (λ (v : List (List ℕ)). record { values = v; symbol_size = size; order = order }) (
-      ap (λ n. cut count size (refilled n bytes a ws)) (whole ∙ is.long)
-      ∙ cut-refilled count size a bytes ws (omega (arith, within p lt)) is.long
-      ∙ ap (λ xs. cut count size (with_range xs a ws)) (sym joined_is)
-      ∙ ap (λ k. cut count size (with_range (joined_pieces slab.values) k ws)) e
-      ∙ ap (λ n. cut n size (with_range (joined_pieces slab.values) (p * slab.symbol_size) ws)) count_is
-      ∙ ap (λ s. cut (length slab.values) s (with_range (joined_pieces slab.values) (p * slab.symbol_size) ws)) size_is)
-      ∙ ap (λ (v : Slab). record v { values = cut (length slab.values) slab.symbol_size (with_range (joined_pieces slab.values) (p * slab.symbol_size) ws) }) is.view
+      ap (λ k. seen count size order (refilled all bytes k ws)) (e ∙ ap (λ s. p * s) (sym size_is))
+      ∙ ap (λ (v : List (List ℕ)). record { values = v; symbol_size = size; order = order }) (
+      refilled_is held p all ws lt whole ∙ ap (λ s. cut (length slab.values) s (with_range (joined_pieces slab.values) (p * s) ws)) size_is)
+      ∙ ap (λ (v : Slab). record v { values = (with_octets_from slab p ws).values }) is.view
 
   -- and where they are as many as a symbol has
   pub symbol_written : (p : ℕ) (ws : List ℕ) → p < length slab.values → length ws ≡ slab.symbol_size
       → with_octets_from slab p ws ≡ record slab { values = set slab.values p ws }
   symbol_written p ws lt long =
-      let count_is_there = count_is in
-      ap (λ (v : List (List ℕ)). record slab { values = v }) (
-      ap (λ n. cut n slab.symbol_size (with_range (joined_pieces slab.values) (p * slab.symbol_size) ws)) (sym count_is)
-      ∙ ap (λ xs. cut count slab.symbol_size (with_range xs (p * slab.symbol_size) ws)) joined_is
-      ∙ ap (λ s. cut count s (with_range bytes (p * s) ws)) (sym size_is)
-      ∙ cut-with_range count size p bytes ws (omega arith) (long ∙ sym size_is) is.long
-      ∙ ap (λ (v : Slab). set v.values p ws) is.view)
+      ap (λ s. record slab { values = cut (length slab.values) s (with_range (joined_pieces slab.values) (p * s) ws) }) (sym size_is)
+      ∙ ap (λ (v : List (List ℕ)). record slab { values = v }) (sym (written_is held p ws) ∙ (piece_written held p ws lt (long ∙ sym size_is)).view)
 
   -- what callers see after a write of several symbols' octets
   pub block_written : (start k a : ℕ) (old new items source : List ℕ) → start + k ≤ length slab.values → a ≡ start * slab.symbol_size → length source ≡ k * slab.symbol_size
@@ -144,35 +126,18 @@ module _ {bytes : List ℕ} {count size : ℕ} {order : Option (List ℕ)} {slab
   pub exchanged : (p q : ℕ) (items : List ℕ) → p < length slab.values → q < length slab.values → items ≡ ranges_exchanged bytes (p * size) (q * size) size
       → seen count size order items ≡ record slab { values = swap slab.values p q }
   exchanged p q items first second is_new =
-      let count_is_there = count_is in
-      let one = range_of bytes (p * size) size in
-      let other = range_of bytes (q * size) size in
-      let values = cut count size bytes in
-      let within_p : p * size + size ≤ length bytes = omega (arith, piece_within p count size (omega arith), is.long) in
-      let within_q : q * size + size ≤ length bytes = omega (arith, piece_within q count size (omega arith), is.long) in
-      let one_long : length one ≡ size = length-range bytes (p * size) size within_p in
-      let other_long : length other ≡ size = length-range bytes (q * size) size within_q in
-      let written = with_range bytes (p * size) other in
-      let written_long : length written ≡ count * size = length-with_range bytes (p * size) other (omega arith) ∙ is.long in
-      ap (λ (v : List (List ℕ)). record { values = v; symbol_size = size; order = order }) (
-      ap (cut count size) is_new
-      ∙ cut-with_range count size q written one (omega arith) one_long written_long
-      ∙ ap (λ v. set v q one) (cut-with_range count size p bytes other (omega arith) other_long is.long)
-      ∙ ap (λ x. set (set values p x) q one) (sym (get_or-cut count size q bytes (omega arith) is.long))
-      ∙ ap (λ x. set (set values p (get_or values q [])) q x) (sym (get_or-cut count size p bytes (omega arith) is.long))
-      ∙ swap_is values p q [] (omega (arith, length-cut count size bytes)) (omega (arith, length-cut count size bytes)))
-      ∙ ap (λ (v : Slab). record v { values = swap v.values p q }) is.view
+      ap (seen count size order) is_new
+      ∙ ap (λ (v : List (List ℕ)). record { values = v; symbol_size = size; order = order }) (Pieces.exchanged held p q first second)
+      ∙ ap (λ (v : Slab). record v { values = swap slab.values p q }) is.view
 
   -- what callers see after a write of the octets of one symbol
   pub one_written : (p a : ℕ) (old new items ws : List ℕ) → p < length slab.values → a ≡ p * slab.symbol_size → length ws ≡ size
       → old ≡ bytes → items ≡ new → new ≡ with_range old a ws
       → seen count size order items ≡ record slab { values = set slab.values p ws }
   one_written p a old new items ws lt e long same kept is_new =
-      let count_is_there = count_is in
-      ap (λ (v : List (List ℕ)). record { values = v; symbol_size = size; order = order }) (
-      ap (cut count size) (kept ∙ is_new ∙ ap (λ xs. with_range xs a ws) same ∙ ap (λ i. with_range bytes i ws) (e ∙ ap (λ s. p * s) (sym size_is)))
-      ∙ cut-with_range count size p bytes ws (omega arith) long is.long)
-      ∙ ap (λ (v : Slab). record v { values = set v.values p ws }) is.view
+      ap (seen count size order) (kept ∙ is_new ∙ ap (λ xs. with_range xs a ws) same ∙ ap (λ i. with_range bytes i ws) (e ∙ ap (λ s. p * s) (sym size_is)))
+      ∙ ap (λ (v : List (List ℕ)). record { values = v; symbol_size = size; order = order }) (piece_written held p ws lt long).view
+      ∙ ap (λ (v : Slab). record v { values = set slab.values p ws }) is.view
 
   pub block_within : (start k : ℕ) → start + k ≤ length slab.values → start * slab.symbol_size + k * slab.symbol_size ≤ length bytes
   block_within start k fits =

@@ -1,6 +1,6 @@
 //! Two places of a list at once, and a rounded quotient.
 ghost use Rattle.std.specs.Prelude.{◌≡◌, ◌≢◌, ◌⊎◌, ◌+◌, ◌-◌, ◌/◌, ◌<◌, ◌≤◌, length, slice_set, slice_index_or, vec_len};
-ghost use Rattle.rq_bytes.specs.Ranges.{range_of, with_ranges};
+ghost use Rattle.rq_bytes.specs.Ranges.{range_of, with_ranges, ranges_exchanged};
 ghost use Rattle.std.specs.Borrow.{sem, LendsBoth, Array};
 ghost use Rattle.std.specs.Vec.{vec_follows_range};
 
@@ -51,7 +51,7 @@ pub fn swap_ranges<T>(slice: &mut [T], i: usize, j: usize, len: usize)
     requires apart { (i + len ≤ j) ⊎ (j + len ≤ i) }
     requires first { i + len ≤ length slice.old }
     requires second { j + len ≤ length slice.old }
-    ensures { slice.new ≡ with_ranges slice.old i j (range_of slice.old j len) (range_of slice.old i len) }
+    ensures { slice.new ≡ ranges_exchanged slice.old i j len }
 {
     let (first, second) = get_both_ranges(slice, i, j, len);
     first.swap_with_slice(second);

@@ -1,71 +1,35 @@
 -- A buffer of rows of words and the rows that callers see.
-use Rattle.std.proofs.Common.{◌≡◌, ◌⊎◌, ⊎_elim, ℕ, zero, suc, ◌+◌, ◌-◌, ◌*◌, ◌^◌, ◌<◌, ◌≤◌, List, [], ◌∷◌, ◌++◌, length, take, drop, map, min, get_or, set, refl, sym, ap, ◌∙◌, arith}
+use Rattle.std.proofs.Common.{◌≡◌, ⊎_elim, ℕ, zero, suc, ◌+◌, ◌-◌, ◌*◌, ◌^◌, ◌<◌, ◌≤◌, List, [], ◌∷◌, ◌++◌, length, take, drop, map, min, refl, sym, ap, ◌∙◌, arith}
 use Rattle.std.specs.Prelude.{◌==◌, ◌&&◌}
 use Rattle.std.specs.Cmp.Lexicographic.{pointwise}
 use Rattle.std.proofs.Math.Nat.{mul-le-mul_right}
 use Rattle.std.proofs.lemmas.Bool.{cases_lt}
-use Rattle.std.proofs.lemmas.List.{take_all, length-take, length-drop, length-take-le, take-append-drop, append-nil, drop-drop, take-take, map-append}
+use Rattle.std.proofs.lemmas.List.{take_all, length-take, length-drop, length-take-le, drop-drop, take-take, map-append}
 use Rattle.std.proofs.lemmas.List.Edits.{length-paste, take-paste, drop-paste}
 use Rattle.std.specs.List.{copy_within}
 use Rattle.rq_standard.proofs.PlainCut.{piece_within}
 use Rattle.rq_bytes.specs.Ranges.{range_of, with_range, cut, joined_pieces}
-use Rattle.rq_bytes.proofs.Cuts.{length-cut, get_or-cut, cut-append, cut-join, cut-with_range, joined-cut, refilled, cut-refilled}
-use Rattle.rq_bytes.proofs.RangeFacts.{length-range, length-with_range}
+use Rattle.rq_bytes.proofs.Cuts.{cut-append, cut-take, refilled}
+use Rattle.rq_bytes.proofs.Pieces.{HoldsPieces, count_is, within, length-piece, piece_written, joined_is, written_is, refilled_is}
 use Rattle.rq_matrix.specs.BitRows.{same_rows}
 use Rattle.rq_matrix.specs.RowLends.{with_words, IsRowWrite}
 use Rattle.rq_matrix.specs.contracts.bit_rows.BitRows.{the_view, the_invariant}
 use Rattle.rq_matrix.specs.declared.bit_rows.BitRows.TheInside.{Inside}
 
--- the buffer `words` of `count` rows of `size` words, and what callers see of it
-pub record HoldsRows (words : List ℕ) (count size : ℕ) (rows : List (List ℕ)) : Type 0 where
-  pub view : cut count size words ≡ rows
-  pub long : length words ≡ count * size
-
-pub holds_rows : (inside : Inside) (rows : List (List ℕ)) → the_view inside ≡ rows → the_invariant inside → HoldsRows inside.words.items inside.count inside.row_len rows
+pub holds_rows : (inside : Inside) (rows : List (List ℕ)) → the_view inside ≡ rows → the_invariant inside → HoldsPieces inside.words.items inside.count inside.row_len rows
 holds_rows inside rows view invariant = record { view = view; long = sym inside.words.ok.0 ∙ invariant }
 
-module _ {words : List ℕ} {count size : ℕ} {rows : List (List ℕ)} (is : HoldsRows words count size rows) where
-  pub count_is : count ≡ length rows
-  count_is = sym (length-cut count size words) ∙ ap length is.view
-
-  -- the words of one row
-  pub row_at : (i : ℕ) → i < length rows → range_of words (i * size) size ≡ get_or rows i []
-  row_at i below = let count_is_there = count_is in sym (get_or-cut count size i words (omega arith) is.long) ∙ ap (λ l. get_or l i []) is.view
-
-  pub within : (i : ℕ) → i < length rows → i * size + size ≤ length words
-  within i below = let count_is_there = count_is in omega (arith, piece_within i count size (omega arith), is.long)
-
-  pub length-row : (i : ℕ) → i < length rows → length (get_or rows i []) ≡ size
-  length-row i below = ap length (sym (row_at i below)) ∙ length-range words (i * size) size (within i below)
-
-  -- the rows after a write of the words of one of them
-  pub row_written : (i : ℕ) (ws : List ℕ) → i < length rows → length ws ≡ size → HoldsRows (with_range words (i * size) ws) count size (set rows i ws)
-  row_written i ws below long =
-      let count_is_there = count_is in
-      record {
-        view = cut-with_range count size i words ws (omega arith) long is.long ∙ ap (λ l. set l i ws) is.view;
-        long = length-with_range words (i * size) ws (omega (arith, within i below)) ∙ is.long;
-      }
-
-  -- the buffer again, of what callers see
-  joined_is : joined_pieces rows ≡ words
-  joined_is = ap joined_pieces (sym is.view) ∙ joined-cut count size words is.long
-
-  written_is : (i : ℕ) (ws : List ℕ) → i < length rows → cut count size (with_range words (i * size) ws) ≡ with_words rows i ws
-  written_is i ws below =
-      ap (λ xs. cut count size (with_range xs (i * size) ws)) (sym joined_is)
-      ∙ ap (λ n. cut n size (with_range (joined_pieces rows) (i * size) ws)) count_is
-      ∙ ap (λ s. cut (length rows) s (with_range (joined_pieces rows) (i * s) ws)) (sym (length-row i below))
+module _ {words : List ℕ} {count size : ℕ} {rows : List (List ℕ)} (is : HoldsPieces words count size rows) (i : ℕ) (below : i < length rows) where
+  -- words that are cut as rows of one length are those that the lent row leaves
+  as_lent : (ws : List ℕ) → cut (length rows) size (with_range (joined_pieces rows) (i * size) ws) ≡ with_words rows i ws
+  as_lent ws = ap (λ s. cut (length rows) s (with_range (joined_pieces rows) (i * s) ws)) (sym (length-piece is i below))
 
   -- what callers see after a write of any words from one row on, in a buffer that keeps its length
-  pub words_written : (i all : ℕ) (ws : List ℕ) → i < length rows → all ≡ length words → cut count size (refilled all words (i * size) ws) ≡ with_words rows i ws
-  words_written i all ws below whole =
-      ap (λ n. cut count size (refilled n words (i * size) ws)) (whole ∙ is.long)
-      ∙ cut-refilled count size (i * size) words ws (omega (arith, within i below)) is.long
-      ∙ written_is i ws below
+  pub words_written : (all : ℕ) (ws : List ℕ) → all ≡ length words → cut count size (refilled all words (i * size) ws) ≡ with_words rows i ws
+  words_written all ws whole = refilled_is is i all ws below whole ∙ as_lent ws
 
-  pub is_row_write : (i : ℕ) → i < length rows → IsRowWrite rows i
-  is_row_write i below ws long = sym (written_is i ws below) ∙ (row_written i ws below (long ∙ length-row i below)).view
+  pub is_row_write : IsRowWrite rows i
+  is_row_write ws long = sym (written_is is i ws ∙ as_lent ws) ∙ (piece_written is i ws below (long ∙ length-piece is i below)).view
 
 -- a row that callers see stands in the buffer
 module _ (inside : Inside) (rows : List (List ℕ)) (view : the_view inside ≡ rows) (invariant : the_invariant inside) (i : ℕ) (below : i < length rows) where
@@ -96,16 +60,6 @@ take-cut zero n s xs le = refl
 take-cut (suc h) zero s xs le = absurd (omega arith)
 take-cut (suc h) (suc n) s xs le = ap (λ l. take s xs ∷ l) (take-cut h n s (drop s xs) (omega arith))
 
--- the pieces of the part that they fill
-pub cut-front : (n s : ℕ) (xs : List ℕ) → n * s ≤ length xs → cut n s xs ≡ cut n s (take (n * s) xs)
-cut-front n s xs le =
-    let front = take (n * s) xs in
-    let none : n ≡ n + 0 = omega arith in
-    ap (cut n s) (sym (take-append-drop (n * s) xs))
-    ∙ ap (λ k. cut k s (front ++ drop (n * s) xs)) none
-    ∙ cut-join n 0 s front (drop (n * s) xs) (length-take-le (n * s) xs le)
-    ∙ append-nil (cut n s front)
-
 cut-next : (n s : ℕ) (xs : List ℕ) → cut (suc n) s xs ≡ cut n s xs ++ range_of xs (n * s) s ∷ []
 cut-next zero s xs = ap (λ k. range_of xs k s ∷ []) (let none : 0 ≡ 0 * s = omega arith in none)
 cut-next (suc n) s xs =
@@ -113,13 +67,13 @@ cut-next (suc n) s xs =
     ap (λ l. take s xs ∷ l) (cut-next n s (drop s xs))
     ∙ ap (λ l. take s xs ∷ (cut n s (drop s xs) ++ take s l ∷ [])) (drop-drop (n * s) s xs ∙ ap (λ k. drop k xs) next)
 
-pub truncated : (words : List ℕ) (count size height : ℕ) (rows : List (List ℕ)) → HoldsRows words count size rows → height ≤ length rows
-    → HoldsRows (take (height * size) words) height size (take height rows)
+pub truncated : (words : List ℕ) (count size height : ℕ) (rows : List (List ℕ)) → HoldsPieces words count size rows → height ≤ length rows
+    → HoldsPieces (take (height * size) words) height size (take height rows)
 truncated words count size height rows is le =
     let few : height ≤ count = omega (arith, count_is is) in
     let fits : height * size ≤ length words = omega (arith, mul-le-mul_right size few, is.long) in
     record {
-      view = sym (cut-front height size words fits) ∙ sym (take-cut height count size words few) ∙ ap (take height) is.view;
+      view = cut-take height size words ∙ sym (take-cut height count size words few) ∙ ap (take height) is.view;
       long = length-take-le (height * size) words fits;
     }
 
@@ -169,10 +123,10 @@ gathered_more kept size count n old mid few below long is =
     let left = start + size - (to + kept) in
     let on : to + kept + left ≡ suc n * size = omega arith in
     let moved : cut (suc n) kept new ≡ map f (cut (suc n) size old) =
-    cut-front (suc n) kept new (omega arith)
+    sym (cut-take (suc n) kept new)
     ∙ ap (cut (suc n) kept) (ap (λ m. take m new) new_end ∙ head)
     ∙ cut-append n kept (take to mid) (take kept source) (length-take-le to mid (omega arith)) (length-take-le kept source enough)
-    ∙ ap (λ l. l ++ take kept source ∷ []) (sym (cut-front n kept mid (omega arith)) ∙ is.moved)
+    ∙ ap (λ l. l ++ take kept source ∷ []) (cut-take n kept mid ∙ is.moved)
     ∙ ap (λ l. map f (cut n size old) ++ l ∷ []) piece
     ∙ sym (ap (map f) (cut-next n size old) ∙ map-append f (cut n size old) (range_of old start size ∷ []))
     in

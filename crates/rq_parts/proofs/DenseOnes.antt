@@ -93,19 +93,14 @@ next_word words word end more =
 -- ---- the ones of a range
 
 -- the word of the first column, without the bits before it
+bits_masked : (bits start k : ℕ) → start ≤ 64 → bit_at (bit_and bits ((2 ^ 64 - 1) * 2 ^ start % 2 ^ 64)) k ≡ min (bit_at bits k) (bit_at (2 ^ 64 - 2 ^ start) k)
+bits_masked bits start k within = ap (λ m. bit_at (bit_and bits m) k) (ones_shl 64 start within) ∙ bit_at_and bits (2 ^ 64 - 2 ^ start) k
+
 bits_kept : (bits start k : ℕ) → start ≤ 64 → start ≤ k → k < 64 → bit_at (bit_and bits ((2 ^ 64 - 1) * 2 ^ start % 2 ^ 64)) k ≡ bit_at bits k
-bits_kept bits start k within from below =
-    ap (λ m. bit_at (bit_and bits m) k) (ones_shl 64 start within)
-    ∙ bit_at_and bits (2 ^ 64 - 2 ^ start) k
-    ∙ ap (min (bit_at bits k)) (bit_at_mask_inside start 64 k from below)
-    ∙ (let small = bit_at-lt bits k in omega (arith, small))
+bits_kept bits start k within from below = omega (arith, bits_masked bits start k within, bit_at_mask_inside start 64 k from below, bit_at-lt bits k)
 
 bits_cleared : (bits start k : ℕ) → start ≤ 64 → k < start → bit_at (bit_and bits ((2 ^ 64 - 1) * 2 ^ start % 2 ^ 64)) k ≡ 0
-bits_cleared bits start k within before =
-    ap (λ m. bit_at (bit_and bits m) k) (ones_shl 64 start within)
-    ∙ bit_at_and bits (2 ^ 64 - 2 ^ start) k
-    ∙ ap (min (bit_at bits k)) (bit_at_mask_below start 64 k before)
-    ∙ omega arith
+bits_cleared bits start k within before = omega (arith, bits_masked bits start k within, bit_at_mask_below start 64 k before)
 
 module _ (words : List ℕ) (start end : ℕ) (range : start ≤ end) where
   pub ones_of_range : ones_from words end (start / 64) (bit_and (get_or words (start / 64) 0) ((2 ^ 64 - 1) * 2 ^ (start % 64) % 2 ^ 64)) ≡ ones_among (bit_pairs words start start (end - start))

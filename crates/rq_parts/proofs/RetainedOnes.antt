@@ -16,8 +16,11 @@ module _ (Answers : ℕ → Bool → Type 0) where
     pub increasing : IsStrictlyIncreasing ys
 
   module _ (x : ℕ) (xs zs : List ℕ) (up : IsStrictlyIncreasing (x ∷ xs)) (rest : AreRetained xs zs) where
-    listed_later : (k : ℕ) → k ≢ x → listed_bit zs k ≡ 1 → listed_bit (x ∷ xs) k ≡ 1
-    listed_later k other one = listed-other x xs k other ∙ rest.listed k one
+    listed_whole : (k : ℕ) → (k ≢ x → listed_bit zs k ≡ 1) → listed_bit (x ∷ xs) k ≡ 1
+    listed_whole k later = elim (eqb_tells k x) [
+      | inl same ↦ subst (λ i. listed_bit (x ∷ xs) i ≡ 1) (sym same.1) (listed-first x xs up)
+      | inr other ↦ listed-other x xs k other.1 ∙ rest.listed k (later other.1)
+    ]
 
     -- what is listed behind the first one is above it
     above : (k : ℕ) → listed_bit xs k ≡ 1 → x < k
@@ -28,10 +31,7 @@ module _ (Answers : ℕ → Bool → Type 0) where
 
     with_first : Answers x true → AreRetained (x ∷ xs) (x ∷ zs)
     with_first answer = record {
-      listed = λ k one. elim (eqb_tells k x) [
-        | inl same ↦ subst (λ i. listed_bit (x ∷ xs) i ≡ 1) (sym same.1) (listed-first x xs up)
-        | inr other ↦ listed_later k other.1 (sym (listed-other x zs k other.1) ∙ one)
-      ];
+      listed = λ k one. listed_whole k (λ other. sym (listed-other x zs k other) ∙ one);
       kept = λ k one. elim (eqb_tells k x) [
         | inl same ↦ subst (λ i. Answers i true) (sym same.1) answer
         | inr other ↦ rest.kept k (sym (listed-other x zs k other.1) ∙ one)
@@ -45,10 +45,7 @@ module _ (Answers : ℕ → Bool → Type 0) where
 
     without_first : Answers x false → AreRetained (x ∷ xs) zs
     without_first answer = record {
-      listed = λ k one. elim (eqb_tells k x) [
-        | inl same ↦ subst (λ i. listed_bit (x ∷ xs) i ≡ 1) (sym same.1) (listed-first x xs up)
-        | inr other ↦ listed_later k other.1 one
-      ];
+      listed = λ k one. listed_whole k (λ _. one);
       kept = rest.kept;
       dropped = λ k one none. elim (eqb_tells k x) [
         | inl same ↦ subst (λ i. Answers i false) (sym same.1) answer

@@ -4,7 +4,8 @@ use Rattle.std.specs.List.{swap}
 use Rattle.std.proofs.lemmas.List.{with_items_is, set-get_or}
 use Rattle.std.proofs.lemmas.List.Edits.{swap_is}
 use Rattle.rq_algebra.specs.Operations.{meant_at}
-use Rattle.rq_bytes.proofs.SlabFacts.{holds_slab, ranges_exchanged, size_is, start_fits, within_slice, apart, exchanged}
+use Rattle.rq_bytes.specs.Ranges.{ranges_exchanged}
+use Rattle.rq_bytes.proofs.SlabFacts.{holds_slab, size_is, start_fits, within_slice, apart, exchanged}
 use Rattle.rq_bytes.proofs.symbol_slab.SymbolSlab.swap.Goals as goal
 
 pub overflow_mul-first : goal.overflow_mul-first

@@ -6,7 +6,8 @@ use Rattle.std.proofs.lemmas.Simd.{length-zip2}
 use Rattle.rq_bytes.specs.Ranges.{range_of, with_range, cut}
 use Rattle.rq_bytes.proofs.Cuts.{pieces_apart}
 use Rattle.rq_standard.specs.Rows.{row_sum}
-use Rattle.rq_matrix.proofs.RowBuffers.{holds_rows, row_in, row_starts, row_at, length-row, row_written}
+use Rattle.rq_bytes.proofs.Pieces.{piece_at, length-piece, piece_written}
+use Rattle.rq_matrix.proofs.RowBuffers.{holds_rows, row_in, row_starts}
 use Rattle.rq_matrix.proofs.bit_rows.BitRows.add.Goals as goal
 
 pub overflow_mul-dest : goal.overflow_mul-dest
@@ -38,9 +39,9 @@ returns c =
     with_items_is c.self.inside.words c.add_range.new.words (c.add_range.auto.words ∙ c.as_mut_slice.ensures.len)
     ∙ c.add_range.ensures
     ∙ ap (λ l. with_range l (dest * size) (row_sum (range_of l (dest * size) size) (range_of l (src * size) size))) c.as_mut_slice.ensures.value
-    ∙ ap (λ l. with_range words (dest * size) (row_sum l (range_of words (src * size) size))) (row_at is dest c.requires.dest)
-    ∙ ap (λ l. with_range words (dest * size) (row_sum first l)) (row_at is src c.requires.src)
+    ∙ ap (λ l. with_range words (dest * size) (row_sum l (range_of words (src * size) size))) (piece_at is dest c.requires.dest)
+    ∙ ap (λ l. with_range words (dest * size) (row_sum first l)) (piece_at is src c.requires.src)
     in
-    let long = length-row is dest c.requires.dest in
+    let long = length-piece is dest c.requires.dest in
     ap (cut c.self.inside.count size) items
-    ∙ (row_written is dest (row_sum first second) c.requires.dest (length-zip2 bit_xor first second (long ∙ sym (length-row is src c.requires.src)) ∙ long)).view
+    ∙ (piece_written is dest (row_sum first second) c.requires.dest (length-zip2 bit_xor first second (long ∙ sym (length-piece is src c.requires.src)) ∙ long)).view

@@ -1,5 +1,6 @@
 -- What the check leaves to show of `bit_rows::BitRows::len`.
-use Rattle.rq_matrix.proofs.RowBuffers.{holds_rows, count_is}
+use Rattle.rq_bytes.proofs.Pieces.{count_is}
+use Rattle.rq_matrix.proofs.RowBuffers.{holds_rows}
 use Rattle.rq_matrix.proofs.bit_rows.BitRows.len.Goals as goal
 
 pub returns : goal.returns

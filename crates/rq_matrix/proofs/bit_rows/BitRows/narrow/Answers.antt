@@ -1,10 +1,10 @@
 -- What the check leaves to show of `bit_rows::BitRows::narrow`.
-use Rattle.std.proofs.Common.{◌≤◌, ◌*◌, List, ℕ, length, map, min, take, ap, sym, ◌∙◌, arith}
-use Rattle.std.proofs.Math.Nat.{mul-le-mul_right}
+use Rattle.std.proofs.Common.{◌*◌, List, ℕ, map, min, take, ap, ◌∙◌}
 use Rattle.std.proofs.lemmas.List.{with_items_is}
 use Rattle.rq_bytes.specs.Ranges.{cut}
 use Rattle.rq_matrix.specs.BitRows.{word_count}
-use Rattle.rq_matrix.proofs.RowBuffers.{holds_rows, cut-front, cut_short}
+use Rattle.rq_bytes.proofs.Cuts.{cut-take}
+use Rattle.rq_matrix.proofs.RowBuffers.{holds_rows, cut_short}
 use Rattle.rq_matrix.proofs.bit_rows.BitRows.narrow.Goals as goal
 
 pub returns : goal.returns
@@ -16,11 +16,8 @@ returns c =
     let kept = c.min-kept.result in
     let gathered = c.gather_starts.new.words in
     let is = holds_rows c.self.inside c.args.self.now c.self.view_is c.self.invariant in
-    let fits : count * kept ≤ length gathered =
-    omega (arith, mul-le-mul_right count (let less : kept ≤ size = omega (arith, c.min-kept.ensures) in less), c.gather_starts.auto.words, c.as_mut_slice-words.ensures.len, c.self.invariant)
-    in
     ap (cut count kept) (c.truncate.ensures.items ∙ ap (take (count * kept)) (with_items_is c.self.inside.words gathered (c.gather_starts.auto.words ∙ c.as_mut_slice-words.ensures.len)))
-    ∙ sym (cut-front count kept gathered fits)
+    ∙ cut-take count kept gathered
     ∙ c.gather_starts.ensures
     ∙ ap (λ l. map (λ (row : List ℕ). take kept row) (cut count size l)) c.as_mut_slice-words.ensures.value
     ∙ ap (λ n. map (λ (row : List ℕ). take n row) (cut count size words)) (c.min-kept.ensures ∙ ap (λ n. min n size) c.words_for.ensures)

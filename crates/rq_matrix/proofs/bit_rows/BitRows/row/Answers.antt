@@ -1,7 +1,8 @@
 -- What the check leaves to show of `bit_rows::BitRows::row`.
 use Rattle.std.proofs.Common.{◌*◌, ap, ◌∙◌}
 use Rattle.rq_bytes.specs.Ranges.{range_of}
-use Rattle.rq_matrix.proofs.RowBuffers.{holds_rows, row_in, row_starts, row_at}
+use Rattle.rq_bytes.proofs.Pieces.{piece_at}
+use Rattle.rq_matrix.proofs.RowBuffers.{holds_rows, row_in, row_starts}
 use Rattle.rq_matrix.proofs.bit_rows.BitRows.row.Goals as goal
 
 pub overflow_mul-start : goal.overflow_mul-start
@@ -13,4 +14,4 @@ range-requires c = row_in c.self.inside c.args.self.now c.self.view_is c.self.in
 pub returns : goal.returns
 returns c =
     let size = c.self.inside.row_len in
-    c.range.ensures ∙ ap (λ l. range_of l (c.args.i * size) size) c.as_slice.ensures.value ∙ row_at (holds_rows c.self.inside c.args.self.now c.self.view_is c.self.invariant) c.args.i c.requires
+    c.range.ensures ∙ ap (λ l. range_of l (c.args.i * size) size) c.as_slice.ensures.value ∙ piece_at (holds_rows c.self.inside c.args.self.now c.self.view_is c.self.invariant) c.args.i c.requires

@@ -1,7 +1,8 @@
 -- What the check leaves to show of `bit_rows::BitRows::row_mut`.
 use Rattle.std.proofs.Common.{◌≡◌, ◌+◌, ◌-◌, ◌*◌, refl, ap, ◌∙◌, arith}
 use Rattle.rq_bytes.specs.Ranges.{range_of}
-use Rattle.rq_matrix.proofs.RowBuffers.{holds_rows, within, row_starts, row_ends, row_at, words_written, is_row_write}
+use Rattle.rq_bytes.proofs.Pieces.{within, piece_at}
+use Rattle.rq_matrix.proofs.RowBuffers.{holds_rows, row_starts, row_ends, words_written, is_row_write}
 use Rattle.rq_matrix.proofs.bit_rows.BitRows.row_mut.Goals as goal
 
 pub overflow_mul-start : goal.overflow_mul-start
@@ -20,10 +21,10 @@ returns c =
     let size = inside.row_len in
     let is = holds_rows inside c.args.self.now c.self.view_is c.self.invariant in
     let few : i * size + size - i * size ≡ size = omega arith in (
-      (refl, λ w. words_written is i inside.words.len w c.requires inside.words.ok.0),
+      (refl, λ w. words_written is i c.requires inside.words.len w inside.words.ok.0),
       record {
         writes_back = tt;
         whole_row = is_row_write is i c.requires;
-        row = c.slice_mut.ensures.value ∙ ap (range_of inside.words.items (i * size)) few ∙ row_at is i c.requires;
+        row = c.slice_mut.ensures.value ∙ ap (range_of inside.words.items (i * size)) few ∙ piece_at is i c.requires;
       },
     )

@@ -1,11 +1,12 @@
 -- What the check leaves to show of `bit_rows::BitRows::swap`.
-use Rattle.std.proofs.Common.{◌*◌, [], get_or, set, sym, ap, ◌∙◌, arith}
+use Rattle.std.proofs.Common.{◌*◌, [], get_or, set, sym, ap, ◌∙◌}
 use Rattle.std.specs.List.{swap}
-use Rattle.std.proofs.lemmas.List.{with_items_is, length-set, set-get_or}
+use Rattle.std.proofs.lemmas.List.{with_items_is, set-get_or}
 use Rattle.std.proofs.lemmas.List.Edits.{swap_is}
-use Rattle.rq_bytes.specs.Ranges.{range_of, with_range, cut}
+use Rattle.rq_bytes.specs.Ranges.{ranges_exchanged, cut}
 use Rattle.rq_bytes.proofs.Cuts.{pieces_apart}
-use Rattle.rq_matrix.proofs.RowBuffers.{holds_rows, row_in, row_starts, row_at, length-row, row_written}
+use Rattle.rq_bytes.proofs.Pieces.{exchanged}
+use Rattle.rq_matrix.proofs.RowBuffers.{holds_rows, row_in, row_starts}
 use Rattle.rq_matrix.proofs.bit_rows.BitRows.swap.Goals as goal
 
 pub overflow_mul-i : goal.overflow_mul-i
@@ -25,26 +26,14 @@ swap_ranges-requires-clause-second c = row_in c.self.inside c.args.self.now c.se
 
 pub returns-then-i-j : goal.returns-then-i-j
 returns-then-i-j c =
-    let words = c.self.inside.words.items in
-    let rows = c.args.self.now in
-    let count = c.self.inside.count in
     let size = c.self.inside.row_len in
     let i = c.args.i in
     let j = c.args.j in
-    let is = holds_rows c.self.inside rows c.self.view_is c.self.invariant in
-    let first = get_or rows i [] in
-    let second = get_or rows j [] in
-    let items =
+    ap (cut c.self.inside.count size) (
     with_items_is c.self.inside.words c.swap_ranges.new.slice (c.swap_ranges.auto.slice ∙ c.as_mut_slice.ensures.len)
     ∙ c.swap_ranges.ensures
-    ∙ ap (λ l. with_range (with_range l (i * size) (range_of l (j * size) size)) (j * size) (range_of l (i * size) size)) c.as_mut_slice.ensures.value
-    ∙ ap (λ l. with_range (with_range words (i * size) (range_of words (j * size) size)) (j * size) l) (row_at is i c.requires.first)
-    ∙ ap (λ l. with_range (with_range words (i * size) l) (j * size) first) (row_at is j c.requires.second)
-    in
-    let once = row_written is i second c.requires.first (length-row is j c.requires.second) in
-    ap (cut count size) items
-    ∙ (row_written once j first (omega (arith, length-set rows i second, c.requires.second)) (length-row is i c.requires.first)).view
-    ∙ swap_is rows i j [] c.requires.first c.requires.second
+    ∙ ap (λ l. ranges_exchanged l (i * size) (j * size) size) c.as_mut_slice.ensures.value)
+    ∙ exchanged (holds_rows c.self.inside c.args.self.now c.self.view_is c.self.invariant) i j c.requires.first c.requires.second
 
 pub returns-else-i-j : goal.returns-else-i-j
 returns-else-i-j c =

@@ -2,7 +2,8 @@
 use Rattle.std.proofs.Common.{◌≤◌, length, ap, ◌∙◌, arith}
 use Rattle.std.proofs.Math.Nat.{mul-le-mul_right}
 use Rattle.rq_bytes.specs.Ranges.{cut}
-use Rattle.rq_matrix.proofs.RowBuffers.{holds_rows, count_is, truncated}
+use Rattle.rq_bytes.proofs.Pieces.{count_is}
+use Rattle.rq_matrix.proofs.RowBuffers.{holds_rows, truncated}
 use Rattle.rq_matrix.proofs.bit_rows.BitRows.truncate.Goals as goal
 
 pub overflow_mul-height : goal.overflow_mul-height
