@@ -9,10 +9,11 @@ use Rattle.std.proofs.lemmas.List.FromFn.{get_or-map-range_with_len, length-map-
 use Rattle.rq_standard.specs.BitTableSteps.{ArePlacesOfOnes}
 use Rattle.rq_bytes.specs.Refusals.{IsAnswer}
 use Rattle.rq_bytes.specs.declared.error.Error.{Error}
-use Rattle.rq_parts.specs.BitPairs.{sparse_pairs}
+use Rattle.rq_parts.specs.BitPairs.{in_range, sparse_pairs}
 use Rattle.rq_parts.specs.ImmutableListMap.{Pairs, values_of, lists_of}
 use Rattle.rq_parts.specs.SparseBinaryVec.{listed_bit}
 use Rattle.rq_parts.specs.ListedLaws.{listed-self, listed-other}
+use Rattle.rq_parts.proofs.SparsePairs.{in_range-true, in_range-false}
 use Rattle.rq_matrix.specs.SparseRows.{IsColumnIndex, AddsRowPairs}
 use Rattle.rq_matrix.proofs.FoundOnes.{places-skip, places-push}
 
@@ -76,12 +77,12 @@ index-answered columns rows pairs (Err e) keys answer each = tt
 
 module _ (ones columns : List ℕ) (start end n column : ℕ) (within : n < length ones) (is : column ≡ get_or columns (get_or ones n 0) 0) where
   one_pair : ℕ → List (ℕ × ℕ)
-  one_pair p = cond (not (nat_lt p start) && nat_lt p end) ((p, 1) ∷ []) []
+  one_pair p = cond (in_range start end p) ((p, 1) ∷ []) []
 
   more_pairs : length (sparse_pairs (take (n + 1) ones) columns start end) ≡ length (sparse_pairs (take n ones) columns start end) + length (one_pair column)
   unfolding one_pair
   more_pairs =
-      let test : ℕ × ℕ → Bool = λ p. not (nat_lt p.0 start) && nat_lt p.0 end in
+      let test : ℕ × ℕ → Bool = λ p. in_range start end p.0 in
       let pair : ℕ → ℕ × ℕ = λ one. (get_or columns one 0, 1) in
       ap (λ xs. length (filter test (map pair xs))) (take_more ones n 0 within)
       ∙ ap (λ xs. length (filter test xs)) (map-append pair (take n ones) (get_or ones n 0 ∷ []))
@@ -92,11 +93,9 @@ module _ (ones columns : List ℕ) (start end n column : ℕ) (within : n < leng
   pub pairs-push : start ≤ column → column < end → length (sparse_pairs (take (n + 1) ones) columns start end) ≡ length (sparse_pairs (take n ones) columns start end) + 1
   unfolding one_pair
   pairs-push from below =
-      let holds : (not (nat_lt column start) && nat_lt column end) ≡ true = grind (arith, nat_tests, from, below) in
-      more_pairs ∙ ap (λ (b : Bool). length (sparse_pairs (take n ones) columns start end) + length {A = ℕ × ℕ} (cond b ((column, 1) ∷ []) [])) holds
+      more_pairs ∙ ap (λ (b : Bool). length (sparse_pairs (take n ones) columns start end) + length {A = ℕ × ℕ} (cond b ((column, 1) ∷ []) [])) (in_range-true start end column from below)
 
   pub pairs-skip : (column < start) ⊎ (end ≤ column) → length (sparse_pairs (take (n + 1) ones) columns start end) ≡ length (sparse_pairs (take n ones) columns start end)
   unfolding one_pair
   pairs-skip outside =
-      let fails : (not (nat_lt column start) && nat_lt column end) ≡ false = elim outside [ inl low ↦ grind (arith, nat_tests, low) | inr high ↦ grind (arith, nat_tests, high) ] in
-      more_pairs ∙ ap (λ (b : Bool). length (sparse_pairs (take n ones) columns start end) + length {A = ℕ × ℕ} (cond b ((column, 1) ∷ []) [])) fails ∙ add-zero (length (sparse_pairs (take n ones) columns start end))
+      more_pairs ∙ ap (λ (b : Bool). length (sparse_pairs (take n ones) columns start end) + length {A = ℕ × ℕ} (cond b ((column, 1) ∷ []) [])) (in_range-false start end column outside) ∙ add-zero (length (sparse_pairs (take n ones) columns start end))

@@ -13,10 +13,11 @@ use Rattle.std.proofs.lemmas.List.Elements.{All-cons, All-filter, All-map, All-s
 use Rattle.rq_bytes.specs.declared.error.Error.{Error}
 use Rattle.rq_standard.specs.BitTableSteps.{ones_at, ones_below, ones_between, AreOnesOf, ArePlacesOfOnes}
 use Rattle.rq_standard.proofs.BitTableLaws.{is_one_at, is_one_at-other, is_one_at-one, ones_at-cons}
-use Rattle.rq_parts.specs.BitPairs.{sparse_pairs}
+use Rattle.rq_parts.specs.BitPairs.{in_range, sparse_pairs}
 use Rattle.rq_parts.specs.SparseBinaryVec.{listed_bit, listed_octet, SetsListed, IsListedSum}
 use Rattle.rq_parts.specs.ListedLaws.{listed-self, listed-other}
 use Rattle.rq_parts.proofs.ListedBits.{listed-found, ones_below_all}
+use Rattle.rq_parts.proofs.SparsePairs.{in_range-true, range-from, range-below}
 use Rattle.rq_matrix.specs.Orders.{Order, IsPlacedOrder}
 use Rattle.rq_matrix.specs.SparseRows.{IsSparseRow, places_between}
 use Rattle.rq_matrix.proofs.Ones.{ones_below-same}
@@ -65,18 +66,25 @@ octet_or_zero row k small =
 
 -- ---- the ones of a row in an order of the columns
 
--- whether a place is in a range
-abbrev in_range : ℕ → ℕ → ℕ → Bool
-in_range start end p = not (nat_lt p start) && nat_lt p end
+-- pairs of places with the octet 1 have as many ones at a place as it is listed
+ones_at-listed : (k : ℕ) (places : List ℕ) → ones_at k (map (λ place. (place, 1)) places) ≡ listed_bit places k
+ones_at-listed k [] = refl
+ones_at-listed k (place ∷ places) =
+    let rest = ones_at-listed k places in
+    let pairs : List (ℕ × ℕ) = map (λ p. (p, 1)) places in
+    ones_at-cons k (place, 1) pairs
+    ∙ elim (cases_eq place k) [
+      | inl e ↦ ap (λ n. n + ones_at k pairs) (is_one_at-one k (place, 1) e refl) ∙ ap (λ n. 1 + n) rest ∙ sym (listed-self place places k (sym e))
+      | inr d ↦ ap (λ n. n + ones_at k pairs) (is_one_at-other k (place, 1) d) ∙ zero-add (ones_at k pairs) ∙ rest ∙ sym (listed-other place places k (λ e. d (sym e)))
+    ]
 
-in_range-true : (start end p : ℕ) → start ≤ p → p < end → in_range start end p ≡ true
-in_range-true start end p from below = grind (arith, nat_tests, from, below)
-
-range-from : (start end p : ℕ) → in_range start end p ≡ true → start ≤ p
-range-from start end p is = grind (arith, nat_tests, is)
-
-range-below : (start end p : ℕ) → in_range start end p ≡ true → p < end
-range-below start end p is = grind (arith, nat_tests, is)
+pairs_of_places : (ones places : List ℕ) (start end : ℕ) → sparse_pairs ones places start end ≡ map (λ place. (place, 1)) (places_between ones places start end)
+pairs_of_places [] places start end = refl
+pairs_of_places (x ∷ xs) places start end = among (in_range start end (get_or places x 0)) (pairs_of_places xs places start end) where
+  among : (b : Bool) → sparse_pairs xs places start end ≡ map (λ place. (place, 1)) (places_between xs places start end)
+      → cond b ((get_or places x 0, 1) ∷ sparse_pairs xs places start end) (sparse_pairs xs places start end) ≡ map (λ place. (place, 1)) (cond b (get_or places x 0 ∷ places_between xs places start end) (places_between xs places start end))
+  among true rest = ap (λ (l : List (ℕ × ℕ)). (get_or places x 0, 1) ∷ l) rest
+  among false rest = rest
 
 module _ (o : Order) (is : IsPlacedOrder o) (start end : ℕ) where
   -- a number stands at place k if it is the k-th, and else elsewhere
@@ -86,29 +94,26 @@ module _ (o : Order) (is : IsPlacedOrder o) (start end : ℕ) where
   elsewhere : (x k : ℕ) → x < length o.order → x ≢ get_or o.order k 0 → get_or o.places x 0 ≢ k
   elsewhere x k in_x other same = other (sym (is.placed x in_x).1 ∙ ap (λ n. get_or o.order n 0) same)
 
-  pairs-once : (ones : List ℕ) → All (λ one. one < length o.order) ones → (k : ℕ) → k < length o.order → start ≤ k → k < end → ones_at k (sparse_pairs ones o.places start end) ≡ listed_bit ones (get_or o.order k 0)
-  pairs-once [] known k in_k from below = refl
-  pairs-once (x ∷ xs) known k in_k from below =
-      let rest = pairs-once xs (λ i d l. known (suc i) d (omega arith)) k in_k from below in
-      let pair : ℕ × ℕ = (get_or o.places x 0, 1) in
-      let pairs = sparse_pairs xs o.places start end in
-      let among : Bool → ℕ = λ b. ones_at k (cond b (pair ∷ pairs) pairs) in
+  between-once : (rows : List ℕ) → All (λ row. row < length o.order) rows → (k : ℕ) → k < length o.order → start ≤ k → k < end → listed_bit (places_between rows o.places start end) k ≡ listed_bit rows (get_or o.order k 0)
+  between-once [] known k in_k from below = refl
+  between-once (x ∷ xs) known k in_k from below =
+      let rest = between-once xs (λ i d l. known (suc i) d (omega arith)) k in_k from below in
+      let place = get_or o.places x 0 in
+      let places = places_between xs o.places start end in
+      let among : Bool → ℕ = λ b. listed_bit (cond b (place ∷ places) places) k in
       elim (cases_eq x (get_or o.order k 0)) [
         | inl e ↦
             let here = place_of x k in_k e in
-            ap among (in_range-true start end pair.0 (omega arith) (omega arith))
-            ∙ ones_at-cons k pair pairs
-            ∙ ap (λ n. n + ones_at k pairs) (is_one_at-one k pair here refl)
-            ∙ ap (λ n. 1 + n) rest
-            ∙ sym (listed-self x xs (get_or o.order k 0) (sym e))
+            ap among (in_range-true start end place (omega arith) (omega arith)) ∙ listed-self place places k (sym here) ∙ ap (λ n. 1 + n) rest ∙ sym (listed-self x xs (get_or o.order k 0) (sym e))
         | inr d ↦
             let there = elsewhere x k (known 0 x (omega arith)) d in
-            let skipped : (b : Bool) → among b ≡ ones_at k pairs = λ b. elim b as (λ v. ones_at k (cond v (pair ∷ pairs) pairs) ≡ ones_at k pairs) [
-              | true ↦ ones_at-cons k pair pairs ∙ ap (λ n. n + ones_at k pairs) (is_one_at-other k pair there) ∙ zero-add (ones_at k pairs)
-              | false ↦ refl
-            ] in
-            skipped (in_range start end pair.0) ∙ rest ∙ sym (listed-other x xs (get_or o.order k 0) (λ e. d (sym e)))
+            let skipped : (b : Bool) → among b ≡ listed_bit places k = λ b. elim b as (λ v. listed_bit (cond v (place ∷ places) places) k ≡ listed_bit places k) [ true ↦ listed-other place places k (λ e. there (sym e)) | false ↦ refl ] in
+            skipped (in_range start end place) ∙ rest ∙ sym (listed-other x xs (get_or o.order k 0) (λ e. d (sym e)))
       ]
+
+  pairs-once : (ones : List ℕ) → All (λ one. one < length o.order) ones → (k : ℕ) → k < length o.order → start ≤ k → k < end → ones_at k (sparse_pairs ones o.places start end) ≡ listed_bit ones (get_or o.order k 0)
+  pairs-once ones known k in_k from below =
+      ap (ones_at k) (pairs_of_places ones o.places start end) ∙ ones_at-listed k (places_between ones o.places start end) ∙ between-once ones known k in_k from below
 
   pub sparse_ones : (bit : ℕ → ℕ) (ones : List ℕ) → IsSparseRow (length o.order) ones → end ≤ length o.order → ((k : ℕ) → k < end → bit k ≡ listed_bit ones (get_or o.order k 0)) → AreOnesOf bit start end (sparse_pairs ones o.places start end)
   sparse_ones bit ones row few bits =
@@ -127,25 +132,6 @@ module _ (o : Order) (is : IsPlacedOrder o) (start end : ℕ) where
             record { from = range-from start end pair.0 passes; below = below; octet = (kept i d l).0 ∙ sym (bits pair.0 below ∙ (kept i d l).1) };
         once = λ k from below. pairs-once ones row.below k (omega arith) from below ∙ sym (bits k below);
       }
-
-  -- ---- the places of listed rows
-
-  between-once : (rows : List ℕ) → All (λ row. row < length o.order) rows → (k : ℕ) → k < length o.order → start ≤ k → k < end → listed_bit (places_between rows o.places start end) k ≡ listed_bit rows (get_or o.order k 0)
-  between-once [] known k in_k from below = refl
-  between-once (x ∷ xs) known k in_k from below =
-      let rest = between-once xs (λ i d l. known (suc i) d (omega arith)) k in_k from below in
-      let place = get_or o.places x 0 in
-      let places = places_between xs o.places start end in
-      let among : Bool → ℕ = λ b. listed_bit (cond b (place ∷ places) places) k in
-      elim (cases_eq x (get_or o.order k 0)) [
-        | inl e ↦
-            let here = place_of x k in_k e in
-            ap among (in_range-true start end place (omega arith) (omega arith)) ∙ listed-self place places k (sym here) ∙ ap (λ n. 1 + n) rest ∙ sym (listed-self x xs (get_or o.order k 0) (sym e))
-        | inr d ↦
-            let there = elsewhere x k (known 0 x (omega arith)) d in
-            let skipped : (b : Bool) → among b ≡ listed_bit places k = λ b. elim b as (λ v. listed_bit (cond v (place ∷ places) places) k ≡ listed_bit places k) [ true ↦ listed-other place places k (λ e. there (sym e)) | false ↦ refl ] in
-            skipped (in_range start end place) ∙ rest ∙ sym (listed-other x xs (get_or o.order k 0) (λ e. d (sym e)))
-      ]
 
   pub between_places : (bit : ℕ → ℕ) (rows : List ℕ) → ArePlacesOfOnes bit 0 (length o.order) rows → end ≤ length o.order → ArePlacesOfOnes (λ k. bit (get_or o.order k 0)) start end (places_between rows o.places start end)
   between_places bit rows places few =

@@ -1,7 +1,8 @@
 -- The stored rows of a sparse matrix of bits, and what is read from them.
-use Rattle.std.specs.Prelude.{◌≡◌, ℕ, ◌<◌, ◌++◌, ◌&&◌, not, List, [], All, length, map, filter, nat_lt, slice_index, slice_index_or}
+use Rattle.std.specs.Prelude.{◌≡◌, ℕ, ◌<◌, ◌++◌, List, [], All, length, map, filter, slice_index, slice_index_or}
 use Rattle.std.specs.List.Sorted.{IsStrictlyIncreasing}
 use Rattle.rq_standard.specs.BitTableSteps.{ArePlacesOfOnes}
+use Rattle.rq_parts.specs.BitPairs.{in_range}
 use Rattle.rq_parts.specs.SparseBinaryVec.{listed_bit}
 use Rattle.rq_parts.specs.ImmutableListMap.{Pairs}
 
@@ -22,4 +23,4 @@ AddsRowPairs old row columns new = new ≡ record old { pairs = old.pairs ++ map
 
 -- the places at which the rows listed stand, as far as they lie in a range
 abbrev pub places_between : List ℕ → List ℕ → ℕ → ℕ → List ℕ
-places_between rows places start end = filter (λ place. not (nat_lt place start) && nat_lt place end) (map (slice_index places) rows)
+places_between rows places start end = filter (in_range start end) (map (slice_index places) rows)
