@@ -13,10 +13,6 @@ use Rattle.rq_matrix.specs.SparseBinaryMatrix.{sparse_bit}
 use Rattle.rq_matrix.specs.SparseTables.{bit-before, bit-from}
 use Rattle.rq_matrix.proofs.OrderLaws.{order_apart}
 
--- the bit of a stored row in column k
-abbrev pub row_bit : ℕ → ℕ → List (List ℕ) → Order → Tail → ℕ → ℕ → ℕ
-row_bit width boundary rows columns tail row k = cond (nat_lt k boundary) (listed_bit (get_or rows row []) (get_or columns.order k 0)) (tail_bit tail row (width - 1 - k))
-
 -- what callers see of a sparse matrix
 abbrev pub table : ℕ → ℕ → ℕ → Bool → List (List ℕ) → Order → Order → Tail → BitTable
 table height width boundary indexed rows row_order columns tail = record { height = height; width = width; boundary = boundary; indexed = indexed; bit = sparse_bit width boundary rows row_order columns tail }

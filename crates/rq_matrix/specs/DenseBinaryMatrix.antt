@@ -12,7 +12,12 @@ abbrev pub dense_content : DenseBinaryMatrix → BitTable
 dense_content m = record { height = length m.rows; width = m.width; boundary = m.boundary; indexed = m.indexed; bit = bit_in m.rows }
 
 pub is_dense_table : (m : DenseBinaryMatrix) → IsBitTable (dense_content m)
-is_dense_table m = record { height_fits = m.height_fits; width_fits = m.width_fits; within = m.within; bits = λ i k _ _. bit_at-lt (slice_index (slice_index_or m.rows i []) (k / 64)) (k % 64) }
+is_dense_table m = record {
+  height_fits = m.height_fits;
+  width_fits = m.width_fits;
+  within = m.within;
+  bits = λ i k _ _. bit_at-lt (slice_index (slice_index_or m.rows i []) (k / 64)) (k % 64);
+}
 
 -- a matrix each of whose parts is equal to that of another one
 pub record IsDenseCopy (old new : DenseBinaryMatrix) : Type 0 where

@@ -6,12 +6,14 @@ use Rattle.rq_matrix.specs.DenseTails.{Tail, tail_bit}
 use Rattle.rq_matrix.specs.Orders.{Order}
 use Rattle.rq_matrix.specs.declared.sparse_matrix.SparseBinaryMatrix.{SparseBinaryMatrix}
 
--- the bit in row i and column k: before the boundary that of a stored row and column, and from it on that of the dense columns, of which the last is the first
+-- the bit of a stored row in column k: before the boundary that of a stored column, and from it on that of the dense columns, of which the last is the first
+abbrev pub row_bit : ℕ → ℕ → List (List ℕ) → Order → Tail → ℕ → ℕ → ℕ
+row_bit width boundary rows column_order tail row k =
+    if nat_lt k boundary then listed_bit (slice_index_or rows row []) (slice_index column_order.order k) else tail_bit tail row (width - 1 - k)
+
+-- the bit in row i and column k
 abbrev pub sparse_bit : ℕ → ℕ → List (List ℕ) → Order → Order → Tail → ℕ → ℕ → ℕ
-sparse_bit width boundary rows row_order column_order tail i k =
-    if nat_lt k boundary
-    then listed_bit (slice_index_or rows (slice_index row_order.order i) []) (slice_index column_order.order k)
-    else tail_bit tail (slice_index row_order.order i) (width - 1 - k)
+sparse_bit width boundary rows row_order column_order tail i k = row_bit width boundary rows column_order tail (slice_index row_order.order i) k
 
 abbrev pub sparse_content : SparseBinaryMatrix → BitTable
 sparse_content m = record {

@@ -26,9 +26,12 @@ tail-small tail row column = bit_at-lt (get_or (get_or tail.blocks (column / 64)
 
 module _ (width boundary : ℕ) (rows : List (List ℕ)) (row_order column_order : Order) (tail : Tail) (i k : ℕ) where
   either : Bool → ℕ
-  either b = cond b (listed_bit (get_or rows (get_or row_order.order i 0) []) (get_or column_order.order k 0)) (tail_bit tail (get_or row_order.order i 0) (width - 1 - k))
+  either b =
+      let row = get_or row_order.order i 0 in
+      cond b (listed_bit (get_or rows row []) (get_or column_order.order k 0)) (tail_bit tail row (width - 1 - k))
 
-  pub bit-before : k < boundary → sparse_bit width boundary rows row_order column_order tail i k ≡ listed_bit (get_or rows (get_or row_order.order i 0) []) (get_or column_order.order k 0)
+  pub bit-before : k < boundary
+      → sparse_bit width boundary rows row_order column_order tail i k ≡ listed_bit (get_or rows (get_or row_order.order i 0) []) (get_or column_order.order k 0)
   unfolding either
   bit-before before = ap either (lt-ltb k boundary before)
 
@@ -45,7 +48,8 @@ is_sparse_table m = record {
       elim (cases_lt k m.boundary) [
         | inl before ↦ subst (λ n. n < 2) (sym (bit-before m.width m.boundary m.rows.items m.row_order m.column_order m.tail i k before))
             (stored-small (length m.column_order.order) m.rows.items (get_or m.row_order.order i 0) (get_or m.column_order.order k 0) m.sparse)
-        | inr from ↦ subst (λ n. n < 2) (sym (bit-from m.width m.boundary m.rows.items m.row_order m.column_order m.tail i k from)) (tail-small m.tail (get_or m.row_order.order i 0) (m.width - 1 - k))
+        | inr from ↦ subst (λ n. n < 2) (sym (bit-from m.width m.boundary m.rows.items m.row_order m.column_order m.tail i k from))
+            (tail-small m.tail (get_or m.row_order.order i 0) (m.width - 1 - k))
       ];
 }
 

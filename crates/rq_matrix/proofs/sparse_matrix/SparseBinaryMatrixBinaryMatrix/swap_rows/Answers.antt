@@ -1,7 +1,7 @@
 -- What the check leaves to show of `sparse_matrix::SparseBinaryMatrix::swap_rows`.
 use Rattle.std.proofs.Common.{ℕ, refl, ap, arith}
 use Rattle.rq_matrix.proofs.OrderLaws.{exchanges}
-use Rattle.rq_matrix.proofs.SparseMatrixLaws.{row_bit}
+use Rattle.rq_matrix.specs.SparseBinaryMatrix.{row_bit}
 use Rattle.rq_matrix.proofs.StoredRows.{with_orders}
 use Rattle.rq_matrix.proofs.sparse_matrix.SparseBinaryMatrixBinaryMatrix.swap_rows.Goals as goal
 
