@@ -13,7 +13,8 @@ use Rattle.rq_standard.specs.Differences.{AreUnansweredDetermined, IsDifference,
 use Rattle.rq_standard.specs.ReceivedBlock.{ReceivedBlock, has_received, ReceivedDetermine}
 use Rattle.rq_standard.proofs.BlockCuts.{pieces, pieces_same}
 use Rattle.rq_standard.proofs.DifferenceColumns.{zeros_solve, zeros_are_octets}
-use Rattle.rq_standard.proofs.OtherObjects.{HasRow, is_difference}
+use Rattle.rq_standard.proofs.OtherObjects.{is_difference}
+use Rattle.rq_standard.proofs.StandingSteps.{HasRow}
 use Rattle.raptorq.specs.SourceBlockDecoder.{received_of}
 use Rattle.raptorq.specs.Decoder.{received_at, answer_at}
 use Rattle.raptorq.specs.Difference.{ShowsUnanswered, octets_of_column}

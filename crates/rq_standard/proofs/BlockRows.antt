@@ -8,7 +8,8 @@ use Rattle.rq_standard.specs.Headline.{block_row}
 use Rattle.rq_standard.specs.PacketLaws.{AnswerableIsOnlyObject}
 use Rattle.rq_standard.proofs.BlockCuts.{block_symbols_few}
 use Rattle.rq_standard.proofs.OneObject.{one_object}
-use Rattle.rq_standard.proofs.OtherObjects.{HasRow, only_is_answerable}
+use Rattle.rq_standard.proofs.OtherObjects.{only_is_answerable}
+use Rattle.rq_standard.proofs.StandingSteps.{HasRow}
 use Rattle.rq_standard.proofs.RowLaws.{row_checked}
 
 -- they have checked rows with room for them
@@ -23,6 +24,6 @@ pub answerable_only : AnswerableIsOnlyObject
 answerable_only table c object packets checked accepted run =
     let rows = block_has_row table c checked accepted in
     let aligned : IsAligned c = record { alignment_positive = accepted.alignment_positive; aligned = accepted.aligned } in (
-      λ d other fits. one_object table c object other packets accepted.size_positive accepted.blocks_positive aligned (λ b l. (rows b l).checked) (λ b l. (rows b l).fits) run fits d,
+      λ d other fits. one_object table c object other packets accepted.size_positive accepted.blocks_positive aligned rows run fits d,
       only_is_answerable table c accepted.size_positive accepted.blocks_positive aligned rows object packets run,
     )

@@ -4,7 +4,6 @@ use Rattle.std.specs.Prelude.{IfSome}
 use Rattle.std.specs.List.{AllByRecursion}
 use Rattle.std.proofs.lemmas.Bool.{cases_eq}
 use Rattle.rq_standard.specs.declared.row.TableRow.{TableRow}
-use Rattle.rq_standard.specs.TableRows.{IsChecked}
 use Rattle.rq_standard.specs.Packet.{Packet}
 use Rattle.rq_standard.specs.Configuration.{Configuration}
 use Rattle.rq_standard.specs.Cutting.{block_symbols}
@@ -18,7 +17,7 @@ use Rattle.rq_standard.specs.PacketLaws.{DeterminedByIdsAlone, ContradictionsSta
 use Rattle.rq_standard.proofs.KnownIds.{block_more, block_same}
 use Rattle.rq_standard.proofs.Columns.{solves_received}
 use Rattle.rq_standard.proofs.Firsts.{stays, first_payload-here, first_payload-elsewhere}
-use Rattle.rq_standard.proofs.StandingSteps.{push-all, length-block_source, source_sized, received_with, received_is, received_symbol, firsts_more, recorded_shape}
+use Rattle.rq_standard.proofs.StandingSteps.{row_of_shape, push-all, length-block_source, source_sized, received_with, received_is, received_symbol, firsts_more, recorded_shape}
 
 -- ---- a block
 
@@ -106,7 +105,7 @@ honest_solution table c object packets b h column honest shape reads is =
     let same = received_is table c b h shape in
     subst HasReceivedSolution same (record {
       column = column;
-      solves = solves_received (received_with table c b h.received) (block_source c object b) column (subst IsChecked shape.row shape.checked) (length-block_source c object b) (source_sized c object b) is (received_symbol table c object packets b h.received honest reads);
+      solves = solves_received (received_with table c b h.received) (block_source c object b) column (row_of_shape table c b h shape).checked (length-block_source c object b) (source_sized c object b) is (received_symbol table c object packets b h.received honest reads);
     })
 
 -- so none of them contradicts what was received before

@@ -23,7 +23,7 @@ use Rattle.rq_standard.proofs.Columns.{sum_at, sum_same, source_sum, solves_rece
 use Rattle.rq_standard.proofs.Interleaved.{same_symbols}
 use Rattle.rq_standard.proofs.KnownIds.{known_source, known_repair, none_determined, block_same}
 use Rattle.rq_standard.proofs.PlainCut.{length-block_bytes}
-use Rattle.rq_standard.proofs.StandingSteps.{received_with, received_symbol, length-block_source, source_at, source_sized}
+use Rattle.rq_standard.proofs.StandingSteps.{HasRow, received_with, received_symbol, length-block_source, source_at, source_sized}
 
 -- ---- columns that solve what was received
 
@@ -96,7 +96,7 @@ module _ (table : List TableRow) (c : Configuration) (one other : List ℕ) (b :
     ]
   ]
 
-  module _ (packets : List Packet) (run : IsHonestRun table c one packets) (also : IsHonestRun table c other packets) (below : b < c.source_blocks) (aligned : IsAligned c) (checked : IsChecked (block_row table c b)) (fits : block_symbols c b ≤ (block_row table c b).extended_symbols)
+  module _ (packets : List Packet) (run : IsHonestRun table c one packets) (also : IsHonestRun table c other packets) (below : b < c.source_blocks) (aligned : IsAligned c) (has_row : HasRow (block_row table c b) (block_symbols c b))
       (determined : DetermineBlock (block_row table c b) (block_symbols c b) (has_id b packets)) where
     abbrev row : TableRow
     row = block_row table c b
@@ -113,13 +113,13 @@ module _ (table : List TableRow) (c : Configuration) (one other : List ℕ) (b :
         let k = block_symbols c b in
         let x = s.column in
         let y = t.column in
-        let solves_x = solves_received came (block_source c one b) x checked (length-block_source c one b) (source_sized c one b) s.is_only.is (received_symbol table c one packets b (first_payload b packets) run.honest (λ e. refl)) in
-        let solves_y = solves_received came (block_source c other b) y checked (length-block_source c other b) (source_sized c other b) t.is_only.is (received_symbol table c other packets b (first_payload b packets) also.honest (λ e. refl)) in
-        let same = received_unique came x y checked fits solves_x solves_y determined in
+        let solves_x = solves_received came (block_source c one b) x has_row.checked (length-block_source c one b) (source_sized c one b) s.is_only.is (received_symbol table c one packets b (first_payload b packets) run.honest (λ e. refl)) in
+        let solves_y = solves_received came (block_source c other b) y has_row.checked (length-block_source c other b) (source_sized c other b) t.is_only.is (received_symbol table c other packets b (first_payload b packets) also.honest (λ e. refl)) in
+        let same = received_unique came x y has_row.checked has_row.fits solves_x solves_y determined in
         same_symbols c k (block_bytes c one b) (block_bytes c other b) aligned (length-block_bytes c one b) (length-block_bytes c other b) (λ e l.
-        sym (source_at c one b e l) ∙ sym (source_sum row c.symbol_size e (block_source c one b) x checked s.is_only.is (source_sized c one b) (omega (arith, fits)))
-        ∙ sum_same row e x y checked same
-        ∙ source_sum row c.symbol_size e (block_source c other b) y checked t.is_only.is (source_sized c other b) (omega (arith, fits)) ∙ source_at c other b e l)
+        sym (source_at c one b e l) ∙ sym (source_sum row c.symbol_size e (block_source c one b) x has_row.checked s.is_only.is (source_sized c one b) (omega (arith, has_row.fits)))
+        ∙ sum_same row e x y has_row.checked same
+        ∙ source_sum row c.symbol_size e (block_source c other b) y has_row.checked t.is_only.is (source_sized c other b) (omega (arith, has_row.fits)) ∙ source_at c other b e l)
 
     -- the bytes of a determined block are the same
     pub same_block : block_bytes c one b ≡ block_bytes c other b
@@ -129,14 +129,14 @@ module _ (table : List TableRow) (c : Configuration) (one other : List ℕ) (b :
           empty one ∙ sym (empty other)
       | inr some ↦ elim (shared_packet packets run.honest also.honest) [
         | inl found ↦ from_symbols found.packet found.here (column_of one found.packet found.here found.is_one) (column_of other found.packet found.here found.is_other)
-        | inr none ↦ absurd (none_determined row (block_symbols c b) (omega (arith, some)) fits (block_same row (block_symbols c b) (has_id b packets) (λ _. false) none determined))
+        | inr none ↦ absurd (none_determined row (block_symbols c b) (omega (arith, some)) has_row.fits (block_same row (block_symbols c b) (has_id b packets) (λ _. false) none determined))
       ]
     ]
 
 -- one object alone fits a list that determines each block
-pub one_object : (table : List TableRow) (c : Configuration) (one other : List ℕ) (packets : List Packet) → 0 < c.symbol_size → 0 < c.source_blocks → IsAligned c → ((b : ℕ) → b < c.source_blocks → IsChecked (block_row table c b)) → ((b : ℕ) → b < c.source_blocks → block_symbols c b ≤ (block_row table c b).extended_symbols)
+pub one_object : (table : List TableRow) (c : Configuration) (one other : List ℕ) (packets : List Packet) → 0 < c.symbol_size → 0 < c.source_blocks → IsAligned c → ((b : ℕ) → b < c.source_blocks → HasRow (block_row table c b) (block_symbols c b))
     → IsHonestRun table c one packets → IsHonestRun table c other packets → IsAnswerable table c packets → other ≡ one
-one_object table c one other packets pos some aligned checked fits run also answerable =
+one_object table c one other packets pos some aligned rows run also answerable =
     sym (whole_object c other some pos also.long)
-    ∙ ap (take c.transfer_length) (pieces_same (block_bytes c other) (block_bytes c one) c.source_blocks (λ b l. sym (same_block table c one other b packets run also l aligned (checked b l) (fits b l) (answerable b l))))
+    ∙ ap (take c.transfer_length) (pieces_same (block_bytes c other) (block_bytes c one) c.source_blocks (λ b l. sym (same_block table c one other b packets run also l aligned (rows b l) (answerable b l))))
     ∙ whole_object c one some pos run.long

@@ -29,23 +29,12 @@ use Rattle.rq_standard.proofs.FirstOctets.{first_octet, first_octets_object, zer
 use Rattle.rq_standard.proofs.Interleaved.{get_or-symbol_of_block}
 use Rattle.rq_standard.proofs.OneObject.{one_object}
 use Rattle.rq_standard.proofs.PlainCut.{length-block_bytes}
-use Rattle.rq_standard.proofs.StandingSteps.{length-symbol_of_block, length-block_source, source_at}
+use Rattle.rq_standard.proofs.StandingSteps.{HasRow, row_of_shape, length-symbol_of_block, length-block_source, source_at}
 
 -- bytes of an object whose symbols with these ids, of each block, are zero
 pub record EncodesToZeros (table : List TableRow) (c : Configuration) (has : ℕ → ℕ → Bool) (bytes : List ℕ) : Type 0 where
   pub long : length bytes ≡ c.transfer_length
   pub zeros : (b e : ℕ) → b < c.source_blocks → has b e ≡ true → IsEncodingSymbol (block_row table c b) c.symbol_size (block_source c bytes b) e (zero_symbol c.symbol_size)
-
--- a block over a row of a table that has room for it
-pub record HasRow (row : TableRow) (k : ℕ) : Type 0 where
-  pub checked : IsChecked row
-  pub fits : k ≤ row.extended_symbols
-
-row_of_shape : (table : List TableRow) (c : Configuration) (b : ℕ) (h : ReceivedBlock) → IsReceivedOf table c b h → HasRow (block_row table c b) (block_symbols c b)
-row_of_shape table c b h shape = record {
-  checked = subst IsChecked shape.row shape.checked;
-  fits = subst (λ (r : TableRow). block_symbols c b ≤ r.extended_symbols) shape.row (subst (λ n. n ≤ h.row.extended_symbols) shape.source_symbols shape.fits);
-}
 
 -- ---- the xor of two objects
 
@@ -214,7 +203,7 @@ answers_only s answer some pos aligned is table object packets st =
     let c = s.configuration in
     let own = is table object packets (λ _. false) st (λ b. refl) in
     let rows : (b : ℕ) → b < c.source_blocks → HasRow (block_row table c b) (block_symbols c b) = λ b below. row_of_shape table c b (s.received b) (st.shape b below) in (
-      λ h other fits. one_object table c object other packets pos some aligned (λ b l. (rows b l).checked) (λ b l. (rows b l).fits) st.run fits (own.only h),
+      λ h other fits. one_object table c object other packets pos some aligned rows st.run fits (own.only h),
       λ only. subst IsSome (sym (own.whole (only_is_answerable table c pos some aligned rows object packets st.run only))) refl,
     )
 

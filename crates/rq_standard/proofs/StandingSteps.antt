@@ -59,6 +59,17 @@ received_with table c b received = record { configuration = c; number = b; row =
 pub received_is : (table : List TableRow) (c : Configuration) (b : ℕ) (h : ReceivedBlock) → IsReceivedOf table c b h → received_with table c b h.received ≡ h
 received_is table c b h shape = λ i. record { configuration = sym shape.configuration i; number = sym shape.number i; row = sym shape.row i; source_symbols = sym shape.source_symbols i; received = h.received }
 
+-- a block over a row of a table that has room for it
+pub record HasRow (row : TableRow) (k : ℕ) : Type 0 where
+  pub checked : IsChecked row
+  pub fits : k ≤ row.extended_symbols
+
+pub row_of_shape : (table : List TableRow) (c : Configuration) (b : ℕ) (h : ReceivedBlock) → IsReceivedOf table c b h → HasRow (block_row table c b) (block_symbols c b)
+row_of_shape table c b h shape = record {
+  checked = subst IsChecked shape.row shape.checked;
+  fits = subst (λ (r : TableRow). block_symbols c b ≤ r.extended_symbols) shape.row (subst (λ n. n ≤ h.row.extended_symbols) shape.source_symbols shape.fits);
+}
+
 module _ (table : List TableRow) (c : Configuration) (object : List ℕ) (packets : List Packet) (b : ℕ) (received : ℕ → Option (List ℕ)) where
   -- each payload that counts is an encoding symbol of the block
   pub received_symbol : AllByRecursion (IsPacketOf table c object) packets → ((e : ℕ) → received e ≡ first_payload b packets e) → (e : ℕ) → IfSome (received e) (λ payload. IsEncodingSymbol (block_row table c b) c.symbol_size (block_source c object b) e payload)
@@ -68,7 +79,7 @@ module _ (table : List TableRow) (c : Configuration) (object : List ℕ) (packet
       (subst (λ n. IsEncodingSymbol (block_row table c b) c.symbol_size (block_source c object b) n q.0.payload) q.3
       (subst (λ n. IsEncodingSymbol (block_row table c n) c.symbol_size (block_source c object n) q.0.id.esi q.0.payload) q.2 q.1.symbol)))
 
-  module _ (aligned : IsAligned c) (nonsingular : IsNonsingular (block_row table c b)) (honest : AllByRecursion (IsPacketOf table c object) packets) (reads : (e : ℕ) → received e ≡ first_payload b packets e) (checked : IsChecked (block_row table c b)) (fits : block_symbols c b ≤ (block_row table c b).extended_symbols) where
+  module _ (aligned : IsAligned c) (nonsingular : IsNonsingular (block_row table c b)) (honest : AllByRecursion (IsPacketOf table c object) packets) (reads : (e : ℕ) → received e ≡ first_payload b packets e) (has_row : HasRow (block_row table c b) (block_symbols c b)) where
     can_answer : CanAnswer (received_with table c b received) → DetermineBlock (block_row table c b) (block_symbols c b) (has_id b packets)
     can_answer can = block_same (block_row table c b) (block_symbols c b) (λ e. is_some (received e)) (has_id b packets) (λ e. ap is_some (reads e)) (elim can [
       | inl all ↦ block_of_source (block_row table c b) (block_symbols c b) (λ e. is_some (received e)) nonsingular all
@@ -84,9 +95,9 @@ module _ (table : List TableRow) (c : Configuration) (object : List ℕ) (packet
     answered_at late column None is ans = (reads, λ now d. absurd (cc (ans.none (inr (received_back d)))))
     answered_at late column (Some bytes) is ans =
         let d = can_answer (ans.some refl) in
-        let solves = solves_received (received_with table c b received) (block_source c object b) column checked (length-block_source c object b) (source_sized c object b) is (received_symbol honest reads) in (
+        let solves = solves_received (received_with table c b received) (block_source c object b) column has_row.checked (length-block_source c object b) (source_sized c object b) is (received_symbol honest reads) in (
           same_symbols c (block_symbols c b) bytes (block_bytes c object b) aligned ans.block.long (length-block_bytes c object b)
-              (λ e below. ans.block.solved (received_back d) column solves e below ∙ source_sum (block_row table c b) c.symbol_size e (block_source c object b) column checked is (source_sized c object b) (omega (arith, fits)) ∙ source_at c object b e below),
+              (λ e below. ans.block.solved (received_back d) column solves e below ∙ source_sum (block_row table c b) c.symbol_size e (block_source c object b) column has_row.checked is (source_sized c object b) (omega (arith, has_row.fits)) ∙ source_at c object b e below),
           d,
         )
 
@@ -96,9 +107,7 @@ stands_answered : (table : List TableRow) (c : Configuration) (object : List ℕ
 stands_answered table c object packets b late h column answer aligned nonsingular honest shape reads is ans =
     let same = received_is table c b h shape in
     subst (λ g. BlockStandsFor late (block_bytes c object b) b packets g answer) same
-    (answered_at table c object packets b h.received aligned nonsingular honest reads (subst IsChecked shape.row shape.checked)
-    (subst (λ (r : TableRow). block_symbols c b ≤ r.extended_symbols) shape.row (subst (λ n. n ≤ h.row.extended_symbols) shape.source_symbols shape.fits))
-    late column answer is (subst (λ g. IsBlockAnswer g answer) (sym same) ans))
+    (answered_at table c object packets b h.received aligned nonsingular honest reads (row_of_shape table c b h shape) late column answer is (subst (λ g. IsBlockAnswer g answer) (sym same) ans))
 
 -- a packet more is recorded
 pub firsts_more : (packets : List Packet) (p : Packet) (old new : ReceivedBlock) → HoldsFirst old p.id.block packets → new ≡ with_received old p.id.esi p.payload → HoldsFirst new p.id.block (packets ++ p ∷ [])
