@@ -21,6 +21,10 @@ module _ {X : Type 0} (height : ℕ) (above below : ℕ → X) where
   pub stacked_all : (P : X → Type 0) → ((i : ℕ) → i < height → P (above i)) → ((j : ℕ) → P (below j)) → (i : ℕ) → P (stacked height above below i)
   stacked_all P first second i = elim (cases_lt i height) [ inl l ↦ rw (stacked_above i l) (first i l) | inr l ↦ rw (le-ltb i height l) (second (i - height)) ]
 
+-- what is read of each, read of those that are stacked
+stacked-map : {X Y : Type 0} (f : X → Y) (height : ℕ) (above below : ℕ → X) (i : ℕ) → f (stacked height above below i) ≡ stacked height (λ k. f (above k)) (λ k. f (below k)) i
+stacked-map f height above below i = elim (cases_lt i height) [ inl l ↦ rw (lt-ltb i height l) | inr l ↦ rw (le-ltb i height l) ]
+
 -- the equations of the old ids are among those of the new ones
 pub ids_stand : (width height : ℕ) (above row : ℕ → ℕ → ℕ) (old new : List ℕ) → IdsStandIn old new → RowsStandIn width (height + length old) (stacked height above (rows_of row old)) (height + length new) (stacked height above (rows_of row new))
 ids_stand width height above row old new ids i l = elim (cases_lt i height) [
@@ -56,21 +60,11 @@ solves_stacked F height more width above below column u v = (
   },
 )
 
--- what values of symbols that are stacked have at one place
-slice-stacked : (height : ℕ) (u v : ℕ → List ℕ) (p i : ℕ) → slice_at p (stacked height u v) i ≡ stacked height (slice_at p u) (slice_at p v) i
-slice-stacked height u v p i = elim (cases_lt i height) [
-  | inl l ↦ ap (λ (xs : List ℕ). at xs p) (stacked_above height u v i l) ∙ sym (stacked_above height (slice_at p u) (slice_at p v) i l)
-  | inr l ↦
-      let j : ℕ = i - height in
-      let e : height + j ≡ i = omega arith in
-      rw (← e) (ap (λ (xs : List ℕ). at xs p) (stacked_below height u v j) ∙ sym (stacked_below height (slice_at p u) (slice_at p v) j))
-]
-
 pub symbols_stacked : StackedIsBothInSymbols
 symbols_stacked F height more width above below column u v =
     let both_at = λ (p : ℕ). solves_stacked F height more width above below (slice_at p column) (slice_at p u) (slice_at p v) in
     let same = solves_same F (height + more) width (stacked height above below) (stacked height above below) in
-    let parts = λ (s : SolvesSymbols F (height + more) width (stacked height above below) column (stacked height u v)) (p : ℕ). (both_at p).0 (same _ _ _ (λ i k l m. refl) (λ i l. slice-stacked height u v p i) (s.at_place p)) in (
+    let parts = λ (s : SolvesSymbols F (height + more) width (stacked height above below) column (stacked height u v)) (p : ℕ). (both_at p).0 (same _ _ _ (λ i k l m. refl) (λ i l. stacked-map (λ (xs : List ℕ). at xs p) height u v i) (s.at_place p)) in (
       λ s. (record { at_place = λ p. (parts s p).0 }, record { at_place = λ p. (parts s p).1 }),
-      λ both. record { at_place = λ p. same _ _ _ (λ i k l m. refl) (λ i l. sym (slice-stacked height u v p i)) ((both_at p).1 (both.0.at_place p, both.1.at_place p)) },
+      λ both. record { at_place = λ p. same _ _ _ (λ i k l m. refl) (λ i l. sym (stacked-map (λ (xs : List ℕ). at xs p) height u v i)) ((both_at p).1 (both.0.at_place p, both.1.at_place p)) },
     )

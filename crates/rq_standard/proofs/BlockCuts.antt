@@ -62,6 +62,15 @@ symbols_before-next c b below =
           rw (here, next, more, smaller_block c b past below) (omega arith)
     ]
 
+pub symbols_before-grows : (c : Configuration) (m n : ℕ) → m ≤ n → n ≤ c.source_blocks → symbols_before c m ≤ symbols_before c n
+symbols_before-grows c m zero h all = let none : m ≡ 0 = omega arith in rw none (omega arith)
+symbols_before-grows c m (suc n) h all =
+    let next : n + 1 ≡ suc n = omega arith in
+    elim (cases_lt m (suc n)) [
+      | inl lt ↦ omega (arith, symbols_before-grows c m n (omega arith) (omega arith), symbols_before-next c n (omega arith), ap (symbols_before c) next)
+      | inr past ↦ let here : m ≡ suc n = omega arith in rw here (omega arith)
+    ]
+
 pub symbols_before-all : (c : Configuration) → 0 < c.source_blocks → symbols_before c c.source_blocks ≡ total_symbols c
 unfolding symbols_before
 symbols_before-all c some =

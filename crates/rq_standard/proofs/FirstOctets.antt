@@ -13,7 +13,7 @@ use Rattle.rq_standard.specs.Configuration.{Configuration, IsAligned, total_symb
 use Rattle.rq_standard.specs.Cutting.{block_symbols, symbols_before, sub_block_size, sub_block_start, place_in_block, block_bytes, symbol_of_block, source_symbol}
 use Rattle.rq_standard.specs.Differences.{first_octets_below, first_octets_block}
 use Rattle.rq_standard.specs.Equations.{zero_symbol}
-use Rattle.rq_standard.proofs.BlockCuts.{pieces, symbols_before-first, symbols_before-next, symbols_before-all}
+use Rattle.rq_standard.proofs.BlockCuts.{symbols_before-grows, pieces, symbols_before-first, symbols_before-next, symbols_before-all}
 use Rattle.rq_standard.proofs.Interleaved.{IsSubBlock, at_byte, place_in, place_below, get_or-symbol_of_block}
 use Rattle.rq_standard.proofs.StandingSteps.{length-symbol_of_block}
 
@@ -137,21 +137,14 @@ module _ (c : Configuration) (octet : ℕ → ℕ → ℕ) where
       let o = symbols_before c b * c.symbol_size in
       let front = length-blocks n (omega arith) in
       elim (cases_lt b n) [
-        | inl lt ↦ get_or_append_left (pieces blocks n) (blocks n) 0 (o + i) (omega (arith, front, before_later n b (omega arith) lt, within)) ∙ byte_at n b i (omega arith) lt within
+        | inl lt ↦
+            let later = mul-le-mul_right c.symbol_size (symbols_before-grows c (b + 1) n (omega arith) (omega arith)) in
+            get_or_append_left (pieces blocks n) (blocks n) 0 (o + i) (omega (arith, front, later, ap (λ m. m * c.symbol_size) (symbols_before-next c b (omega arith)), within)) ∙ byte_at n b i (omega arith) lt within
         | inr past ↦
             let here : n ≡ b = omega arith in
             get_or-append_right (pieces blocks n) (blocks n) (symbols_before c n * c.symbol_size) (o + i) 0 front (omega (arith, ap (λ m. symbols_before c m * c.symbol_size) here))
             ∙ ap (λ m. get_or (blocks n) m 0) (omega (arith, ap (λ m. symbols_before c m * c.symbol_size) here)) ∙ ap (λ m. get_or (blocks m) i 0) here
-      ] where
-        before_later : (n b : ℕ) → n ≤ c.source_blocks → b < n → symbols_before c b * c.symbol_size + block_symbols c b * c.symbol_size ≤ symbols_before c n * c.symbol_size
-        before_later zero b all below = absurd (omega arith)
-        before_later (suc n) b all below =
-            let next : n + 1 ≡ suc n = omega arith in
-            let step : symbols_before c (suc n) * c.symbol_size ≡ symbols_before c n * c.symbol_size + block_symbols c n * c.symbol_size = ap (λ m. symbols_before c m * c.symbol_size) (sym next) ∙ ap (λ m. m * c.symbol_size) (symbols_before-next c n (omega arith)) ∙ omega arith in
-            elim (cases_lt b n) [
-              | inl lt ↦ omega (arith, before_later n b (omega arith) lt, step)
-              | inr past ↦ let here : n ≡ b = omega arith in omega (arith, step, ap (λ m. symbols_before c m * c.symbol_size) here, ap (λ m. block_symbols c m * c.symbol_size) here)
-            ]
+      ]
 
   module _ (pos : 0 < c.symbol_size) (some : 0 < c.source_blocks) (aligned : IsAligned c) where
     -- a first octet stands before the object's end
@@ -161,19 +154,11 @@ module _ (c : Configuration) (octet : ℕ → ℕ → ℕ) where
         let z = sub_block_size c 0 in
         let room : z ≤ t = omega (arith, (first_sub_block c pos aligned).room) in
         let last : e + 1 ≤ block_symbols c b = omega arith in
-        let here : symbols_before c (b + 1) ≤ symbols_before c c.source_blocks = grows (b + 1) c.source_blocks (omega arith) (omega arith) in
+        let here : symbols_before c (b + 1) ≤ symbols_before c c.source_blocks = symbols_before-grows c (b + 1) c.source_blocks (omega arith) (omega arith) in
         let all : symbols_before c b + e + 1 ≤ total_symbols c = omega (arith, symbols_before-next c b below, here, symbols_before-all c some) in
         let whole : (symbols_before c b + e + 1) * t < c.transfer_length + t = omega (arith, mul-le-mul_right t all, (div_ceil_times c.transfer_length t pos).1) in
         let start : symbols_before c b * t + z * e ≤ (symbols_before c b + e) * t = omega (arith, mul-le-mul_right e room) in
-        omega (arith, whole, start) where
-          grows : (m n : ℕ) → m ≤ n → n ≤ c.source_blocks → symbols_before c m ≤ symbols_before c n
-          grows m zero h all = let none : m ≡ 0 = omega arith in rw none (omega arith)
-          grows m (suc n) h all =
-              let next : n + 1 ≡ suc n = omega arith in
-              elim (cases_lt m (suc n)) [
-                | inl lt ↦ omega (arith, grows m n (omega arith) (omega arith), symbols_before-next c n (omega arith), ap (symbols_before c) next)
-                | inr past ↦ let here : m ≡ suc n = omega arith in rw here (omega arith)
-              ]
+        omega (arith, whole, start)
 
     long_enough : c.transfer_length ≤ length (pieces blocks c.source_blocks)
     long_enough = omega (arith, length-blocks c.source_blocks (omega arith), ap (λ m. m * c.symbol_size) (symbols_before-all c some), (div_ceil_times c.transfer_length c.symbol_size pos).0)

@@ -1,12 +1,13 @@
 -- What is determined, by known ids and by a list of them.
-use Rattle.std.proofs.Common.{◌≡◌, ℕ, ◌+◌, ◌-◌, ◌<◌, ◌≤◌, Bool, true, false, cond, ltb, eqb, ◌%◌, List, length, refl, sym, ap, ◌∙◌, arith, inl, inr}
+use Rattle.std.proofs.Common.{◌≡◌, ◌↔◌, ℕ, ◌+◌, ◌-◌, ◌<◌, ◌≤◌, Bool, true, false, cond, ltb, eqb, ◌%◌, List, length, refl, sym, ap, ◌∙◌, arith, inl, inr}
 use Rattle.std.specs.Prelude.{◌||◌}
 use Rattle.std.specs.List.{range_with_len}
 use Rattle.std.proofs.lemmas.Bool.{cases_lt, lt-ltb, le-ltb, ltb-true}
 use Rattle.std.proofs.lemmas.List.FromFn.{length-range_with_len, get_or-range_with_len}
-use Rattle.rq_algebra.specs.Systems.{sum_below, dot, Solves, at, rows_of}
+use Rattle.rq_algebra.specs.Systems.{sum_below, dot, Solves, at, stacked, rows_of}
 use Rattle.rq_algebra.specs.Parities.{parity}
-use Rattle.rq_algebra.proofs.Stacks.{stacked_above, stacked_below, stacked_all}
+use Rattle.rq_algebra.proofs.Stacks.{stacked_all, solves_stacked}
+use Rattle.rq_algebra.proofs.Solutions.{solves_same}
 use Rattle.rq_algebra.proofs.FewEquations.{few_rows}
 use Rattle.rq_algebra.proofs.Solutions.{homogeneous_not_determined}
 use Rattle.rq_algebra.proofs.Sums.{sum_below_size}
@@ -20,30 +21,28 @@ use Rattle.rq_standard.specs.Received.{HasSourceSymbols}
 use Rattle.rq_standard.proofs.HdpcLaws.{cond-lt, one_if-lt}
 
 module _ (row : TableRow) (known : ℕ → Bool) (ids : List ℕ) (column : ℕ → ℕ) where
+  both : Solves octets (equation_count row ids) (intermediate_symbols row) (equations row ids) column (stacked (row.ldpc_symbols + row.hdpc_symbols) (λ _. 0) (λ _. 0))
+      ↔ (Solves octets (row.ldpc_symbols + row.hdpc_symbols) (intermediate_symbols row) (precode_equations row) column (λ _. 0) × Solves octets (length ids) (intermediate_symbols row) (rows_of (symbol_coefficient row) ids) column (λ _. 0))
+  both = solves_stacked octets (row.ldpc_symbols + row.hdpc_symbols) (length ids) (intermediate_symbols row) (precode_equations row) (rows_of (symbol_coefficient row) ids) column (λ _. 0) (λ _. 0)
+
+  zeros : (i : ℕ) → stacked {X = ℕ} (row.ldpc_symbols + row.hdpc_symbols) (λ _. 0) (λ _. 0) i ≡ 0
+  zeros i = stacked_all (row.ldpc_symbols + row.hdpc_symbols) (λ _. 0) (λ _. 0) (λ (n : ℕ). n ≡ 0) (λ k l. refl) (λ k. refl) i
+
   -- a column that solves what is known solves the equations of known ids
   pub to_list : ((j : ℕ) → j < length ids → known (at ids j) ≡ true) → SolvesZeros row known column → Solves octets (equation_count row ids) (intermediate_symbols row) (equations row ids) column (λ _. 0)
   to_list listed z =
-      let f : ℕ = row.ldpc_symbols + row.hdpc_symbols in
-      record {
-        at = λ i below. elim (cases_lt i f) [
-          | inl lt ↦ ap (λ (r : ℕ → ℕ). dot octets (intermediate_symbols row) r column) (stacked_above f (precode_equations row) (rows_of (symbol_coefficient row) ids) i lt) ∙ z.precode.at i lt
-          | inr past ↦
-              let j : ℕ = i - f in
-              let e : f + j ≡ i = omega arith in
-              rw (← e) (ap (λ (r : ℕ → ℕ). dot octets (intermediate_symbols row) r column) (stacked_below f (precode_equations row) (rows_of (symbol_coefficient row) ids) j) ∙ z.each (at ids j) (listed j (omega arith)))
-        ];
-      }
+      solves_same octets (equation_count row ids) (intermediate_symbols row) (equations row ids) (equations row ids) column _ (λ _. 0) (λ i k l m. refl) (λ i l. zeros i)
+      (both.1 (z.precode, record { at = λ j below. z.each (at ids j) (listed j below) }))
 
   -- and a column that solves the equations of all known ids solves what is known
   pub from_list : IsListOf known ids → Solves octets (equation_count row ids) (intermediate_symbols row) (equations row ids) column (λ _. 0) → SolvesZeros row known column
   from_list list s =
-      let f : ℕ = row.ldpc_symbols + row.hdpc_symbols in
+      let parts = both.0 (solves_same octets (equation_count row ids) (intermediate_symbols row) (equations row ids) (equations row ids) column (λ _. 0) _ (λ i k l m. refl) (λ i l. sym (zeros i)) s) in
       record {
-        precode = record { at = λ i lt. ap (λ (r : ℕ → ℕ). dot octets (intermediate_symbols row) r column) (sym (stacked_above f (precode_equations row) (rows_of (symbol_coefficient row) ids) i lt)) ∙ s.at i (omega arith) };
+        precode = parts.0;
         each = λ x is.
             let q = list.place x is in
-            ap (λ (r : ℕ → ℕ). dot octets (intermediate_symbols row) r column) (ap (symbol_coefficient row) (sym q.2) ∙ sym (stacked_below f (precode_equations row) (rows_of (symbol_coefficient row) ids) q.0))
-            ∙ s.at (f + q.0) (omega (arith, q.1));
+            ap (λ (r : ℕ → ℕ). dot octets (intermediate_symbols row) r column) (ap (symbol_coefficient row) (sym q.2)) ∙ parts.1.at q.0 q.1;
       }
 
 -- ids that are known and determine

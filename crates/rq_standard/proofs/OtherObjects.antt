@@ -11,15 +11,15 @@ use Rattle.rq_algebra.proofs.Sums.{add_twice, mul_zero, dot_zero}
 use Rattle.rq_algebra.proofs.SymbolSums.{add_symbols_comm, add_zeros, length-add_symbols}
 use Rattle.rq_standard.specs.declared.row.TableRow.{TableRow}
 use Rattle.rq_standard.specs.OctetField.{octets}
-use Rattle.rq_standard.specs.TableRows.{IsChecked, intermediate_symbols}
+use Rattle.rq_standard.specs.TableRows.{intermediate_symbols}
 use Rattle.rq_standard.specs.Packet.{Packet}
 use Rattle.rq_standard.specs.Configuration.{Configuration, IsAligned}
 use Rattle.rq_standard.specs.Cutting.{block_symbols, symbols_before, sub_block_size, place_in_block, block_bytes, symbol_of_block}
 use Rattle.rq_standard.specs.Equations.{zero_symbol, symbol_coefficient, internal_id}
 use Rattle.rq_standard.specs.Received.{or_later, payload_for, first_payload, has_id}
 use Rattle.rq_standard.specs.Headline.{IsNonsingular, IsEncodingSymbol, SolvesZeros, known_ids, block_row, block_source, IsPacketOf, HasNonsingularRows, IsAnswerable, IsHonestRun, IsOnlyObject}
-use Rattle.rq_standard.specs.ReceivedBlock.{ReceivedBlock, has_received}
-use Rattle.rq_standard.specs.DecoderState.{State, IsReceivedOf}
+use Rattle.rq_standard.specs.ReceivedBlock.{has_received}
+use Rattle.rq_standard.specs.DecoderState.{State}
 use Rattle.rq_standard.specs.Standing.{BlockStandsFor, AnswersObject, AnswersOnlyObject}
 use Rattle.rq_standard.specs.Differences.{xor_bytes, HasNonsingularBlocks, IsDifference, MakesOthersFit, plain_sum}
 use Rattle.rq_standard.proofs.BlockCuts.{block_byte}
