@@ -69,58 +69,61 @@ module _ (o : Order) (is : IsPlacedOrder o) (i j : ℕ) (in_i : i < length o.ord
     elsewhere = swap_other o.order i j in_i in_j;
   }
 
-  swapped_is_order : IsPlacedOrder (swapped o i j)
-  swapped_is_order =
+  -- the number that then stands at a place has that place
+  swapped_place : (k : ℕ) → k < length o.order → (get_or (swapped o i j).order k 0 < length o.order) × (get_or (swapped o i j).places (get_or (swapped o i j).order k 0) 0 ≡ k)
+  swapped_place k l =
       let order = o.order in
       let places = o.places in
       let first = get_or order i 0 in
       let second = get_or order j 0 in
       let new : List ℕ = swap order i j in
-      let back : List ℕ = swap places first second in
-      let same = length-swap order i j in
-      let back_at = λ (j : ℕ) (k : ℕ) (e : j ≡ k). ap (λ n. get_or back n 0) e in
-      let new_at = λ (j : ℕ) (k : ℕ) (e : j ≡ k). ap (λ n. get_or new n 0) e in
+      let back_at = λ (n m : ℕ) (e : n ≡ m). ap (λ x. get_or (swap places first second) x 0) e in
+      elim (cases_eq k i) [
+        | inl e ↦
+            let here : get_or new k 0 ≡ second = ap (λ n. get_or new n 0) e ∙ swap_first order i j in_i in_j in
+            (omega (arith, here, (is.ordered j in_j).0), back_at _ _ here ∙ swap_second places first second first_in second_in ∙ (is.ordered i in_i).1 ∙ sym e)
+        | inr d ↦ elim (cases_eq k j) [
+          | inl e ↦
+              let here : get_or new k 0 ≡ first = ap (λ n. get_or new n 0) e ∙ swap_second order i j in_i in_j in
+              (omega (arith, here, (is.ordered i in_i).0), back_at _ _ here ∙ swap_first places first second first_in second_in ∙ (is.ordered j in_j).1 ∙ sym e)
+          | inr f ↦
+              let here : get_or new k 0 ≡ get_or order k 0 = swap_other order i j in_i in_j k d f in
+              let there = is.ordered k l in
+              let not_first : get_or order k 0 ≢ first = λ g. d (sym there.1 ∙ ap (λ n. get_or places n 0) g ∙ (is.ordered i in_i).1) in
+              let not_second : get_or order k 0 ≢ second = λ g. f (sym there.1 ∙ ap (λ n. get_or places n 0) g ∙ (is.ordered j in_j).1) in
+              (omega (arith, here, there.0), back_at _ _ here ∙ swap_other places first second first_in second_in (get_or order k 0) not_first not_second ∙ there.1)
+        ]
+      ]
+
+-- numbers and places in each other's roles
+abbrev turned : Order → Order
+turned o = record { order = o.places; places = o.order }
+
+turned_is_order : (o : Order) → IsPlacedOrder o → IsPlacedOrder (turned o)
+turned_is_order o is = record {
+  count = sym is.count;
+  ordered = λ k l. let t = is.placed k (omega (arith, is.count)) in (omega (arith, t.0, is.count), t.1);
+  placed = λ k l. let t = is.ordered k (omega (arith, is.count)) in (omega (arith, t.0, is.count), t.1);
+}
+
+module _ (o : Order) (is : IsPlacedOrder o) (i j : ℕ) (in_i : i < length o.order) (in_j : j < length o.order) where
+  swapped_is_order : IsPlacedOrder (swapped o i j)
+  swapped_is_order =
+      let first = get_or o.order i 0 in
+      let second = get_or o.order j 0 in
+      let same = length-swap o.order i j in
       record {
-        count = length-swap places first second ∙ is.count ∙ sym same;
-        ordered = λ k l.
-            elim (cases_eq k i) [
-              | inl e ↦
-                  let here : get_or new k 0 ≡ second = new_at k i e ∙ swap_first order i j in_i in_j in
-                  (omega (arith, here, same, (is.ordered j in_j).0), back_at _ _ here ∙ swap_second places first second first_in second_in ∙ (is.ordered i in_i).1 ∙ sym e)
-              | inr d ↦ elim (cases_eq k j) [
-                | inl e ↦
-                    let here : get_or new k 0 ≡ first = new_at k j e ∙ swap_second order i j in_i in_j in
-                    (omega (arith, here, same, (is.ordered i in_i).0), back_at _ _ here ∙ swap_first places first second first_in second_in ∙ (is.ordered j in_j).1 ∙ sym e)
-                | inr f ↦
-                    let within : k < length order = omega (arith, same) in
-                    let here : get_or new k 0 ≡ get_or order k 0 = swap_other order i j in_i in_j k d f in
-                    let there = is.ordered k within in
-                    let not_first : get_or order k 0 ≢ first = λ g. d (sym there.1 ∙ ap (λ n. get_or places n 0) g ∙ (is.ordered i in_i).1) in
-                    let not_second : get_or order k 0 ≢ second = λ g. f (sym there.1 ∙ ap (λ n. get_or places n 0) g ∙ (is.ordered j in_j).1) in
-                    (omega (arith, here, same, there.0), back_at _ _ here ∙ swap_other places first second first_in second_in (get_or order k 0) not_first not_second ∙ there.1)
-              ]
-            ];
+        count = length-swap o.places first second ∙ is.count ∙ sym same;
+        ordered = λ k l. let t = swapped_place o is i j in_i in_j k (omega (arith, same)) in (omega (arith, t.0, same), t.1);
         placed = λ k l.
-            let within : k < length order = omega (arith, same) in
-            let there = is.placed k within in
-            elim (cases_eq k first) [
-              | inl e ↦
-                  let here : get_or back k 0 ≡ j = back_at k first e ∙ swap_first places first second first_in second_in ∙ (is.ordered j in_j).1 in
-                  (omega (arith, here, same, in_j), new_at _ _ here ∙ swap_second order i j in_i in_j ∙ sym e)
-              | inr d ↦ elim (cases_eq k second) [
-                | inl e ↦
-                    let here : get_or back k 0 ≡ i = back_at k second e ∙ swap_second places first second first_in second_in ∙ (is.ordered i in_i).1 in
-                    (omega (arith, here, same, in_i), new_at _ _ here ∙ swap_first order i j in_i in_j ∙ sym e)
-                | inr f ↦
-                    let here : get_or back k 0 ≡ get_or places k 0 = swap_other places first second first_in second_in k d f in
-                    let not_i : get_or places k 0 ≢ i = λ g. d (sym there.1 ∙ ap (λ n. get_or order n 0) g) in
-                    let not_j : get_or places k 0 ≢ j = λ g. f (sym there.1 ∙ ap (λ n. get_or order n 0) g) in
-                    (omega (arith, here, same, there.0), new_at _ _ here ∙ swap_other order i j in_i in_j (get_or places k 0) not_i not_j ∙ there.1)
-              ]
-            ];
+            let t = swapped_place (turned o) (turned_is_order o is) first second (first_in o is i j in_i in_j) (second_in o is i j in_i in_j) k (omega (arith, same, is.count)) in
+            let number = get_or (swap o.places first second) k 0 in (
+              omega (arith, t.0, same, is.count),
+              ap (λ n. get_or (swap o.order n j) number 0) (sym (is.ordered i in_i).1) ∙ ap (λ n. get_or (swap o.order (get_or o.places first 0) n) number 0) (sym (is.ordered j in_j).1) ∙ t.1,
+            );
       }
 
   pub exchanges : (new : Order) (first second : ℕ) → first ≡ get_or o.order i 0 → second ≡ get_or o.order j 0 → ◌≡◌ {A = Order} new (record { order = swap o.order i j; places = swap o.places first second }) → ExchangesPlaces i j o new × IsPlacedOrder new
   exchanges new first second at_i at_j is_new =
       let now : new ≡ swapped o i j = is_new ∙ ap (λ n. let p : Order = record { order = swap o.order i j; places = swap o.places n second } in p) at_i ∙ ap (λ n. let p : Order = record { order = swap o.order i j; places = swap o.places (get_or o.order i 0) n } in p) at_j in
-      (subst (ExchangesPlaces i j o) (sym now) swapped_exchanges, subst IsPlacedOrder (sym now) swapped_is_order)
+      (subst (ExchangesPlaces i j o) (sym now) (swapped_exchanges o is i j in_i in_j), subst IsPlacedOrder (sym now) swapped_is_order)
