@@ -17,16 +17,15 @@ copied-get xs i (Some x) is = sym (slice_get_read xs (length xs) i x.now refl is
 
 -- ---- the first row of a table that holds a block
 
-row_of-drop : (rows : List TableRow) (k i : ℕ) (d : TableRow) → i < length rows → row_of (drop i rows) k ≡ cond (leb k (get_or rows i d).extended_symbols) (get_or rows i d) (row_of (drop (suc i) rows) k)
+row_of-drop : (rows : List TableRow) (k i : ℕ) (d : TableRow) → i < length rows → row_of (drop i rows) k ≡ cond (leb k (get_or rows i d).extended_symbols) (get_or rows i d) (row_of (drop (i + 1) rows) k)
 unfolding row_of
-row_of-drop rows k i d lt = rw (drop-cons rows i d lt)
+row_of-drop rows k i d lt = rw (drop-cons rows i d lt, add-one i) refl
 
 pub row_here : (rows : List TableRow) (k i : ℕ) (d : TableRow) → i < length rows → k ≤ (get_or rows i d).extended_symbols → row_of (drop i rows) k ≡ get_or rows i d
 row_here rows k i d lt le = row_of-drop rows k i d lt ∙ rw (le-leb k (get_or rows i d).extended_symbols le)
 
 pub row_later : (rows : List TableRow) (k i : ℕ) (d : TableRow) → i < length rows → (get_or rows i d).extended_symbols < k → row_of (drop i rows) k ≡ row_of (drop (i + 1) rows) k
-row_later rows k i d lt below =
-    row_of-drop rows k i d lt ∙ rw (lt-leb k (get_or rows i d).extended_symbols below) (ap (λ (n : ℕ). row_of (drop n rows) k) (let same : suc i ≡ i + 1 = omega arith in same))
+row_later rows k i d lt below = row_of-drop rows k i d lt ∙ rw (lt-leb k (get_or rows i d).extended_symbols below)
 
 greatest_later : (row : TableRow) (rest : List TableRow) (k : ℕ) → row.extended_symbols < k → k ≤ greatest_size (row ∷ rest) → (k ≤ greatest_size rest) × (0 < length rest)
 unfolding greatest_size
@@ -41,21 +40,21 @@ greatest-drop rows k i d lt below le =
       omega (arith, later.1, length-drop (suc i) rows),
     )
 
+-- the last row of a longer list
+last_later : {X : Type 0} (first next : X) (rest : List X) → slice_get (first ∷ next ∷ rest) (length (first ∷ next ∷ rest) - 1) ≡ slice_get (next ∷ rest) (length (next ∷ rest) - 1)
+last_later first next rest = ap (slice_get (first ∷ next ∷ rest)) (let same : suc (suc (length rest)) - 1 ≡ suc (suc (length rest) - 1) = omega arith in same)
+
 pub greatest_some : (rows : List TableRow) (row : TableRow) → slice_get rows (length rows - 1) ≡ Some row → row.extended_symbols ≡ greatest_size rows
 unfolding greatest_size
 greatest_some [] row is = absurd (cc)
 greatest_some (only ∷ []) row is = let same : only ≡ row = cc in ap (λ (r : TableRow). r.extended_symbols) (sym same)
-greatest_some (first ∷ next ∷ rest) row is =
-    greatest_some (next ∷ rest) row
-    (subst (λ (n : ℕ). slice_get (first ∷ next ∷ rest) n ≡ Some row) (let same : suc (suc (length rest)) - 1 ≡ suc (suc (length rest) - 1) = omega arith in same) is)
+greatest_some (first ∷ next ∷ rest) row is = greatest_some (next ∷ rest) row (sym (last_later first next rest) ∙ is)
 
 pub greatest_none : (rows : List TableRow) → slice_get rows (length rows - 1) ≡ None → 0 ≡ greatest_size rows
 unfolding greatest_size
 greatest_none [] is = refl
 greatest_none (only ∷ []) is = absurd (cc)
-greatest_none (first ∷ next ∷ rest) is =
-    greatest_none (next ∷ rest)
-    (subst (λ (n : ℕ). slice_get (first ∷ next ∷ rest) n ≡ None) (let same : suc (suc (length rest)) - 1 ≡ suc (suc (length rest) - 1) = omega arith in same) is)
+greatest_none (first ∷ next ∷ rest) is = greatest_none (next ∷ rest) (sym (last_later first next rest) ∙ is)
 
 -- ---- the first refused row
 
@@ -63,8 +62,7 @@ first_refused-drop : (rows : List RowNumbers) (place : ℕ) (d : RowNumbers) →
     first_refused place (drop place rows) ≡ first_failure (first_failing_check (74 + place) (row_of_numbers (74 + place) (get_or rows place d))) place (first_refused (place + 1) (drop (place + 1) rows))
 unfolding first_refused
 first_refused-drop rows place d lt =
-    rw (drop-cons rows place d lt)
-    (ap (λ (n : ℕ). first_failure (first_failing_check (74 + place) (row_of_numbers (74 + place) (get_or rows place d))) place (first_refused (place + 1) (drop n rows))) (let same : suc place ≡ place + 1 = omega arith in same))
+    rw (drop-cons rows place d lt, add-one place) refl
 
 pub first_refused-end : (rows : List RowNumbers) (place : ℕ) → length rows ≤ place → first_refused place (drop place rows) ≡ None
 unfolding first_refused
