@@ -93,25 +93,6 @@ module _ {X : Type 0} {xs : List X} {low high n : ℕ} (a : Around xs low high n
       ∙ ap (λ l. with_range l low us) (set_high a old (range_of xs high n) vs a.first_long a.second_long v)
       ∙ set_low a old us vs a.first_long u)
 
-  pub length-rewritten : length rewritten ≡ length xs
-  length-rewritten =
-      let one = range_of xs low n in
-      let two = range_of xs high n in
-      let x = a.first_long in
-      let y = a.second_long in
-      omega (
-        arith,
-        ap length a.is,
-        length-append a.front (us ++ (a.gap ++ (vs ++ a.back))),
-        length-append us (a.gap ++ (vs ++ a.back)),
-        length-append a.gap (vs ++ a.back),
-        length-append vs a.back,
-        length-append a.front (one ++ (a.gap ++ (two ++ a.back))),
-        length-append one (a.gap ++ (two ++ a.back)),
-        length-append a.gap (two ++ a.back),
-        length-append two a.back,
-      )
-
 -- as many as are asked for, where they are there
 pub length-range : {X : Type 0} (xs : List X) (i n : ℕ) → i + n ≤ length xs → length (range_of xs i n) ≡ n
 length-range xs i n within = length-take-le n (drop i xs) (omega (arith, length-drop i xs))

@@ -40,7 +40,7 @@ use denote.FollowSlice.{heres_id, slice_of}
 use borrow.Table.Elements.{at, at_mul, cut_app, join_app}
 use Rattle.std.proofs.Common.{⊎_elim}
 use Rattle.rq_bytes.specs.Ranges.{range_of, with_range, with_ranges}
-use Rattle.rq_bytes.proofs.RangeFacts.{Around, around, rewritten, rewritten-up, rewritten-down, length-rewritten, length-range, second_kept}
+use Rattle.rq_bytes.proofs.RangeFacts.{Around, around, rewritten, rewritten-up, rewritten-down, length-range, length-with_range, second_kept}
 
 -- where the product fits a word, the count is zero or the size fits too
 pub uncapped : (i k : ℕ) → i * k < 2 ^ 64 → i * capped k ≡ i * k
@@ -211,6 +211,12 @@ module _ {M : Type 1} {𝓤 : Ura M} (𝓛 : Logic 𝓤) (ℓ : Lifetime) (κ : 
   abbrev Slice : List Val → SProp 𝓤
   Slice vs = sep 𝓤 (sem 𝓛 ((MutSlice ℓ κ R).own_val (record { ref_ptr = (b, o); ghost_name = γ; now = xs }) vs)) (A.lft κ q)
 
+  long : (us vs : List R.Denot) → length us ≡ length one → length vs ≡ length two → length (F us vs) ≡ length xs
+  long us vs u v =
+      let fits_us : i + length us ≤ length xs = omega (arith, u, length-range xs i n i_in) in
+      let kept = length-with_range xs i us fits_us in
+      length-with_range (with_range xs i us) j vs (omega (arith, v, length-range xs j n j_in, kept)) ∙ kept
+
   module _ (a : Around xs i j n) where
     abbrev Up : SProp 𝓤
     Up = Others 𝓛 R b o a.front a.gap a.back i j n a.front_long a.gap_long
@@ -223,9 +229,6 @@ module _ {M : Type 1} {𝓤 : Ura M} (𝓛 : Logic 𝓤) (ℓ : Lifetime) (κ : 
     back_up us vs u v = qed 𝓛 (‵ (cells (mem R) us b (P i)) ∷ ‵ (cells (mem R) vs b (P j)) ∷ raw Up ∷ []) ∵
         use3 𝓛 (‵ (cells (mem R) (rewritten a us vs (u ∙ a.first_long) (v ∙ a.second_long)) b o)) (puts_back 𝓛 R b o a.front a.gap a.back i j n a.front_long a.gap_long us vs (u ∙ a.first_long) (v ∙ a.second_long)) $
         rewrite ! 0 (λ (l : List R.Denot). ‵ (cells (mem R) l b o)) (rewritten-up a us vs (u ∙ a.first_long) (v ∙ a.second_long)) refl $ done !
-
-    long_up : (us vs : List R.Denot) → length us ≡ length one → length vs ≡ length two → length (F us vs) ≡ length xs
-    long_up us vs u v = ap length (sym (rewritten-up a us vs (u ∙ a.first_long) (v ∙ a.second_long))) ∙ length-rewritten a us vs (u ∙ a.first_long) (v ∙ a.second_long)
 
   module _ (a : Around xs j i n) where
     abbrev Down : SProp 𝓤
@@ -241,14 +244,11 @@ module _ {M : Type 1} {𝓤 : Ura M} (𝓛 : Logic 𝓤) (ℓ : Lifetime) (κ : 
         use3 𝓛 (‵ (cells (mem R) (rewritten a vs us (v ∙ a.first_long) (u ∙ a.second_long)) b o)) (puts_back 𝓛 R b o a.front a.gap a.back j i n a.front_long a.gap_long vs us (v ∙ a.first_long) (u ∙ a.second_long)) $
         rewrite ! 0 (λ (l : List R.Denot). ‵ (cells (mem R) l b o)) (rewritten-down a vs us (v ∙ a.first_long) (u ∙ a.second_long)) refl $ done !
 
-    long_down : (us vs : List R.Denot) → length us ≡ length one → length vs ≡ length two → length (F us vs) ≡ length xs
-    long_down us vs u v = ap length (sym (rewritten-down a vs us (v ∙ a.first_long) (u ∙ a.second_long))) ∙ length-rewritten a vs us (v ∙ a.first_long) (u ∙ a.second_long)
-
   pub lends_both : (i + n ≤ j) ⊎ (j + n ≤ i) → Room R (length one) → Room R (length two) → (vs : List Val)
       → ent 𝓤 (Slice vs) (H.⇛ (ex 𝓤 (BothLent 𝓛 ℓ κ q b γ R one two (P i) (P j) F)))
   lends_both apart r r' vs = ⊎_elim
-      (λ le. let a = around xs i j n le j_in in lends_two 𝓛 ℓ κ q b o γ R xs one two (P i) (P j) (Up a) (out_up a) F (back_up a) (long_up a) r r' vs)
-      (λ le. let a = around xs j i n le i_in in lends_two 𝓛 ℓ κ q b o γ R xs one two (P i) (P j) (Down a) (out_down a) F (back_down a) (long_down a) r r' vs)
+      (λ le. let a = around xs i j n le j_in in lends_two 𝓛 ℓ κ q b o γ R xs one two (P i) (P j) (Up a) (out_up a) F (back_up a) long r r' vs)
+      (λ le. let a = around xs j i n le i_in in lends_two 𝓛 ℓ κ q b o γ R xs one two (P i) (P j) (Down a) (out_down a) F (back_down a) long r r' vs)
       apart
 
   pub lends_pair : (i + n ≤ j) ⊎ (j + n ≤ i) → Laws R → κ ⊑ R.lives → Room R (length one) → Room R (length two) → (vs : List Val)
@@ -256,6 +256,6 @@ module _ {M : Type 1} {𝓤 : Ura M} (𝓛 : Logic 𝓤) (ℓ : Lifetime) (κ : 
   lends_pair apart laws within r r' vs =
       let kept : (us : List R.Denot) → length us ≡ length one → F us two ≡ with_range xs i us = λ us u. second_kept xs i j n us apart i_in j_in (u ∙ length-range xs i n i_in) in
       ⊎_elim
-      (λ le. let a = around xs i j n le j_in in lends_one 𝓛 ℓ κ q b o γ R xs one two (P i) (P j) (Up a) (out_up a) F (back_up a) (long_up a) (with_range xs i) kept laws within r r' vs)
-      (λ le. let a = around xs j i n le i_in in lends_one 𝓛 ℓ κ q b o γ R xs one two (P i) (P j) (Down a) (out_down a) F (back_down a) (long_down a) (with_range xs i) kept laws within r r' vs)
+      (λ le. let a = around xs i j n le j_in in lends_one 𝓛 ℓ κ q b o γ R xs one two (P i) (P j) (Up a) (out_up a) F (back_up a) long (with_range xs i) kept laws within r r' vs)
+      (λ le. let a = around xs j i n le i_in in lends_one 𝓛 ℓ κ q b o γ R xs one two (P i) (P j) (Down a) (out_down a) F (back_down a) long (with_range xs i) kept laws within r r' vs)
       apart
