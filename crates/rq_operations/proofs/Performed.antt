@@ -1,16 +1,16 @@
 -- A slab after some of its operations, and after more.
 use Rattle.std.proofs.Common.{◌≡◌, ℕ, suc, ◌+◌, ◌<◌, ◌≤◌, List, [], ◌∷◌, ◌++◌, Option, All, map, length, take, drop, get_or, set, refl, sym, ap, ◌∙◌, subst, arith}
-use Rattle.std.proofs.lemmas.List.{length-set, length-map, get_or-map, take-append-drop, drop-drop, length-drop, map-append, take_more_set}
+use Rattle.std.proofs.lemmas.List.{length-set, length-map, get_or-map, take-append-drop, map-append, take_more_set, take-append-le}
 use Rattle.std.proofs.lemmas.List.Elements.{All-nil, All-cons}
 use Rattle.std.proofs.Math.Seq.{drop-cons, take-add}
+use borrow.Rule.Slice.PartMut.{put_mid, post_of}
 use Rattle.rq_algebra.specs.Operations.{Operation, AddAssign, MulAssign, Fma, Reorder, Store, step, run, meant_at, order_after, IsAllowed, AreAllowed}
 use Rattle.rq_algebra.specs.Symbols.{symbols}
 use Rattle.rq_algebra.proofs.OperationRuns.{run-append, last_order, order-run}
 use Rattle.rq_standard.specs.OctetField.{octets}
-use Rattle.rq_bytes.specs.Ranges.{range_of}
 use Rattle.rq_bytes.specs.SymbolSlab.{Slab, store_of, after, after_all}
 use Rattle.rq_operations.specs.declared.steps.Step.{Step}
-use Rattle.rq_operations.specs.RecordedSteps.{operation_of_step, PerformsNext}
+use Rattle.rq_operations.specs.RecordedSteps.{operation_of_step, PerformsFirst}
 
 -- operations change no number of values
 length-step : (s : Store (List ℕ)) (operation : Operation) → length (step (symbols octets) s operation).values ≡ length s.values
@@ -45,112 +45,74 @@ AreAllowed-before n order (first ∷ before) rest all = (all.0, AreAllowed-befor
 pub length-after_all : (operations : List Operation) (slab : Slab) → length (after_all operations slab).values ≡ length slab.values
 length-after_all operations slab = length-run operations (store_of slab)
 
--- ---- operations of which the first i were performed
+-- ---- an operation and some of those behind it were performed
 
-module _ (operations : List Operation) (slab : Slab) (i : ℕ) where
-  pub rest_allowed : AreAllowed (length slab.values) slab.order operations
-      → let now = after_all (take i operations) slab in AreAllowed (length now.values) now.order (drop i operations)
+module _ (first : Operation) (behind : List Operation) (count : ℕ) (old new : Slab) (next : PerformsFirst first behind count old new) where
+  abbrev done : List Operation
+  done = first ∷ take count behind
+
+  all_are : done ++ drop count behind ≡ first ∷ behind
+  all_are = ap (λ l. first ∷ l) (take-append-drop count behind)
+
+  pub rest_allowed : AreAllowed (length old.values) old.order (first ∷ behind) → AreAllowed (length new.values) new.order (drop count behind)
   rest_allowed allowed =
-      let before = take i operations in
-      let rest = AreAllowed-after (length slab.values) slab.order before (drop i operations) (subst (λ (all : List Operation). AreAllowed (length slab.values) slab.order all) (sym (take-append-drop i operations)) allowed) in
-      rw (length-run before (store_of slab), order-run (symbols octets) before (store_of slab)) rest
+      let rest = AreAllowed-after (length old.values) old.order done (drop count behind) (subst (AreAllowed (length old.values) old.order) (sym all_are) allowed) in
+      subst (λ (s : Slab). AreAllowed (length s.values) s.order (drop count behind)) (sym next.performed) (rw (length-run done (store_of old), order-run (symbols octets) done (store_of old)) rest)
 
-  pub performed_more : (count : ℕ) (now new : Slab) → now ≡ after_all (take i operations) slab → PerformsNext operations i count now new → new ≡ after_all (take (i + count) operations) slab
-  performed_more count now new e next =
-      next.performed
-      ∙ ap (after_all (range_of operations i count)) e
-      ∙ sym (after_all-append (take i operations) (range_of operations i count) slab)
-      ∙ ap (λ l. after_all l slab) (sym (take-add i count operations))
+  pub rest_performed : after_all (drop count behind) new ≡ after_all (first ∷ behind) old
+  rest_performed =
+      ap (after_all (drop count behind)) next.performed
+      ∙ sym (after_all-append done (drop count behind) old)
+      ∙ ap (λ l. after_all l old) all_are
 
--- ---- the operation at a place
+-- ---- operations that f makes, one after another
 
-module _ (operations : List Operation) (i : ℕ) (op : Operation) (there : range_of operations i 1 ≡ op ∷ []) where
-  rest_is : drop i operations ≡ op ∷ drop 1 (drop i operations)
-  rest_is = sym (take-append-drop 1 (drop i operations)) ∙ ap (λ l. l ++ drop 1 (drop i operations)) there
+-- one more of them
+pub run_more : {T : Type 0} (f : T → Operation) (steps : List Step) (step : Step) (xs : List T) (x : T) (count : ℕ)
+    → count < length steps → step ≡ get_or steps count step → count < length xs → operation_of_step step ≡ f x
+    → take count (map operation_of_step steps) ≡ map f (take count xs)
+    → take (count + 1) (map operation_of_step steps) ≡ map f (take (count + 1) (set xs count x))
+run_more f steps step xs x count here is room is_f so_far =
+    let operations = map operation_of_step steps in
+    let operation = operation_of_step step in
+    take-add count 1 operations
+    ∙ ap (λ l. l ++ take 1 (drop count operations)) so_far
+    ∙ ap (λ l. map f (take count xs) ++ take 1 l) (drop-cons operations count operation (omega (arith, length-map steps operation_of_step)))
+    ∙ ap (λ o. map f (take count xs) ++ o ∷ []) (get_or-map operation_of_step steps count step operation here ∙ ap operation_of_step (sym is) ∙ is_f)
+    ∙ sym (map-append f (take count xs) (x ∷ []))
+    ∙ ap (map f) (sym (take_more_set xs count x room))
 
-  inside : i < length operations
-  inside = omega (arith, ap length rest_is, length-drop i operations)
+-- what they ask, where none of them sets an order
+each_allowed : {T : Type 0} (f : T → Operation) → ((order : Option (List ℕ)) (x : T) → order_after order (f x) ≡ order)
+    → (n : ℕ) (order : Option (List ℕ)) (xs : List T) (rest : List Operation) → AreAllowed n order (map f xs ++ rest) → All (λ x. IsAllowed n order (f x)) xs
+each_allowed f keeps n order [] rest all = All-nil (λ x. IsAllowed n order (f x))
+each_allowed f keeps n order (x ∷ xs) rest all =
+    All-cons (λ y. IsAllowed n order (f y)) x xs all.0 (each_allowed f keeps n order xs rest (subst (λ o. AreAllowed n o (map f xs ++ rest)) (keeps order x) all.1))
 
-  pub one_performed : (old new : Slab) → new ≡ after op old → PerformsNext operations i 1 old new
-  one_performed old new e = record {
-    some = omega arith;
-    within = omega (arith, inside);
-    performed = e ∙ sym (ap (λ l. after_all l old) there ∙ after_all-one op old);
-  }
+-- an item written first, and others behind it
+written : {T : Type 0} (first : T) (room behind : List T) (left count : ℕ) → 0 < length room → count ≤ length behind
+    → take (1 + count) (put_mid 1 left (set room 0 first) behind) ≡ first ∷ take count behind
+written first [] behind left count some fit = absurd (omega arith)
+written first (old ∷ others) behind left count some fit =
+    let one : 1 + count ≡ suc count = omega arith in
+    ap (λ n. take n (put_mid 1 left (first ∷ others) behind)) one
+    ∙ ap (λ l. first ∷ l) (take-append-le count behind (post_of 1 left (first ∷ others)) fit)
 
-  -- with the one behind it, and more behind that
-  pub pair_performed : (next : Operation) (more : List Operation) (count : ℕ) (old new : Slab) → range_of operations (i + 1) 1 ≡ next ∷ [] → range_of operations (i + 2) count ≡ more
-      → i + 2 + count ≤ length operations → new ≡ after_all (op ∷ next ∷ more) old → PerformsNext operations i (2 + count) old new
-  pair_performed next more count old new is_next are_more room e = record {
-    some = omega arith;
-    within = omega arith;
-    performed = e ∙ sym (ap (λ l. after_all l old) (
-        take-add 2 count (drop i operations)
-        ∙ ap (λ l. l ++ take count (drop 2 (drop i operations))) (
-        take-add 1 1 (drop i operations)
-        ∙ ap (λ l. l ++ take 1 (drop 1 (drop i operations))) there
-        ∙ ap (λ l. op ∷ take 1 l) (drop-drop 1 i operations)
-        ∙ ap (λ l. op ∷ l) is_next)
-        ∙ ap (λ l. op ∷ next ∷ take count l) (drop-drop 2 i operations)
-        ∙ ap (λ l. op ∷ next ∷ l) are_more));
-  }
+-- an operation that f makes, and those behind it that f makes too
+module _ {T : Type 0} (f : T → Operation) (first : T) (room items : List T) (left count : ℕ) (behind : List Operation)
+    (some : 0 < length room) (fit : count ≤ length items) (are : take count behind ≡ map f (take count items)) where
+  abbrev all_items : List T
+  all_items = take (1 + count) (put_mid 1 left (set room 0 first) items)
 
-  -- what a multiplication, an addition to the same value and those behind them ask
-  pub pair_allowed : (n : ℕ) (order : Option (List ℕ)) (dest scalar src : ℕ) → op ≡ MulAssign dest scalar → range_of operations (i + 1) 1 ≡ AddAssign dest src ∷ []
-      → AreAllowed n order (drop i operations) → IsAllowed n order (AddAssign dest src) × AreAllowed n order (drop (i + 2) operations)
-  pair_allowed n order dest scalar src is_op is_next allowed =
-      let next = AddAssign dest src in
-      let rest = drop (i + 2) operations in
-      let split : drop i operations ≡ MulAssign dest scalar ∷ next ∷ rest =
-      rest_is
-      ∙ ap (λ o. o ∷ drop 1 (drop i operations)) is_op
-      ∙ ap (λ l. MulAssign dest scalar ∷ l) (
-      drop-drop 1 i operations
-      ∙ sym (take-append-drop 1 (drop (i + 1) operations))
-      ∙ ap (λ l. l ++ drop 1 (drop (i + 1) operations)) is_next
-      ∙ ap (λ l. next ∷ l) (drop-drop 1 (i + 1) operations ∙ ap (λ k. drop k operations) (let same : i + 1 + 1 ≡ i + 2 = omega arith in same))) in
-      (subst (AreAllowed n order) split allowed).1
+  pub run_is : map f all_items ≡ f first ∷ take count behind
+  run_is = ap (map f) (written first room items left count some fit) ∙ ap (λ l. f first ∷ l) (sym are)
 
--- ---- the step at a place
+  pub run_performed : (old new : Slab) → count ≤ length behind → new ≡ after_all (map f all_items) old → PerformsFirst (f first) behind count old new
+  run_performed old new within is = record { within = within; performed = is ∙ ap (λ l. after_all l old) run_is }
 
-module _ (recorded : List Step) (i : ℕ) (op : Step) (here : i < length recorded) (is : op ≡ get_or recorded i op) where
-  pub operation_there : drop i (map operation_of_step recorded) ≡ operation_of_step op ∷ drop (suc i) (map operation_of_step recorded)
-  operation_there =
-      let operations = map operation_of_step recorded in
-      drop-cons operations i (operation_of_step op) (omega (arith, length-map recorded operation_of_step))
-      ∙ ap (λ o. o ∷ drop (suc i) operations) (get_or-map operation_of_step recorded i op (operation_of_step op) here ∙ ap operation_of_step (sym is))
-
-  pub range_here : range_of (map operation_of_step recorded) i 1 ≡ operation_of_step op ∷ []
-  range_here = ap (take 1) operation_there
-
-  -- one more of those that f makes
-  pub run_more : {T : Type 0} (f : T → Operation) (xs : List T) (x : T) (start count : ℕ) → i ≡ start + count → count < length xs → operation_of_step op ≡ f x
-      → range_of (map operation_of_step recorded) start count ≡ map f (take count xs)
-      → range_of (map operation_of_step recorded) start (count + 1) ≡ map f (take (count + 1) (set xs count x))
-  run_more f xs x start count at room is_f so_far =
-      let operations = map operation_of_step recorded in
-      take-add count 1 (drop start operations)
-      ∙ ap (λ l. l ++ take 1 (drop count (drop start operations))) so_far
-      ∙ ap (λ l. map f (take count xs) ++ take 1 l) (drop-drop count start operations ∙ ap (λ k. drop k operations) (sym at) ∙ operation_there)
-      ∙ ap (λ o. map f (take count xs) ++ o ∷ []) is_f
-      ∙ sym (map-append f (take count xs) (x ∷ []))
-      ∙ ap (map f) (sym (take_more_set xs count x room))
-
--- the first one of those that f makes, before there are more
-pub run_first : {T : Type 0} {first : List Operation} (f : T → Operation) (xs : List T) (x : T) → 0 < length xs → first ≡ f x ∷ [] → first ≡ map f (take 1 (set xs 0 x))
-run_first f [] x room is = absurd (omega arith)
-run_first f (y ∷ xs) x room is = is
-
--- ---- operations that f makes, one after another, of which none sets an order
-
-module _ {T : Type 0} (f : T → Operation) (keeps : (order : Option (List ℕ)) (x : T) → order_after order (f x) ≡ order) (n : ℕ) (order : Option (List ℕ)) where
-  each_allowed : (xs : List T) (rest : List Operation) → AreAllowed n order (map f xs ++ rest) → All (λ x. IsAllowed n order (f x)) xs
-  each_allowed [] rest all = All-nil (λ x. IsAllowed n order (f x))
-  each_allowed (x ∷ xs) rest all =
-      All-cons (λ y. IsAllowed n order (f y)) x xs all.0 (each_allowed xs rest (subst (λ o. AreAllowed n o (map f xs ++ rest)) (keeps order x) all.1))
-
-  pub run_allowed : (operations : List Operation) (i count : ℕ) (xs : List T) → AreAllowed n order (drop i operations) → range_of operations i count ≡ map f xs → All (λ x. IsAllowed n order (f x)) xs
-  run_allowed operations i count xs allowed is =
-      let rest = drop count (drop i operations) in
-      let split : drop i operations ≡ map f xs ++ rest = sym (take-append-drop count (drop i operations)) ∙ ap (λ l. l ++ rest) is in
-      each_allowed xs rest (subst (AreAllowed n order) split allowed)
+  pub run_allowed : (keeps : (order : Option (List ℕ)) (x : T) → order_after order (f x) ≡ order) (n : ℕ) (order : Option (List ℕ)) → AreAllowed n order (f first ∷ behind)
+      → All (λ x. IsAllowed n order (f x)) all_items
+  run_allowed keeps n order allowed =
+      each_allowed f keeps n order all_items (drop count behind) (subst (AreAllowed n order) (
+      ap (λ l. f first ∷ l) (sym (take-append-drop count behind))
+      ∙ ap (λ l. l ++ drop count behind) (sym run_is)) allowed)

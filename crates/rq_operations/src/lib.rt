@@ -3,4 +3,5 @@
 
 pub mod recorded;
 mod replay;
+mod runs;
 pub mod steps;
