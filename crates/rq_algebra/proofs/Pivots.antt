@@ -89,7 +89,15 @@ module _ (F : Field) (height width : ℕ) (original a : ℕ → ℕ → ℕ) (op
     consistent = found_fits;
   }
 
--- operations that follow rows take a homogeneous column back to the original ones
+-- operations that follow rows take a column that solves these with zeros as values back to the original ones
+pub zeros_back : (F : Field) (height width : ℕ) (original a : ℕ → ℕ → ℕ) (operations : List Operation) → Follows F height width original a operations → (x : ℕ → ℕ) → Solves F height width a x (λ _. 0) → Solves F height width original x (λ _. 0)
+zeros_back F height width original a operations follows x solves =
+    let zeros : List ℕ = replicate height 0 in
+    solves_same F height width original original x (at zeros) (λ _. 0) (λ i k l m. refl) (λ i l. at-zeros height i)
+    ((follows.keeps zeros (zero_values F height width)).same.back x
+    (solves_same F height width a a x (λ _. 0) (at (run (plain F) operations (unordered zeros)).values) (λ i k l m. refl) (λ i l. sym (zeros_stay F operations (unordered zeros) (at-zeros height) i)) solves))
+
+-- and so a homogeneous column
 pub homogeneous_back : HomogeneousColumnGoesBack
 homogeneous_back F height width original a operations follows n = record {
   column = n.column;
@@ -97,9 +105,5 @@ homogeneous_back F height width original a operations follows n = record {
   index = n.index;
   in_width = n.in_width;
   nonzero = n.nonzero;
-  solves =
-      let zeros : List ℕ = replicate height 0 in
-      solves_same F height width original original n.column (at zeros) (λ _. 0) (λ i k l m. refl) (λ i l. at-zeros height i)
-      ((follows.keeps zeros (zero_values F height width)).same.back n.column
-      (solves_same F height width a a n.column (λ _. 0) (at (run (plain F) operations (unordered zeros)).values) (λ i k l m. refl) (λ i l. sym (zeros_stay F operations (unordered zeros) (at-zeros height) i)) n.solves));
+  solves = zeros_back F height width original a operations follows n.column n.solves;
 }

@@ -1,5 +1,6 @@
 -- The rows of bits as single bits are set.
 use Rattle.std.proofs.Common.{◌≡◌, ◌≢◌, ℕ, ◌+◌, ◌*◌, ◌%◌, ◌<◌, ◌≤◌, Bool, true, false, cond, eqb, ◌&&◌, ◌||◌, refl, sym, ap, subst, ◌∙◌, arith, inl, inr}
+use Rattle.std.proofs.Math.Bool.{and-true, and-false}
 use Rattle.std.proofs.Math.Nat.{mod-add-mod}
 use Rattle.std.proofs.lemmas.Bool.{cases_eq, cases_lt, eq-eqb, ne_eqb, lt-ltb, le-ltb}
 use Rattle.rq_standard.specs.declared.row.TableRow.{TableRow}
@@ -57,14 +58,6 @@ three_set {m} {m'} {m''} {m'''} {i} {i'} {i''} {j} {j'} {j''} a b d e e' e'' =
           ∙ ap (cond (eqb r i' && eqb k j') 1) (x.bits r k hr hk));
     }
 
-and_true : (b : Bool) → (b && true) ≡ b
-and_true true = refl
-and_true false = refl
-
-and_false : (b : Bool) → (b && false) ≡ false
-and_false true = refl
-and_false false = refl
-
 -- in one row
 three_in_row : (a b d : Bool) (x : ℕ) → x ≡ 0 → cond d 1 (cond b 1 (cond a 1 x)) ≡ one_if (a || b || d)
 three_in_row true true true x e = refl
@@ -78,10 +71,10 @@ three_in_row false false false x e = e
 
 -- in a column where all three are, and in another
 three_here : (a b d : Bool) (x : ℕ) → x ≡ 0 → cond (d && true) 1 (cond (b && true) 1 (cond (a && true) 1 x)) ≡ one_if (a || b || d)
-three_here a b d x e = rw (and_true d, and_true b, and_true a) (three_in_row a b d x e)
+three_here a b d x e = rw (and-true d, and-true b, and-true a) (three_in_row a b d x e)
 
 three_there : (a b d : Bool) (x : ℕ) → cond (d && false) 1 (cond (b && false) 1 (cond (a && false) 1 x)) ≡ x
-three_there a b d x = rw (and_false d, and_false b, and_false a) refl
+three_there a b d x = rw (and-false d, and-false b, and-false a) refl
 
 -- ---- the columns of the first B symbols
 
@@ -96,10 +89,10 @@ ldpc_1_more {row} {rows} {column} {old} {new} checked room lt before three =
     let y = (column + ldpc_step row column) % s in
     let z = (column + 2 * ldpc_step row column) % s in
     let wide : column < intermediate_symbols row = omega (arith, checked.three_pi) in
+    let bits : (i k : ℕ) (is : Bool) → i < rows → k < intermediate_symbols row → eqb k column ≡ is → new.bit i k ≡ cond (eqb i z && is) 1 (cond (eqb i y && is) 1 (cond (eqb i x && is) 1 (old.bit i k))) = λ i k is hi hk told.
+    (three.bits i k (omega (arith, before.shape.height)) (omega (arith, before.shape.width)) ∙ ap (λ e. cond (eqb i z && e) 1 (cond (eqb i y && e) 1 (cond (eqb i x && e) 1 (old.bit i k)))) told) in
     let elsewhere : (i k : ℕ) → i < rows → k < intermediate_symbols row → k ≢ column → new.bit i k ≡ old.bit i k = λ i k hi hk other.
-    (three.bits i k (omega (arith, before.shape.height)) (omega (arith, before.shape.width))
-    ∙ ap (λ e. cond (eqb i z && e) 1 (cond (eqb i y && e) 1 (cond (eqb i x && e) 1 (old.bit i k)))) (ne_eqb k column other)
-    ∙ three_there (eqb i x) (eqb i y) (eqb i z) (old.bit i k)) in
+    (bits i k false hi hk (ne_eqb k column other) ∙ three_there (eqb i x) (eqb i y) (eqb i z) (old.bit i k)) in
     let under : (i k : ℕ) → s ≤ i → i < rows → k < intermediate_symbols row → new.bit i k ≡ old.bit i k = λ i k low hi hk.
     (let not_x : eqb i x ≡ false = ne_eqb i x (λ e. omega arith) in
     let not_y : eqb i y ≡ false = ne_eqb i y (λ e. omega arith) in
@@ -112,8 +105,7 @@ ldpc_1_more {row} {rows} {column} {old} {new} checked room lt before three =
       shape = rows_stay before.shape three.shape;
       done = λ i k hi hk. elim (cases_eq k column) [
         | inl here ↦
-            three.bits i k (omega (arith, before.shape.height)) (omega (arith, before.shape.width))
-            ∙ ap (λ e. cond (eqb i z && e) 1 (cond (eqb i y && e) 1 (cond (eqb i x && e) 1 (old.bit i k)))) (eq-eqb k column here)
+            bits i k true (omega arith) (omega arith) (eq-eqb k column here)
             ∙ three_here (eqb i x) (eqb i y) (eqb i z) (old.bit i k) (before.right i k hi (omega arith) (omega arith))
             ∙ ap (λ n. one_if (is_ldpc_row row i n)) (sym here)
         | inr other ↦ elsewhere i k (omega arith) (omega arith) other ∙ before.done i k hi (omega arith)
@@ -167,11 +159,10 @@ ldpc_more {row} {rows} {i} {old} {new} checked room lt before three =
     let own = b_of row + i in
     let first = row.lt_symbols + i % pi_symbols row in
     let second = row.lt_symbols + (i + 1) % pi_symbols row in
-    let bits = λ (a k : ℕ) (ha : a < rows) (hk : k < intermediate_symbols row). three.bits a k (omega (arith, before.shape.height)) (omega (arith, before.shape.width)) in
-    let there : (a k : ℕ) → a < rows → k < intermediate_symbols row → a ≢ i → new.bit a k ≡ old.bit a k = λ a k ha hk other.
-    (bits a k ha hk ∙ ap (λ e. cond (e && eqb k second) 1 (cond (e && eqb k first) 1 (cond (e && eqb k own) 1 (old.bit a k)))) (ne_eqb a i other)) in
-    let here : (k : ℕ) → k < intermediate_symbols row → new.bit i k ≡ cond (eqb k second) 1 (cond (eqb k first) 1 (cond (eqb k own) 1 (old.bit i k))) = λ k hk.
-    (bits i k (omega arith) hk ∙ ap (λ e. cond (e && eqb k second) 1 (cond (e && eqb k first) 1 (cond (e && eqb k own) 1 (old.bit i k)))) (eq-eqb i i refl)) in
+    let bits : (a k : ℕ) (is : Bool) → a < rows → k < intermediate_symbols row → eqb a i ≡ is → new.bit a k ≡ cond (is && eqb k second) 1 (cond (is && eqb k first) 1 (cond (is && eqb k own) 1 (old.bit a k))) = λ a k is ha hk told.
+    (three.bits a k (omega (arith, before.shape.height)) (omega (arith, before.shape.width)) ∙ ap (λ e. cond (e && eqb k second) 1 (cond (e && eqb k first) 1 (cond (e && eqb k own) 1 (old.bit a k)))) told) in
+    let there : (a k : ℕ) → a < rows → k < intermediate_symbols row → a ≢ i → new.bit a k ≡ old.bit a k = λ a k ha hk other. bits a k false ha hk (ne_eqb a i other) in
+    let here : (k : ℕ) → k < intermediate_symbols row → new.bit i k ≡ cond (eqb k second) 1 (cond (eqb k first) 1 (cond (eqb k own) 1 (old.bit i k))) = λ k hk. bits i k true (omega arith) hk (eq-eqb i i refl) in
     let left_of : (k : ℕ) → k < b_of row → cond (eqb k second) 1 (cond (eqb k first) 1 (cond (eqb k own) 1 (old.bit i k))) ≡ old.bit i k = λ k hk.
     rw (ne_eqb k second (λ e. omega arith), ne_eqb k first (λ e. omega arith), ne_eqb k own (λ e. omega arith)) refl in
     record {

@@ -1,35 +1,25 @@
 -- The walk over the PI indices ends, and gives the indices of the definition.
 use Rattle.std.proofs.Common.{◌≡◌, ℕ, zero, suc, ◌+◌, ◌-◌, ◌*◌, ◌%◌, ◌≤◌, ◌<◌, cond, ltb, List, [], ◌∷◌, map, take, filter, refl, sym, ap, ◌∙◌, arith, ⊎_elim}
 use Rattle.std.proofs.lemmas.Bool.{lt-ltb, le-ltb, cases_lt}
-use Rattle.std.proofs.Math.Nat.{mod-eq_of_lt, add-mod_right, mod-add-mod}
+use Rattle.std.proofs.lemmas.Nat.{mod_below}
+use Rattle.std.proofs.Math.Nat.{mod-eq_of_lt, mod-add-mod}
 use Rattle.std.specs.List.{range_with_len}
+use Rattle.rq_standard.proofs.PlaceLaws.{sum_past}
 use Rattle.rq_base.specs.Indices.{walk, next_below, walk_below}
 
 -- ---- the walk ends
 
 -- How far a value is from the values below p: a step of at most p goes up until it passes the modulus, a greater one is a step down.
-abbrev pub steps_to : (p m step x : ℕ) → ℕ
-steps_to p m step x = cond (ltb x p) 0 (cond (ltb p step) (x + 1 - p) (m - x))
+abbrev pub steps_left : (p m step x : ℕ) → ℕ
+steps_left p m step x = cond (ltb x p) 0 (cond (ltb p step) (x + 1 - p) (m - x))
 
-mod_below : (n m : ℕ) → 0 < m → n % m < m
-mod_below n m lt = omega arith
-
--- the sum modulo m of two numbers below it
-sum_low : (m x y : ℕ) → x + y < m → (x + y) % m ≡ x + y
-sum_low m x y lt = mod-eq_of_lt lt
-
-sum_high : (m x y : ℕ) → x < m → y < m → m ≤ x + y → (x + y) % m ≡ x + y - m
-sum_high m x y hx hy le =
-    let same : x + y ≡ (x + y - m) + m = omega arith in
-    ap (λ (n : ℕ). n % m) same ∙ add-mod_right (x + y - m) m ∙ mod-eq_of_lt (let lt : x + y - m < m = omega arith in lt)
-
-steps_below : (p m step x : ℕ) → x < p → steps_to p m step x ≡ 0
+steps_below : (p m step x : ℕ) → x < p → steps_left p m step x ≡ 0
 steps_below p m step x lt = rw (lt-ltb x p lt) refl
 
-steps_down : (p m step x : ℕ) → p ≤ x → p < step → steps_to p m step x ≡ x + 1 - p
+steps_down : (p m step x : ℕ) → p ≤ x → p < step → steps_left p m step x ≡ x + 1 - p
 steps_down p m step x le down = rw (le-ltb x p le, lt-ltb p step down) refl
 
-steps_up : (p m step x : ℕ) → p ≤ x → step ≤ p → steps_to p m step x ≡ m - x
+steps_up : (p m step x : ℕ) → p ≤ x → step ≤ p → steps_left p m step x ≡ m - x
 steps_up p m step x le up = rw (le-ltb x p le, le-ltb p step up) refl
 
 -- a modulus, a step and a bound with which the walk ends
@@ -41,27 +31,27 @@ pub record HasWalkEnds (p m step : ℕ) : Type 0 where
   pub near : m ≤ 2 * p
 
 -- each step comes nearer
-nearer : (p m step x : ℕ) → HasWalkEnds p m step → x < m → p ≤ x → steps_to p m step ((x + step) % m) < steps_to p m step x
+nearer : (p m step x : ℕ) → HasWalkEnds p m step → x < m → p ≤ x → steps_left p m step ((x + step) % m) < steps_left p m step x
 nearer p m step x ends hx le =
     ⊎_elim
     (λ (down : p < step).
-    let high : (x + step) % m ≡ x + step - m = sum_high m x step hx ends.below (omega (arith, ends.near)) in
-    let now : steps_to p m step x ≡ x + 1 - p = steps_down p m step x le down in
+    let high : (x + step) % m ≡ x + step - m = sum_past m x step hx ends.below (omega (arith, ends.near)) in
+    let now : steps_left p m step x ≡ x + 1 - p = steps_down p m step x le down in
     ⊎_elim
     (λ (there : x + step - m < p). rw (high, now, steps_below p m step (x + step - m) there) (omega arith))
     (λ (more : p ≤ x + step - m). rw (high, now, steps_down p m step (x + step - m) more down) (omega (arith, ends.below)))
     (cases_lt (x + step - m) p))
     (λ (up : step ≤ p).
-    let now : steps_to p m step x ≡ m - x = steps_up p m step x le up in
+    let now : steps_left p m step x ≡ m - x = steps_up p m step x le up in
     ⊎_elim
-    (λ (low : x + step < m). let more : p ≤ x + step = omega arith in rw (sum_low m x step low, now, steps_up p m step (x + step) more up) (omega (arith, ends.some)))
+    (λ (low : x + step < m). let more : p ≤ x + step = omega arith in rw (mod-eq_of_lt low, now, steps_up p m step (x + step) more up) (omega (arith, ends.some)))
     (λ (high : m ≤ x + step).
     let there : x + step - m < p = omega arith in
-    rw (sum_high m x step hx ends.below high, now, steps_below p m step (x + step - m) there) (omega arith))
+    rw (sum_past m x step hx ends.below high, now, steps_below p m step (x + step - m) there) (omega arith))
     (cases_lt (x + step) m))
     (cases_lt p step)
 
-steps-lt : (p m step x : ℕ) → HasWalkEnds p m step → x < m → steps_to p m step x < m
+steps-lt : (p m step x : ℕ) → HasWalkEnds p m step → x < m → steps_left p m step x < m
 steps-lt p m step x ends hx =
     ⊎_elim
     (λ (there : x < p). rw (steps_below p m step x there) (omega (arith, ends.below)))
@@ -84,7 +74,7 @@ unfolding next_below
 next_later p m step more x le = rw (le-ltb x p le) refl
 
 -- more steps than are needed change nothing
-next_enough : (p m step f g x : ℕ) → HasWalkEnds p m step → x < m → steps_to p m step x < f → steps_to p m step x < g → next_below p m step f x ≡ next_below p m step g x
+next_enough : (p m step f g x : ℕ) → HasWalkEnds p m step → x < m → steps_left p m step x < f → steps_left p m step x < g → next_below p m step f x ≡ next_below p m step g x
 next_enough p m step zero g x ends hx hf hg = absurd (omega arith)
 next_enough p m step (suc f) zero x ends hx hf hg = absurd (omega arith)
 next_enough p m step (suc f) (suc g) x ends hx hf hg =
@@ -127,7 +117,7 @@ record Skips (p m step f x n : ℕ) : Type 0 where
   enough : n ≤ left + f
   splits : below_of p (walk m step x n) ≡ next_below p m step f x ∷ below_of p (walk m step ((next_below p m step f x + step) % m) left)
 
-skips : (p m step f x n : ℕ) → HasWalkEnds p m step → x < m → steps_to p m step x < f → f ≤ n → Skips p m step f x n
+skips : (p m step f x n : ℕ) → HasWalkEnds p m step → x < m → steps_left p m step x < f → f ≤ n → Skips p m step f x n
 skips p m step zero x n ends hx hf hn = absurd (omega arith)
 skips p m step (suc f) x zero ends hx hf hn = absurd (omega arith)
 skips p m step (suc f) x (suc n) ends hx hf hn =

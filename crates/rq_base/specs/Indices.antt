@@ -19,7 +19,9 @@ walk_below p m step x (suc n) = next_below p m step m x ∷ walk_below p m step 
 
 -- the indices that are left: those of LT symbols, and then those of PI symbols
 abbrev pub indices_left : Inside → List ℕ
-indices_left s = walk s.lt_symbols s.lt_step s.lt_value s.lt_left ++ map (λ value. s.lt_symbols + value) (walk_below s.pi_symbols s.p1 s.pi_step s.pi_value s.pi_left)
+indices_left s =
+    walk s.lt_symbols s.lt_step s.lt_value s.lt_left
+    ++ map (λ value. s.lt_symbols + value) (walk_below s.pi_symbols s.p1 s.pi_step s.pi_value s.pi_left)
 
 -- steps and values are below their moduli, and P1 is at most twice P
 pub record IsWalk (s : Inside) : Type 0 where

@@ -1,10 +1,9 @@
 -- The entries of a matrix in which one row was changed.
 use Rattle.std.proofs.Common.{lit<, refl, ◌≡◌, ◌≢◌, ℕ, ◌<◌, List, [], All, length, get_or, sym, ap, ◌∙◌, arith}
 use Rattle.std.specs.Int.Bits.{bit_xor}
-use Rattle.std.proofs.lemmas.List.{get_or-set_same, get_or-set_other, get_or_default, length-map, length-set}
+use Rattle.std.proofs.lemmas.List.{get_or-map, get_or-set_same, get_or-set_other, length-map, length-set}
 use Rattle.std.proofs.lemmas.List.Elements.{All-set}
 use Rattle.std.proofs.lemmas.Simd.{get_or-zip2, length-zip2}
-use Rattle.std.proofs.Math.ListN.{get_or-map}
 use Rattle.rq_algebra.specs.FromLaws.{field_mul_is}
 use Rattle.rq_algebra.specs.Steps.{AddsRow, ScalesRow}
 use Rattle.rq_algebra.specs.Systems.{at}
@@ -29,9 +28,7 @@ module _ (table : OctetTable) (dest : ℕ) (row : List ℕ) where
 
 -- places of a row that is multiplied, or added to
 pub at-row_multiple : (c : ℕ) (xs : List ℕ) (k : ℕ) → k < length xs → c < 256 → at xs k < 256 → at (row_multiple c xs) k ≡ octets.mul c (at xs k)
-at-row_multiple c xs k l m n =
-    get_or_default (row_multiple c xs) k 0 (octet_mul c 0) (omega (arith, length-map xs (octet_mul c)))
-    ∙ get_or-map (octet_mul c) xs k 0 ∙ sym (mul_is c (at xs k) m n)
+at-row_multiple c xs k l m n = get_or-map (octet_mul c) xs k 0 0 l ∙ sym (mul_is c (at xs k) m n)
 
 module _ (table : OctetTable) (are : HasOctets table) (dest scalar : ℕ) (in_dest : dest < length table.rows) (is : scalar < 256) where
   long : (i : ℕ) → i < length table.rows → length (row_at table i) ≡ table.width
@@ -92,6 +89,3 @@ zero_adds table dest src x e = record {
 pub one-div : (x : ℕ) → x < 256 → x ≢ 0 → octet_div 1 x ≡ octets.inverse x
 unfolding octet_div
 one-div x l d = one-mul (octet_inverse x) (inverse-lt x l d)
-
-pub inverse_nonzero : (x : ℕ) → x < 256 → x ≢ 0 → octets.inverse x ≢ 0
-inverse_nonzero x l d e = cc (octets.inverse_mul x l d, e, zero_mul octets x)

@@ -1,7 +1,7 @@
 -- Rows of which some are packed bits, and the others octets.
 use Rattle.std.proofs.Common.{◌≡◌, ◌≢◌, ℕ, ◌+◌, ◌*◌, ◌%◌, ◌<◌, ◌≤◌, ◌^◌, List, [], ◌∷◌, None, Some, Option, length, set, replicate, get_or, refl, sym, ap, subst, ◌∙◌, arith, inl, inr}
 use Rattle.std.proofs.lemmas.Bool.{cases_eq}
-use Rattle.std.proofs.lemmas.List.{ext_get_or, get_or-set_same, get_or-set_other, get_or-replicate, set-set, length-replicate, length-set}
+use Rattle.std.proofs.lemmas.List.{ext_get_or, get_or-set_same, get_or-set_other, get_or-replicate, set-get_or, set-set, length-replicate, length-set}
 use Rattle.std.proofs.lemmas.List.Elements.{All-set, All-from_get_or}
 use Rattle.std.specs.Int.Bits.{bit_xor}
 use Rattle.std.proofs.lemmas.Simd.{get_or-zip2, length-zip2}
@@ -40,32 +40,28 @@ module _ (width : ℕ) (bits owns : List (List ℕ)) (same : length owns ≡ len
     in_rows : i < length (entry_rows width bits owns)
     in_rows = omega (arith, length-rows)
 
-    -- other octets, or other bits, of one row
-    pub rows_with_octets : (own : List ℕ) → entry_rows width bits (set owns i own) ≡ set (entry_rows width bits owns) i (entry_row width (get_or bits i []) own)
-    rows_with_octets own =
-        let wanted = entry_row width (get_or bits i []) own in
-        let long = length-set owns i own in
-        let len = length-zip2 (entry_row width) bits (set owns i own) (sym (long ∙ same)) in
-        ext_get_or [] (entry_rows width bits (set owns i own)) (set (entry_rows width bits owns) i wanted) (len ∙ sym (length-set (entry_rows width bits owns) i wanted ∙ length-rows)) (λ k l.
+    -- other bits and octets of one row, or either alone
+    rows_with : (symbol own : List ℕ) → entry_rows width (set bits i symbol) (set owns i own) ≡ set (entry_rows width bits owns) i (entry_row width symbol own)
+    rows_with symbol own =
+        let wanted = entry_row width symbol own in
+        let bits' = set bits i symbol in
+        let owns' = set owns i own in
+        let long = length-set bits i symbol in
+        let long' = length-set owns i own in
+        let len = length-zip2 (entry_row width) bits' owns' (long ∙ sym (long' ∙ same)) in
+        ext_get_or [] (entry_rows width bits' owns') (set (entry_rows width bits owns) i wanted) (len ∙ long ∙ sym (length-set (entry_rows width bits owns) i wanted ∙ length-rows)) (λ k l.
         let in_bits : k < length bits = omega arith in
-        get_or-zip2 (entry_row width) bits (set owns i own) k [] [] [] in_bits (omega arith)
+        get_or-zip2 (entry_row width) bits' owns' k [] [] [] (omega arith) (omega arith)
         ∙ elim (cases_eq k i) [
-          | inl e ↦ rw e (ap (entry_row width (get_or bits i [])) (get_or-set_same owns i own [] (omega arith)) ∙ sym (get_or-set_same (entry_rows width bits owns) i wanted [] in_rows))
-          | inr d ↦ ap (entry_row width (get_or bits k [])) (get_or-set_other owns i k own [] d) ∙ sym (row_at-rows k in_bits) ∙ sym (get_or-set_other (entry_rows width bits owns) i k wanted [] d)
+          | inl e ↦ rw (e, get_or-set_same bits i symbol [] inside, get_or-set_same owns i own [] (omega arith)) (sym (get_or-set_same (entry_rows width bits owns) i wanted [] in_rows))
+          | inr d ↦ rw (get_or-set_other bits i k symbol [] d, get_or-set_other owns i k own [] d) (sym (row_at-rows k in_bits) ∙ sym (get_or-set_other (entry_rows width bits owns) i k wanted [] d))
         ])
 
+    pub rows_with_octets : (own : List ℕ) → entry_rows width bits (set owns i own) ≡ set (entry_rows width bits owns) i (entry_row width (get_or bits i []) own)
+    rows_with_octets own = ap (λ (b : List (List ℕ)). entry_rows width b (set owns i own)) (sym (set-get_or bits i [])) ∙ rows_with (get_or bits i []) own
+
     pub rows_with_bits : (symbol : List ℕ) → entry_rows width (set bits i symbol) owns ≡ set (entry_rows width bits owns) i (entry_row width symbol (get_or owns i []))
-    rows_with_bits symbol =
-        let wanted = entry_row width symbol (get_or owns i []) in
-        let long = length-set bits i symbol in
-        let len = length-zip2 (entry_row width) (set bits i symbol) owns (long ∙ sym same) in
-        ext_get_or [] (entry_rows width (set bits i symbol) owns) (set (entry_rows width bits owns) i wanted) (len ∙ long ∙ sym (length-set (entry_rows width bits owns) i wanted ∙ length-rows)) (λ k l.
-        let in_bits : k < length bits = omega arith in
-        get_or-zip2 (entry_row width) (set bits i symbol) owns k [] [] [] (omega arith) (omega arith)
-        ∙ elim (cases_eq k i) [
-          | inl e ↦ rw e (ap (λ b. entry_row width b (get_or owns i [])) (get_or-set_same bits i symbol [] inside) ∙ sym (get_or-set_same (entry_rows width bits owns) i wanted [] in_rows))
-          | inr d ↦ ap (λ b. entry_row width b (get_or owns k [])) (get_or-set_other bits i k symbol [] d) ∙ sym (row_at-rows k in_bits) ∙ sym (get_or-set_other (entry_rows width bits owns) i k wanted [] d)
-        ])
+    rows_with_bits symbol = ap (entry_rows width (set bits i symbol)) (sym (set-get_or owns i [])) ∙ rows_with symbol (get_or owns i [])
 
 -- ---- entries
 
@@ -84,35 +80,30 @@ module _ (width : ℕ) (bits : Slab) (owns : List (List ℕ)) (are : AreEntries 
     pub symbol_long : length (get_or bits.values i []) ≡ bits.symbol_size
     symbol_long = are.symbols i [] inside
 
-    -- the row gets these octets, or none
-    pub owns_are : (own : List ℕ) → IsOctetRow width (entry_row width (get_or bits.values i []) own) → AreEntries width bits (set owns i own)
-    owns_are own row = record {
+    -- the row gets these bits, and these octets or none
+    rows_are : (symbol own : List ℕ) → length symbol ≡ bits.symbol_size → IsOctetRow width (entry_row width symbol own) → AreEntries width (record bits { values = set bits.values i symbol }) (set owns i own)
+    rows_are symbol own long row = record {
       fits = are.fits;
       whole = are.whole;
       room = are.room;
       vectors = are.vectors;
       order = are.order;
-      height = length-set owns i own ∙ are.height;
-      symbols = are.symbols;
-      rows = rw (rows_with_octets width bits.values owns are.height i inside own) (All-set (IsOctetRow width) (entry_rows width bits.values owns) i _ row are.rows);
+      height = length-set owns i own ∙ are.height ∙ sym (length-set bits.values i symbol);
+      symbols = All-set (λ s. length s ≡ bits.symbol_size) bits.values i symbol long are.symbols;
+      rows = rw (rows_with width bits.values owns are.height i inside symbol own) (All-set (IsOctetRow width) (entry_rows width bits.values owns) i _ row are.rows);
     }
+
+    -- octets alone
+    pub owns_are : (own : List ℕ) → IsOctetRow width (entry_row width (get_or bits.values i []) own) → AreEntries width bits (set owns i own)
+    owns_are own row = subst (λ (v : List (List ℕ)). AreEntries width (record bits { values = v }) (set owns i own)) (set-get_or bits.values i []) (rows_are (get_or bits.values i []) own symbol_long row)
 
     pub table_with_octets : (own : List ℕ) → octet_table_of width bits (set owns i own) ≡ with_row (octet_table_of width bits owns) i (entry_row width (get_or bits.values i []) own)
     table_with_octets own = ap (λ (rows : List (List ℕ)). record { width = width; rows = rows }) (rows_with_octets width bits.values owns are.height i inside own)
 
-    -- the row gets these bits
+    -- bits alone
     module _ (symbol : List ℕ) (long : length symbol ≡ bits.symbol_size) where
       pub bits_are : IsOctetRow width (entry_row width symbol (get_or owns i [])) → AreEntries width (record bits { values = set bits.values i symbol }) owns
-      bits_are row = record {
-        fits = are.fits;
-        whole = are.whole;
-        room = are.room;
-        vectors = are.vectors;
-        order = are.order;
-        height = are.height ∙ sym (length-set bits.values i symbol);
-        symbols = All-set (λ s. length s ≡ bits.symbol_size) bits.values i symbol long are.symbols;
-        rows = rw (rows_with_bits width bits.values owns are.height i inside symbol) (All-set (IsOctetRow width) (entry_rows width bits.values owns) i _ row are.rows);
-      }
+      bits_are row = subst (AreEntries width (record bits { values = set bits.values i symbol })) (set-get_or owns i []) (rows_are symbol (get_or owns i []) long row)
 
       pub table_with_bits : octet_table_of width (record bits { values = set bits.values i symbol }) owns ≡ with_row (octet_table_of width bits owns) i (entry_row width symbol (get_or owns i []))
       table_with_bits = ap (λ (rows : List (List ℕ)). record { width = width; rows = rows }) (rows_with_bits width bits.values owns are.height i inside symbol)

@@ -94,16 +94,15 @@ lane_bit x = elim (cases_eq x 0) [
   | inr d ↦ ap (λ b. cond (not b) 1 0) (ne_eqb x 0 d) ∙ sym (nonzero_bit x d)
 ]
 
-module _ (octets : List ℕ) (start : ℕ) (room : start + 32 ≤ length octets) where
-  lanes : ℕ
-  lanes = mask_l (map (top 7) (zip2 (λ a b. cond (differs a b) 255 0) (chunk start 32 octets) (replicate 32 0))) % 2 ^ 64
+-- what the comparison of a vector with zeros gives
+abbrev lanes_of : List ℕ → ℕ → ℕ
+lanes_of octets start = mask_l (map (top 7) (zip2 (λ a b. cond (differs a b) 255 0) (chunk start 32 octets) (replicate 32 0))) % 2 ^ 64
 
-  lanes_are : lanes ≡ mask_l (map (λ x. differs x 0) (chunk start 32 octets))
-  unfolding lanes
+module _ (octets : List ℕ) (start : ℕ) (room : start + 32 ≤ length octets) where
+  lanes_are : lanes_of octets start ≡ mask_l (map (λ x. differs x 0) (chunk start 32 octets))
   lanes_are = bitmask_splat w8 differs (chunk start 32 octets) 32 0 (length-chunk start 32 octets room) (omega arith)
 
-  pub lane_bits : (result : ℕ) → result ≡ mask_l (map (top 7) (zip2 (λ a b. cond (differs a b) 255 0) (chunk start 32 octets) (replicate 32 0))) % 2 ^ 64 → (k : ℕ) → k < 32 → bit_at result k ≡ bit_of (at octets (start + k))
-  unfolding lanes
+  pub lane_bits : (result : ℕ) → result ≡ lanes_of octets start → (k : ℕ) → k < 32 → bit_at result k ≡ bit_of (at octets (start + k))
   lane_bits result is k l =
       let long = length-chunk start 32 octets room in
       ap (λ n. bit_at n k) (is ∙ lanes_are)
@@ -112,8 +111,7 @@ module _ (octets : List ℕ) (start : ℕ) (room : start + 32 ≤ length octets)
       ∙ ap (λ x. cond (differs x 0) 1 0) (get_or-chunk start 32 octets k 0 l)
       ∙ lane_bit (at octets (start + k))
 
-  pub lanes_few : (result : ℕ) → result ≡ mask_l (map (top 7) (zip2 (λ a b. cond (differs a b) 255 0) (chunk start 32 octets) (replicate 32 0))) % 2 ^ 64 → result < 2 ^ 32
-  unfolding lanes
+  pub lanes_few : (result : ℕ) → result ≡ lanes_of octets start → result < 2 ^ 32
   lanes_few result is =
       let many : length (map (λ x. differs x 0) (chunk start 32 octets)) ≡ 32 = length-map (chunk start 32 octets) (λ x. differs x 0) ∙ length-chunk start 32 octets room in
       rw (is ∙ lanes_are) (rw many at (mask_l-lt (map (λ x. differs x 0) (chunk start 32 octets))))

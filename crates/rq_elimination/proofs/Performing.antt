@@ -1,60 +1,53 @@
 -- Steps that were done to rows and recorded: one, several, and what they make of rows that the table shows in part.
-use Rattle.std.proofs.Common.{◌≤◌, ◌≡◌, ◌≢◌, ℕ, ◌<◌, List, [], ◌∷◌, ◌++◌, All, Contains, length, get_or, refl, sym, ap, ◌∙◌, subst, arith, inl, inr, if◌then◌else◌, Bool, append_assoc, append-nil}
+use Rattle.std.proofs.Common.{◌≤◌, ◌≡◌, ◌≢◌, ℕ, ◌<◌, List, [], ◌∷◌, ◌++◌, All, Contains, length, get_or, refl, sym, ap, ◌∙◌, subst, arith, inl, inr, append_assoc, append-nil}
 use Rattle.std.specs.List.{range_with_len}
-use Rattle.std.proofs.lemmas.Bool.{cases_eq, eq-eqb, ne_eqb}
-use Rattle.std.proofs.lemmas.List.FromFn.{length-range_with_len, get_or-range_with_len}
-use Rattle.std.proofs.lemmas.List.Elements.{All-nil, All-cons, All-append, All-contains, All-from_get_or, Contains-get_or}
+use Rattle.std.proofs.lemmas.Bool.{cases_eq}
+use Rattle.std.proofs.lemmas.List.Elements.{All-nil, All-cons, All-append, All-contains, Contains-get_or}
 use Rattle.std.proofs.lemmas.List.{get_or_default}
 use Rattle.rq_algebra.specs.Steps.{AddsRow, ScalesRow}
 use Rattle.rq_algebra.specs.Systems.{at}
 use Rattle.rq_algebra.proofs.ChangeLaws.{find_place}
 use Rattle.rq_algebra.specs.Operations.{Operation, AddAssign, MulAssign, Fma, Reorder}
 use Rattle.rq_standard.specs.OctetField.{octets}
-use Rattle.rq_parts.specs.DenseOctetMatrix.{entry_of}
+use Rattle.rq_parts.specs.DenseOctetMatrix.{OctetTable, entry_of}
 use Rattle.rq_elimination.specs.RecordedRows.{Performs, Records, ChangesRows}
 use Rattle.rq_elimination.specs.declared.recorded.RecordedRows.{RecordedRows}
-use Rattle.rq_elimination.specs.RowSteps.{row_step, rows_after, sum_step, IsStepAmong}
-use Rattle.rq_elimination.proofs.RowStepLaws.{rows_after-same}
-use Rattle.rq_elimination.proofs.StepColumns.{changed_here, changed_other, rows_after-none, rows_after-next, rows_after-column, rows_after-apart, rows_after-zero, Contains-range}
+use Rattle.rq_elimination.specs.RowSteps.{row_step, rows_after, sum_step, AreStepsBelow, IsStepAmong}
+use Rattle.rq_elimination.proofs.Choices.{if_either}
+use Rattle.rq_elimination.proofs.StepColumns.{changed_here, changed_other, rows_after-none, rows_after-next, rows_after-column, rows_after-apart, rows_after-zero, Contains-range, below_height}
 
 -- ---- a multiple of a row is added
 
 module _ (dest src scalar : ℕ) (m : ℕ → ℕ → ℕ) where
-  sum_one : scalar ≡ 1 → sum_step dest src scalar ≡ AddAssign dest src
-  sum_one e = ap (λ (b : Bool). if b then AddAssign dest src else Fma dest src scalar) (eq-eqb scalar 1 e)
-
-  sum_other : scalar ≢ 1 → sum_step dest src scalar ≡ Fma dest src scalar
-  sum_other d = ap (λ (b : Bool). if b then AddAssign dest src else Fma dest src scalar) (ne_eqb scalar 1 d)
-
-  after_one : (step : Operation) (i k : ℕ) → sum_step dest src scalar ≡ step → rows_after octets (sum_step dest src scalar ∷ []) m i k ≡ row_step octets step m i k
-  unfolding rows_after
-  after_one step i k e = ap (λ (s : Operation). rows_after octets (s ∷ []) m i k) e
-
   pub sum_step-here : (k : ℕ) → m src k < 256 → rows_after octets (sum_step dest src scalar ∷ []) m dest k ≡ octets.add (m dest k) (octets.mul scalar (m src k))
-  unfolding row_step
-  sum_step-here k small = elim (cases_eq scalar 1) [
-    | inl e ↦ after_one (AddAssign dest src) dest k (sum_one e) ∙ changed_here m dest _ k ∙ ap (octets.add (m dest k)) (sym (octets.one_mul (m src k) small) ∙ ap (λ (s : ℕ). octets.mul s (m src k)) (sym e))
-    | inr d ↦ after_one (Fma dest src scalar) dest k (sum_other d) ∙ changed_here m dest _ k
-  ]
+  unfolding rows_after row_step
+  sum_step-here k small =
+      if_either (λ (step : Operation). rows_after octets (step ∷ []) m dest k ≡ octets.add (m dest k) (octets.mul scalar (m src k))) scalar 1 (AddAssign dest src) (Fma dest src scalar)
+      (λ e. changed_here m dest _ dest k refl ∙ ap (octets.add (m dest k)) (sym (octets.one_mul (m src k) small) ∙ ap (λ (s : ℕ). octets.mul s (m src k)) (sym e)))
+      (λ d. changed_here m dest _ dest k refl)
 
   pub sum_step-elsewhere : (i k : ℕ) → i ≢ dest → rows_after octets (sum_step dest src scalar ∷ []) m i k ≡ m i k
-  unfolding row_step
-  sum_step-elsewhere i k apart = elim (cases_eq scalar 1) [
-    | inl e ↦ after_one (AddAssign dest src) i k (sum_one e) ∙ changed_other m dest _ i k apart
-    | inr d ↦ after_one (Fma dest src scalar) i k (sum_other d) ∙ changed_other m dest _ i k apart
-  ]
+  unfolding rows_after row_step
+  sum_step-elsewhere i k apart =
+      if_either (λ (step : Operation). rows_after octets (step ∷ []) m i k ≡ m i k) scalar 1 (AddAssign dest src) (Fma dest src scalar) (λ e. changed_other m dest _ i k apart) (λ d. changed_other m dest _ i k apart)
 
-  pub sum_among : (rows : List ℕ) → Contains rows dest → Contains rows src → src ≢ dest → IsStepAmong octets rows (sum_step dest src scalar)
-  sum_among rows has_dest has_src apart = elim (cases_eq scalar 1) [
-    | inl e ↦ subst (IsStepAmong octets rows) (sym (sum_one e)) (has_dest, has_src, apart)
-    | inr d ↦ subst (IsStepAmong octets rows) (sym (sum_other d)) (has_dest, has_src, apart)
-  ]
+-- after other steps
+module _ (dest src scalar : ℕ) (m : ℕ → ℕ → ℕ) (steps : List Operation) where
+  pub sum_after-here : (k : ℕ) → rows_after octets steps m src k < 256
+      → rows_after octets (steps ++ sum_step dest src scalar ∷ []) m dest k ≡ octets.add (rows_after octets steps m dest k) (octets.mul scalar (rows_after octets steps m src k))
+  sum_after-here k small = rows_after-next octets steps (sum_step dest src scalar ∷ []) m dest k ∙ sum_step-here dest src scalar (rows_after octets steps m) k small
+
+  pub sum_after-elsewhere : (i k : ℕ) → i ≢ dest → rows_after octets (steps ++ sum_step dest src scalar ∷ []) m i k ≡ rows_after octets steps m i k
+  sum_after-elsewhere i k apart = rows_after-next octets steps (sum_step dest src scalar ∷ []) m i k ∙ sum_step-elsewhere dest src scalar (rows_after octets steps m) i k apart
+
+pub sum_among : (dest src scalar : ℕ) (rows : List ℕ) → Contains rows dest → Contains rows src → src ≢ dest → IsStepAmong octets rows (sum_step dest src scalar)
+sum_among dest src scalar rows has_dest has_src apart = if_either (IsStepAmong octets rows) scalar 1 (AddAssign dest src) (Fma dest src scalar) (λ e. (has_dest, has_src, apart)) (λ d. (has_dest, has_src, apart))
 
 -- a row is multiplied
 module _ (dest scalar : ℕ) (m : ℕ → ℕ → ℕ) where
   pub scaling-here : (k : ℕ) → rows_after octets (MulAssign dest scalar ∷ []) m dest k ≡ octets.mul scalar (m dest k)
   unfolding rows_after row_step
-  scaling-here k = changed_here m dest _ k
+  scaling-here k = changed_here m dest _ dest k refl
 
   pub scaling-elsewhere : (i k : ℕ) → i ≢ dest → rows_after octets (MulAssign dest scalar ∷ []) m i k ≡ m i k
   unfolding rows_after row_step
@@ -63,13 +56,13 @@ module _ (dest scalar : ℕ) (m : ℕ → ℕ → ℕ) where
 -- ---- one step that was done and recorded
 
 module _ (old new : RecordedRows) where
-  pub all_one : (step : Operation) → IsStepAmong octets (range_with_len 0 (length old.table.rows)) step → All (IsStepAmong octets (range_with_len 0 (length old.table.rows))) (step ∷ [])
+  pub all_one : (step : Operation) → IsStepAmong octets (range_with_len 0 (length old.table.rows)) step → AreStepsBelow octets (length old.table.rows) (step ∷ [])
   all_one step is = let among = IsStepAmong octets (range_with_len 0 (length old.table.rows)) in All-cons among step [] is (All-nil among)
 
-  pub one_sum : (dest src scalar : ℕ) → src ≢ dest → dest < length old.table.rows → src < length old.table.rows → All (IsStepAmong octets (range_with_len 0 (length old.table.rows))) (sum_step dest src scalar ∷ [])
+  pub one_sum : (dest src scalar : ℕ) → src ≢ dest → dest < length old.table.rows → src < length old.table.rows → AreStepsBelow octets (length old.table.rows) (sum_step dest src scalar ∷ [])
   one_sum dest src scalar apart in_dest in_src =
       let rows = range_with_len 0 (length old.table.rows) in
-      all_one (sum_step dest src scalar) (sum_among dest src scalar (entry_of old.table) rows (Contains-range (length old.table.rows) dest in_dest) (Contains-range (length old.table.rows) src in_src) apart)
+      all_one (sum_step dest src scalar) (sum_among dest src scalar rows (Contains-range (length old.table.rows) dest in_dest) (Contains-range (length old.table.rows) src in_src) apart)
 
   module _ (width : new.table.width ≡ old.table.width) (height : length new.table.rows ≡ length old.table.rows) where
     pub performs_sum : (dest src scalar : ℕ) → new.operations ≡ old.operations ++ sum_step dest src scalar ∷ [] → src ≢ dest → dest < length old.table.rows → src < length old.table.rows
@@ -125,26 +118,31 @@ performs_none rows = record {
   entries = λ i k l m. sym (rows_after-none octets (entry_of rows.table) i k);
 }
 
-pub below_range : (height : ℕ) → All (λ r. r < height) (range_with_len 0 height)
-below_range height = All-from_get_or (λ r. r < height) (range_with_len 0 height) 0 (λ i l. let n = length-range_with_len 0 height in let e = get_or-range_with_len 0 height i 0 (omega (arith, n)) in omega (arith, n))
-
 module _ (steps more : List Operation) (first second third : RecordedRows) where
+  recorded_more : second.operations ≡ first.operations ++ steps → third.operations ≡ second.operations ++ more → third.operations ≡ first.operations ++ (steps ++ more)
+  recorded_more done next = next ∙ ap (λ (l : List Operation). l ++ more) done ∙ append_assoc first.operations steps more
+
+  among_more : (height : ℕ) → height ≡ length first.table.rows → AreStepsBelow octets (length first.table.rows) steps → AreStepsBelow octets height more → AreStepsBelow octets (length first.table.rows) (steps ++ more)
+  among_more height same done next = All-append (IsStepAmong octets (range_with_len 0 (length first.table.rows))) steps more done (rw same at next)
+
   pub performs_more : Performs steps first second → Performs more second third → Performs (steps ++ more) first third
   performs_more done next = record {
-    recorded = next.recorded ∙ ap (λ (l : List Operation). l ++ more) done.recorded ∙ append_assoc first.operations steps more;
-    among = All-append (IsStepAmong octets (range_with_len 0 (length first.table.rows))) steps more done.among (rw done.height at next.among);
+    recorded = recorded_more done.recorded next.recorded;
+    among = among_more (length second.table.rows) done.height done.among next.among;
     width = next.width ∙ done.width;
     height = next.height ∙ done.height;
     entries = λ i k l m.
+        let height = length first.table.rows in
         next.entries i k (rw done.height l) (rw done.width m)
-        ∙ rows_after-same octets (length first.table.rows) first.table.width (range_with_len 0 (length first.table.rows)) (below_range (length first.table.rows)) more (entry_of second.table) (rows_after octets steps (entry_of first.table)) (rw done.height at next.among) done.entries i k l m
+        ∙ rows_after-column octets (range_with_len 0 height) more (entry_of second.table) (rows_after octets steps (entry_of first.table)) k k (rw done.height at next.among)
+        (λ r c. done.entries r k (below_height height r c) m) i (Contains-range height i l)
         ∙ sym (rows_after-next octets steps more (entry_of first.table) i k);
   }
 
   pub records_more : Records steps first second → Records more second third → Records (steps ++ more) first third
   records_more done next = record {
-    recorded = next.recorded ∙ ap (λ (l : List Operation). l ++ more) done.recorded ∙ append_assoc first.operations steps more;
-    among = All-append (IsStepAmong octets (range_with_len 0 (length first.table.rows))) steps more done.among (rw done.table at next.among);
+    recorded = recorded_more done.recorded next.recorded;
+    among = among_more (length second.table.rows) (ap (λ (t : OctetTable). length t.rows) done.table) done.among next.among;
     table = next.table ∙ done.table;
   }
 
@@ -185,7 +183,7 @@ pub changes_sum : (old new : RecordedRows) (dest src scalar : ℕ) → src ≢ d
 changes_sum old new dest src scalar apart performs = record {
   steps = sum_step dest src scalar ∷ [];
   performs = performs;
-  within = let rows : List ℕ = dest ∷ src ∷ [] in All-cons (IsStepAmong octets rows) (sum_step dest src scalar) [] (sum_among dest src scalar (entry_of old.table) rows (Contains-get_or rows 0 0 (omega arith)) (Contains-get_or rows 1 0 (omega arith)) apart) (All-nil (IsStepAmong octets rows));
+  within = let rows : List ℕ = dest ∷ src ∷ [] in All-cons (IsStepAmong octets rows) (sum_step dest src scalar) [] (sum_among dest src scalar rows (Contains-get_or rows 0 0 (omega arith)) (Contains-get_or rows 1 0 (omega arith)) apart) (All-nil (IsStepAmong octets rows));
 }
 
 pub changes_scaling : (old new : RecordedRows) (dest scalar : ℕ) → scalar < 256 → scalar ≢ 0 → Performs (MulAssign dest scalar ∷ []) old new → ChangesRows (dest ∷ []) old new
@@ -221,4 +219,4 @@ shows_after steps old new m column count fits performs shows i f l n =
     let height = length old.table.rows in
     performs.entries i f l (omega arith)
     ∙ rows_after-column octets (range_with_len 0 height) steps (entry_of old.table) m f (column f) performs.among
-    (λ r c. shows r f (All-contains (λ (q : ℕ). q < height) (range_with_len 0 height) r (below_range height) c) n) i (Contains-range height i l)
+    (λ r c. shows r f (below_height height r c) n) i (Contains-range height i l)

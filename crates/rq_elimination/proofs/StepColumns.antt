@@ -2,7 +2,7 @@
 use Rattle.std.proofs.Common.{◌≡◌, ◌≢◌, ℕ, ◌+◌, ◌<◌, List, [], ◌∷◌, ◌++◌, All, Contains, length, refl, sym, ap, ◌∙◌, subst, arith, inl, inr}
 use Rattle.std.specs.List.{range_with_len}
 use Rattle.std.proofs.lemmas.Bool.{cases_eq}
-use Rattle.std.proofs.lemmas.List.Elements.{All-head, All-tail, Contains-get_or}
+use Rattle.std.proofs.lemmas.List.Elements.{All-head, All-tail, All-contains, All-from_get_or, Contains-get_or}
 use Rattle.std.proofs.lemmas.List.FromFn.{length-range_with_len, get_or-range_with_len}
 use Rattle.rq_algebra.specs.Field.{Field}
 use Rattle.rq_algebra.specs.Operations.{Operation, AddAssign, MulAssign, Fma, Reorder}
@@ -12,8 +12,8 @@ use Rattle.rq_algebra.proofs.Sums.{mul_zero}
 use Rattle.rq_elimination.specs.RowSteps.{row_step, rows_after, IsStepAmong}
 
 -- an entry of the row that was changed, and of another one
-pub changed_here : (a : ℕ → ℕ → ℕ) (dest : ℕ) (f : ℕ → ℕ) (k : ℕ) → with_at a dest f dest k ≡ f k
-changed_here a dest f k = ap (λ (row : ℕ → ℕ). row k) (with_at_same a dest f dest refl)
+pub changed_here : (a : ℕ → ℕ → ℕ) (dest : ℕ) (f : ℕ → ℕ) (i k : ℕ) → i ≡ dest → with_at a dest f i k ≡ f k
+changed_here a dest f i k e = ap (λ (row : ℕ → ℕ). row k) (with_at_same a dest f i e)
 
 pub changed_other : (a : ℕ → ℕ → ℕ) (dest : ℕ) (f : ℕ → ℕ) (i k : ℕ) → i ≢ dest → with_at a dest f i k ≡ a i k
 changed_other a dest f i k d = ap (λ (row : ℕ → ℕ). row k) (with_at_other a dest f i d)
@@ -27,46 +27,44 @@ unfolding rows_after
 rows_after-next F [] second a i k = refl
 rows_after-next F (step ∷ first) second a i k = unfold rows_after in rows_after-next F first second (row_step F step a) i k
 
+-- sums and multiples of rows that are alike are alike
+pub record IsLinearRelation (F : Field) (Alike : (ℕ → ℕ) → (ℕ → ℕ) → Type 0) : Type 0 where
+  pub sums : (f g h j : ℕ → ℕ) → Alike f g → Alike h j → Alike (λ k. F.add (f k) (h k)) (λ k. F.add (g k) (j k))
+  pub multiples : (scalar : ℕ) (f g : ℕ → ℕ) → Alike f g → Alike (λ k. F.mul scalar (f k)) (λ k. F.mul scalar (g k))
+
 module _ (F : Field) (rows : List ℕ) where
+  -- listed rows that are alike in two systems stay so
+  module _ (Alike : (ℕ → ℕ) → (ℕ → ℕ) → Type 0) (linear : IsLinearRelation F Alike) where
+    abbrev AreAlike : (ℕ → ℕ → ℕ) → (ℕ → ℕ → ℕ) → Type 0
+    AreAlike a b = (i : ℕ) → Contains rows i → Alike (a i) (b i)
+
+    changed_alike : (a b : ℕ → ℕ → ℕ) (dest : ℕ) (f g : ℕ → ℕ) → AreAlike a b → Alike f g → AreAlike (with_at a dest f) (with_at b dest g)
+    changed_alike a b dest f g alike here i c = elim (cases_eq i dest) [
+      | inl e ↦ rw (with_at_same a dest f i e, with_at_same b dest g i e) here
+      | inr d ↦ rw (with_at_other a dest f i d, with_at_other b dest g i d) (alike i c)
+    ]
+
+    pub row_step-alike : (step : Operation) (a b : ℕ → ℕ → ℕ) → IsStepAmong F rows step → AreAlike a b → AreAlike (row_step F step a) (row_step F step b)
+    unfolding row_step
+    row_step-alike (AddAssign dest src) a b is alike = changed_alike a b dest _ _ alike (linear.sums (a dest) (b dest) (a src) (b src) (alike dest is.0) (alike src is.1))
+    row_step-alike (MulAssign dest scalar) a b is alike = changed_alike a b dest _ _ alike (linear.multiples scalar (a dest) (b dest) (alike dest is.0))
+    row_step-alike (Fma dest src scalar) a b is alike =
+        changed_alike a b dest _ _ alike (linear.sums (a dest) (b dest) (λ k. F.mul scalar (a src k)) (λ k. F.mul scalar (b src k)) (alike dest is.0) (linear.multiples scalar (a src) (b src) (alike src is.1)))
+    row_step-alike (Reorder order) a b is alike = alike
+
+    pub rows_after-alike : (steps : List Operation) (a b : ℕ → ℕ → ℕ) → All (IsStepAmong F rows) steps → AreAlike a b → AreAlike (rows_after F steps a) (rows_after F steps b)
+    unfolding rows_after
+    rows_after-alike [] a b among alike = alike
+    rows_after-alike (step ∷ steps) a b among alike =
+        unfold rows_after in rows_after-alike steps (row_step F step a) (row_step F step b) (All-tail (IsStepAmong F rows) step steps among) (row_step-alike step a b (All-head (IsStepAmong F rows) step steps among) alike)
+
   -- columns k and l of two systems are the same in the listed rows
-  changed_same : (a b : ℕ → ℕ → ℕ) (k l dest : ℕ) (f g : ℕ → ℕ) → ((i : ℕ) → Contains rows i → a i k ≡ b i l) → f k ≡ g l → (i : ℕ) → Contains rows i → with_at a dest f i k ≡ with_at b dest g i l
-  changed_same a b k l dest f g same here i c = elim (cases_eq i dest) [
-    | inl e ↦ ap (λ (row : ℕ → ℕ). row k) (with_at_same a dest f i e) ∙ here ∙ ap (λ (row : ℕ → ℕ). row l) (sym (with_at_same b dest g i e))
-    | inr d ↦ changed_other a dest f i k d ∙ same i c ∙ sym (changed_other b dest g i l d)
-  ]
-
-  step_column : (step : Operation) (a b : ℕ → ℕ → ℕ) (k l : ℕ) → IsStepAmong F rows step → ((i : ℕ) → Contains rows i → a i k ≡ b i l) → (i : ℕ) → Contains rows i → row_step F step a i k ≡ row_step F step b i l
-  unfolding row_step
-  step_column (AddAssign dest src) a b k l is same = changed_same a b k l dest _ _ same (cc (same dest is.0, same src is.1))
-  step_column (MulAssign dest scalar) a b k l is same = changed_same a b k l dest _ _ same (cc (same dest is.0))
-  step_column (Fma dest src scalar) a b k l is same = changed_same a b k l dest _ _ same (cc (same dest is.0, same src is.1))
-  step_column (Reorder order) a b k l is same = same
-
   pub rows_after-column : (steps : List Operation) (a b : ℕ → ℕ → ℕ) (k l : ℕ) → All (IsStepAmong F rows) steps → ((i : ℕ) → Contains rows i → a i k ≡ b i l) → (i : ℕ) → Contains rows i → rows_after F steps a i k ≡ rows_after F steps b i l
-  unfolding rows_after
-  rows_after-column [] a b k l among same = same
-  rows_after-column (step ∷ steps) a b k l among same =
-      unfold rows_after in rows_after-column steps (row_step F step a) (row_step F step b) k l (All-tail (IsStepAmong F rows) step steps among) (step_column step a b k l (All-head (IsStepAmong F rows) step steps among) same)
+  rows_after-column steps a b k l among same = rows_after-alike (λ f g. f k ≡ g l) (record { sums = λ f g h j e d. cc (e, d); multiples = λ scalar f g e. ap (F.mul scalar) e }) steps a b among same
 
   -- a column that is zero in the listed rows stays so
-  changed_zero : (a : ℕ → ℕ → ℕ) (k dest : ℕ) (f : ℕ → ℕ) → ((i : ℕ) → Contains rows i → a i k ≡ 0) → f k ≡ 0 → (i : ℕ) → Contains rows i → with_at a dest f i k ≡ 0
-  changed_zero a k dest f zeros here i c = elim (cases_eq i dest) [
-    | inl e ↦ ap (λ (row : ℕ → ℕ). row k) (with_at_same a dest f i e) ∙ here
-    | inr d ↦ changed_other a dest f i k d ∙ zeros i c
-  ]
-
-  step_zero : (step : Operation) (a : ℕ → ℕ → ℕ) (k : ℕ) → IsStepAmong F rows step → ((i : ℕ) → Contains rows i → a i k ≡ 0) → (i : ℕ) → Contains rows i → row_step F step a i k ≡ 0
-  unfolding row_step
-  step_zero (AddAssign dest src) a k is zeros = changed_zero a k dest _ zeros (cc (zeros dest is.0, zeros src is.1, F.zero_add 0))
-  step_zero (MulAssign dest scalar) a k is zeros = changed_zero a k dest _ zeros (cc (zeros dest is.0, mul_zero F scalar))
-  step_zero (Fma dest src scalar) a k is zeros = changed_zero a k dest _ zeros (cc (zeros dest is.0, zeros src is.1, mul_zero F scalar, F.zero_add 0))
-  step_zero (Reorder order) a k is zeros = zeros
-
   pub rows_after-zero : (steps : List Operation) (a : ℕ → ℕ → ℕ) (k : ℕ) → All (IsStepAmong F rows) steps → ((i : ℕ) → Contains rows i → a i k ≡ 0) → (i : ℕ) → Contains rows i → rows_after F steps a i k ≡ 0
-  unfolding rows_after
-  rows_after-zero [] a k among zeros = zeros
-  rows_after-zero (step ∷ steps) a k among zeros =
-      unfold rows_after in rows_after-zero steps (row_step F step a) k (All-tail (IsStepAmong F rows) step steps among) (step_zero step a k (All-head (IsStepAmong F rows) step steps among) zeros)
+  rows_after-zero steps a k among zeros = rows_after-alike (λ f g. f k ≡ 0) (record { sums = λ f g h j e d. cc (e, d, F.zero_add 0); multiples = λ scalar f g e. cc (e, mul_zero F scalar) }) steps a a among zeros
 
   -- rows that are not listed stay
   step_apart : (step : Operation) (a : ℕ → ℕ → ℕ) (i k : ℕ) → IsStepAmong F rows step → (Contains rows i → ⊥) → row_step F step a i k ≡ a i k
@@ -83,6 +81,10 @@ module _ (F : Field) (rows : List ℕ) where
       unfold rows_after in rows_after-apart steps (row_step F step a) i k (All-tail (IsStepAmong F rows) step steps among) out ∙ step_apart step a i k (All-head (IsStepAmong F rows) step steps among) out
 
 -- all rows below a height
+pub below_height : (height r : ℕ) → Contains (range_with_len 0 height) r → r < height
+below_height height r c =
+    All-contains (λ i. i < height) (range_with_len 0 height) r (All-from_get_or (λ i. i < height) (range_with_len 0 height) 0 (λ i l. let n = length-range_with_len 0 height in let e = get_or-range_with_len 0 height i 0 (omega (arith, n)) in omega (arith, n))) c
+
 pub Contains-range : (height r : ℕ) → r < height → Contains (range_with_len 0 height) r
 Contains-range height r l =
     let inside : r < length (range_with_len 0 height) = omega (arith, length-range_with_len 0 height) in

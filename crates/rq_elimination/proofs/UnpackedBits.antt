@@ -8,14 +8,13 @@ use Rattle.std.specs.Prelude.{Bool, nat_lt}
 use Rattle.std.specs.Bool.{then_some}
 use Rattle.std.proofs.lemmas.Bool.Decides.{nat_tests}
 use Rattle.std.proofs.lemmas.Bool.{cases_eq, cases_lt}
-use Rattle.std.proofs.lemmas.List.{ext_get_or, get_or-set_same, get_or-set_other, get_or-replicate, get_or_default, get_or_past, length-map, length-replicate, length-set}
+use Rattle.std.proofs.lemmas.List.{ext_get_or, get_or-map, get_or-set_same, get_or-set_other, get_or-replicate, get_or_past, length-map, length-replicate, length-set}
 use Rattle.std.proofs.lemmas.List.Elements.{All-from_get_or}
 use Rattle.std.proofs.lemmas.List.FromFn.{length-map-range_with_len, get_or-map-range_with_len}
 use Rattle.std.proofs.lemmas.Nat.Bits.{bit_at-lt, bit_at-zero, bit_at_xor, bit_at_set_same, bit_at_set_other, bit_at_above, bit_at-trailing_zeros}
 use Rattle.std.proofs.lemmas.Simd.{length-chunk, get_or-chunk, get_or-zip2, length-zip2}
 use lib.Lanes.{chunk}
 use Rattle.std.specs.List.{range_with_len}
-use Rattle.std.proofs.Math.ListN.{get_or-map}
 use Rattle.rq_algebra.specs.Systems.{at}
 use Rattle.rq_standard.specs.Octets.{octet_mul}
 use Rattle.rq_standard.specs.OctetFacts.{one-mul}
@@ -25,9 +24,6 @@ use Rattle.rq_bytes.proofs.BitLanes.{bytes_bits}
 use Rattle.rq_parts.specs.DenseOctetMatrix.{IsOctetRow}
 use Rattle.rq_parts.proofs.BitPairLaws.{bit_at-shifted, sum_of_bits}
 use Rattle.rq_elimination.specs.InactiveEntries.{IsNextEntry, octets_of_bits}
-
-map_at : (f : ℕ → ℕ) (xs : List ℕ) (k : ℕ) → k < length xs → at (map f xs) k ≡ f (at xs k)
-map_at f xs k l = get_or_default (map f xs) k 0 (f 0) (omega (arith, length-map xs f)) ∙ get_or-map f xs k 0
 
 pub length-octets_of_bits : (n : ℕ) (bits : List ℕ) → length (octets_of_bits n bits) ≡ n
 length-octets_of_bits n bits = length-map-range_with_len (octet_bit bits) 0 n
@@ -135,7 +131,7 @@ block_bits scalar n first bits aligned fits room =
     ap (λ x. bit_at x (i % 8)) (get_or-chunk (first / 8) 4 bits (i / 8) 0 quarter ∙ ap (λ k. get_or bits k 0) octet)
     ∙ ap (bit_at (get_or bits ((first + i) / 8) 0)) place
     ∙ sym (get_or-chunk first 32 (octets_of_bits n bits) i 0 lt ∙ at-octets_of_bits n bits (first + i) (omega arith)))
-    ∙ sym (map_at (octet_mul scalar) (chunk first 32 (octets_of_bits n bits)) i (omega arith)))
+    ∙ sym (get_or-map (octet_mul scalar) (chunk first 32 (octets_of_bits n bits)) i 0 0 (omega arith)))
 
 -- the bits, added to zeros
 pub bits_among_zeros : (n : ℕ) (bits sum : List ℕ) → sum ≡ replicate n 0 → row_sum sum (row_multiple 1 (octets_of_bits (length sum) bits)) ≡ octets_of_bits n bits
@@ -152,7 +148,7 @@ bits_among_zeros n bits sum is =
     ∙ ap (λ (s : List ℕ). bit_xor (at s k) (at (row_multiple 1 row) k)) is
     ∙ ap (λ x. bit_xor x (at (row_multiple 1 row) k)) (get_or-replicate n k 0 0 l)
     ∙ xor_zero_l (at (row_multiple 1 row) k)
-    ∙ map_at (octet_mul 1) row k (omega (arith, len))
+    ∙ get_or-map (octet_mul 1) row k 0 0 (omega (arith, len))
     ∙ ap (octet_mul 1) (at-octets_of_bits (length sum) bits k in_sum)
     ∙ one-mul (octet_bit bits k) (omega arith)))
 

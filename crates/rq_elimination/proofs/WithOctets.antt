@@ -1,8 +1,8 @@
 -- Rows whose first octets are those that another one has in columns.
-use Rattle.std.proofs.Common.{◌≡◌, ℕ, ◌+◌, ◌<◌, ◌≤◌, List, [], ◌∷◌, ◌++◌, length, map, take, drop, set, sym, ap, ◌∙◌, arith}
+use Rattle.std.proofs.Common.{◌≡◌, ℕ, ◌+◌, ◌-◌, ◌<◌, ◌≤◌, List, [], ◌∷◌, ◌++◌, length, map, take, drop, set, sym, ap, ◌∙◌, arith}
 use Rattle.std.proofs.Math.ListN.{get_or-append}
 use Rattle.std.proofs.Math.Seq.{append_snoc, set-append_seam}
-use Rattle.std.proofs.lemmas.List.{drop_more, ext_get_or, get_or-map, length-append, length-drop, length-map, length-take-le, map-append, take_more}
+use Rattle.std.proofs.lemmas.List.{drop_more, ext_get_or, get_or-append_right, get_or-drop, get_or-map, length-append, length-drop, length-map, length-take-le, map-append, take_more}
 use Rattle.rq_algebra.specs.Systems.{at}
 use Rattle.rq_elimination.specs.InactiveEntries.{with_column_octets}
 
@@ -29,3 +29,8 @@ module _ (octets columns row : List ℕ) where
 
   pub octet_first : (f : ℕ) → f < length columns → at (with_column_octets octets columns row) f ≡ at octets (at columns f)
   octet_first f l = get_or-append (map (at octets) columns) (drop (length columns) row) 0 f (omega (arith, length-map columns (at octets))) ∙ get_or-map (at octets) columns f 0 0 l
+
+  pub octet_behind : (k : ℕ) → length columns ≤ k → at (with_column_octets octets columns row) k ≡ at row k
+  octet_behind k l =
+      let there : length columns + (k - length columns) ≡ k = omega arith in
+      get_or-append_right (map (at octets) columns) (drop (length columns) row) (length columns) k 0 (length-map columns (at octets)) l ∙ get_or-drop (length columns) row (k - length columns) 0 ∙ ap (at row) there

@@ -1,11 +1,10 @@
 -- Steps on rows that are worked on, and what was recorded for them.
 use Rattle.std.specs.Prelude.{◌≡◌, ℕ, ◌+◌, ◌<◌, ◌≤◌, List, ◌++◌, All, length}
-use Rattle.std.specs.List.{range_with_len}
 use Rattle.rq_algebra.specs.Operations.{Operation}
 use Rattle.rq_standard.specs.OctetField.{octets}
 use Rattle.rq_parts.specs.DenseOctetMatrix.{entry_of}
 use Rattle.rq_elimination.specs.OperationCounts.{additions}
-use Rattle.rq_elimination.specs.RowSteps.{rows_after, IsStepAmong}
+use Rattle.rq_elimination.specs.RowSteps.{rows_after, AreStepsBelow, IsStepAmong}
 use Rattle.rq_elimination.specs.declared.recorded.RecordedRows.{RecordedRows}
 
 -- at most n additions more were recorded
@@ -15,7 +14,7 @@ AddsAtMost n old new = additions new.operations ≤ additions old.operations + n
 -- these steps were done to the rows, and were recorded
 pub record Performs (steps : List Operation) (old new : RecordedRows) : Type 0 where
   pub recorded : new.operations ≡ old.operations ++ steps
-  pub among : All (IsStepAmong octets (range_with_len 0 (length old.table.rows))) steps
+  pub among : AreStepsBelow octets (length old.table.rows) steps
   pub width : new.table.width ≡ old.table.width
   pub height : length new.table.rows ≡ length old.table.rows
   pub entries : (i k : ℕ) → i < length old.table.rows → k < old.table.width → entry_of new.table i k ≡ rows_after octets steps (entry_of old.table) i k
@@ -23,7 +22,7 @@ pub record Performs (steps : List Operation) (old new : RecordedRows) : Type 0 w
 -- these steps were recorded alone: the table still shows the rows as they were
 pub record Records (steps : List Operation) (old new : RecordedRows) : Type 0 where
   pub recorded : new.operations ≡ old.operations ++ steps
-  pub among : All (IsStepAmong octets (range_with_len 0 (length old.table.rows))) steps
+  pub among : AreStepsBelow octets (length old.table.rows) steps
   pub table : new.table ≡ old.table
 
 -- steps among some of the rows were done and recorded

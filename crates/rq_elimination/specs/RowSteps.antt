@@ -1,5 +1,6 @@
 -- Operations done to the rows of a matrix, as they are recorded for the values.
-use Rattle.std.specs.Prelude.{◌≡◌, ◌≢◌, ℕ, ◌<◌, ◌≤◌, ◌==◌, if◌then◌else◌, List, [], ◌∷◌, Contains, length}
+use Rattle.std.specs.Prelude.{◌≡◌, ◌≢◌, ℕ, ◌<◌, ◌≤◌, ◌==◌, if◌then◌else◌, List, [], ◌∷◌, All, Contains, length}
+use Rattle.std.specs.List.{range_with_len}
 use Rattle.rq_algebra.specs.Field.{Field}
 use Rattle.rq_algebra.specs.Arrangements.{ArePlaces}
 use Rattle.rq_algebra.specs.Steps.{AddsRow, ScalesRow}
@@ -41,6 +42,10 @@ IsStepAmong F rows (AddAssign dest src) = Contains rows dest × Contains rows sr
 IsStepAmong F rows (MulAssign dest scalar) = Contains rows dest × (scalar < F.size) × (scalar ≢ 0)
 IsStepAmong F rows (Fma dest src scalar) = Contains rows dest × Contains rows src × (src ≢ dest)
 IsStepAmong F rows (Reorder order) = ⊥
+
+-- steps among all rows below a height
+abbrev pub AreStepsBelow : Field → ℕ → List Operation → Type 0
+AreStepsBelow F height steps = All (IsStepAmong F (range_with_len 0 height)) steps
 
 -- a row is multiplied so that it has 1 in a column
 abbrev pub ScalesToOne : ℕ → ℕ → OctetTable → OctetTable → Type 0

@@ -2,4 +2,3 @@ pub mod FreeColumns
 pub mod AllRows
 pub mod ReducedRows
 pub mod ZeroValues
-pub mod WrittenRows

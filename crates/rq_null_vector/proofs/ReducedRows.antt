@@ -1,6 +1,5 @@
 -- One turn of an elimination that gives columns pivots from the left on.
-use Rattle.std.proofs.Common.{◌≡◌, ◌≢◌, ℕ, ◌+◌, ◌<◌, ◌≤◌, List, length, arith}
-use Rattle.std.specs.List.{SwappedAt}
+use Rattle.std.proofs.Common.{◌≢◌, ℕ, ◌+◌, ◌<◌, ◌≤◌, List, length, arith}
 use Rattle.rq_algebra.specs.Steps.{ScalesRow}
 use Rattle.rq_algebra.specs.Systems.{at}
 use Rattle.rq_algebra.specs.PivotColumns.{ClearsColumn}
@@ -9,14 +8,13 @@ use Rattle.rq_standard.specs.OctetField.{octets}
 use Rattle.rq_parts.specs.DenseOctetMatrix.{OctetTable, entry_of, HasOctets}
 use Rattle.rq_elimination.specs.RowSteps.{AreRows}
 use Rattle.rq_null_vector.specs.Reduced.{IsReduced}
-use Rattle.rq_elimination.proofs.SwappedRows.{at-swapped}
+use Rattle.rq_elimination.proofs.SwappedRows.{Exchanges, at-swapped}
 
-module _ (rows swapped : List ℕ) (p q : ℕ) (swaps : SwappedAt rows swapped p q) (long : length swapped ≡ length rows) (in_p : p < length rows) (in_q : q < length rows) where
-  pub swapped_reduced : (first done : ℕ) (table : OctetTable) → done ≤ p → done ≤ q → IsReduced rows first done table → IsReduced swapped first done table
-  swapped_reduced first done table left_p left_q reduced = record {
-    fits = rw long reduced.fits;
-    pivots = rw long (first_pivots_rows (length rows) done (entry_of table) (at rows) (λ k. first + k) reduced.pivots p q left_p left_q (at swapped) in_p in_q reduced.fits (λ i l. at-swapped rows swapped p q swaps long in_p in_q i));
-  }
+pub swapped_reduced : {rows swapped : List ℕ} {p q : ℕ} → Exchanges rows swapped p q → (first done : ℕ) (table : OctetTable) → done ≤ p → done ≤ q → IsReduced rows first done table → IsReduced swapped first done table
+swapped_reduced {rows} {swapped} {p} {q} exchanges first done table left_p left_q reduced = record {
+  fits = rw exchanges.len reduced.fits;
+  pivots = rw exchanges.len (first_pivots_rows (length rows) done (entry_of table) (at rows) (λ k. first + k) reduced.pivots p q left_p left_q (at swapped) exchanges.left exchanges.right reduced.fits (λ i l. at-swapped exchanges i));
+}
 
 -- the row that stands at `done` is scaled, and clears the column in the others
 pub reduced_more : (rows : List ℕ) (first done : ℕ) (a b c : OctetTable) → AreRows rows a → done < length rows → first + done < a.width → HasOctets a → entry_of a (at rows done) (first + done) ≢ 0

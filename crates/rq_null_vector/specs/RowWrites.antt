@@ -1,18 +1,9 @@
--- Rows of a matrix of octets that are written place by place.
-use Rattle.std.specs.Prelude.{◌≡◌, ◌≢◌, ℕ, ◌<◌, ◌≤◌, ◌⊎◌, length}
+-- Rows of a matrix of octets that are those of a matrix of bits, or of octets.
+use Rattle.std.specs.Prelude.{◌≡◌, ℕ, ◌<◌, length}
 use Rattle.rq_standard.specs.BitTable.{BitTable}
 use Rattle.rq_standard.specs.ConstraintMatrix.{with_octet_rows}
 use Rattle.rq_parts.specs.DenseOctetMatrix.{OctetTable, entry_of, HasOctets}
 use Rattle.rq_elimination.specs.LeadingRows.{HasLeading}
-
--- the entries of one row from `start` on and before `end` are these, and the others are as they were
-pub record WritesRow (row start end : ℕ) (wanted : ℕ → ℕ) (old new : OctetTable) : Type 0 where
-  pub width : new.width ≡ old.width
-  pub height : length new.rows ≡ length old.rows
-  pub octets : HasOctets new
-  pub here : (k : ℕ) → start ≤ k → k < end → entry_of new row k ≡ wanted k
-  pub beside : (k : ℕ) → (k < start) ⊎ (end ≤ k) → entry_of new row k ≡ entry_of old row k
-  pub elsewhere : (i k : ℕ) → i ≢ row → entry_of new i k ≡ entry_of old i k
 
 -- a row of a matrix of bits, whose first columns are those of LT symbols, can be copied to a table with as many rows and columns
 pub record CanCopyRow (bits : BitTable) (row lt_columns : ℕ) (table : OctetTable) : Type 0 where

@@ -2,7 +2,8 @@
 ghost use Rattle.std.specs.Prelude.{◌≡◌, ℕ, ◌<◌, ◌≤◌, length, IfOk, OnOk, IfErr};
 ghost use Rattle.rq_bytes.specs.declared.error.Error.TheVariants.{OutOfMemory};
 ghost use Rattle.rq_parts.specs.DenseOctetMatrix.{entry_of, HasOctets};
-ghost use Rattle.rq_null_vector.specs.RowWrites.{CanCopyRow, HoldsEquations, WritesRow};
+ghost use Rattle.rq_elimination.specs.LeadingRows.{WritesRow};
+ghost use Rattle.rq_null_vector.specs.RowWrites.{CanCopyRow, HoldsEquations};
 
 use rq_bytes::error::Error;
 use rq_bytes::octet::Octet;

@@ -1,12 +1,14 @@
 -- How many ones rows have in active columns.
-use Rattle.std.proofs.Common.{◌≡◌, ◌≢◌, ℕ, zero, suc, ◌+◌, ◌<◌, ◌≤◌, ◌==◌, ◌&&◌, cond, Bool, true, false, List, [], ◌∷◌, ◌++◌, All, length, take, get_or, replicate, count_by, refl, sym, ap, ◌∙◌, subst, arith, inl, inr, add-zero, zero-add}
+use Rattle.std.proofs.Common.{◌≡◌, ℕ, zero, suc, ◌+◌, ◌<◌, ◌≤◌, ◌==◌, cond, Bool, true, false, List, [], ◌∷◌, ◌++◌, All, length, take, get_or, replicate, count_by, refl, sym, ap, ◌∙◌, arith, inl, inr, zero-add}
 use Rattle.std.specs.Prelude.{nat_lt, slice_index_or}
 use Rattle.std.specs.List.{Contains, sum_by, range_with_len}
-use Rattle.std.proofs.lemmas.Bool.{cases_lt, ltb-true, lt-ltb, false_from_ne_true, true≢false}
+use Rattle.std.proofs.lemmas.Bool.{and_from, and_parts, cases_lt, ltb-true, lt-ltb, false_from_ne_true, true≢false}
 use Rattle.std.proofs.lemmas.Bool.Decides.{eqb_tells, nat_tests}
 use Rattle.std.proofs.lemmas.List.{length-append, get_or_push, take_all, take-append-le}
+use Rattle.std.proofs.lemmas.List.Elements.{All-contains}
 use Rattle.std.proofs.lemmas.List.FromFn.{get_or-range_with_len}
-use Rattle.std.proofs.lemmas.List.Sums.{sum_by-cons, sum_by-append, sum_by_push, get_or-le-sum_by}
+use Rattle.std.proofs.lemmas.List.Sums.{sum_by-append, sum_by_push, get_or-le-sum_by}
+use Rattle.std.proofs.Math.Bool.{and-true}
 use Rattle.std.proofs.Math.ListN.{get_or-append}
 use Rattle.rq_algebra.specs.Systems.{at}
 use Rattle.rq_peeling.specs.SystemRows.{one_in}
@@ -14,7 +16,7 @@ use Rattle.rq_peeling.specs.ColumnRows.{ColumnLists, ListsColumns, rows_with}
 use Rattle.rq_peeling.specs.RowDegrees.{is_left, ones_left, is_active, active_ones, CountsActive, CountsBefore, KeepsDegrees, LowersRows, HasFewestLeft, HasLeastDegree, AllHaveNone, TakesColumnsLeft}
 use Rattle.rq_peeling.specs.ColumnState.{ColumnState, IsActive, HasNoActive, EndsActive, TakesRow, first_columns}
 use Rattle.rq_peeling.specs.RowOnes.{ones_of}
-use Rattle.rq_peeling.proofs.ColumnPlacing.{count-replicate}
+use Rattle.rq_peeling.proofs.Counting.{count-replicate, count_contains, count_same, count_nothing, count_absent, count_split}
 
 -- ---- tests
 
@@ -30,66 +32,8 @@ active_true state k active = let from = active.from in let below = active.below 
 pub true_active : (state : ColumnState) (k : ℕ) → is_active state k ≡ true → IsActive state k
 true_active state k e = record { from = grind (arith, nat_tests, e); below = grind (arith, nat_tests, e) }
 
-pub both_true : (a b : Bool) → a ≡ true → b ≡ true → (a && b) ≡ true
-both_true true true e f = refl
-both_true false b e f = e
-both_true true false e f = f
-
-pub true_both : (a b : Bool) → (a && b) ≡ true → (a ≡ true) × (b ≡ true)
-true_both true b e = (refl, e)
-true_both false b e = (e, absurd_false b e) where
-  absurd_false : (b : Bool) → false ≡ true → b ≡ true
-  absurd_false true e = refl
-  absurd_false false e = e
-
 pub not_both : (b : Bool) → b ≡ true → b ≡ false → ⊥
 not_both b e f = true≢false (sym e ∙ f)
-
--- ---- counts of elements
-
--- what a list contains is contained behind one more element
-behind : (x : ℕ) (xs : List ℕ) (k : ℕ) → Contains xs k → Contains (x ∷ xs) k
-behind x xs k is = (is.0 + 1, omega (arith, is.1), (let next : is.0 + 1 ≡ suc is.0 = omega arith in ap (λ (i : ℕ). get_or (x ∷ xs) i k) next ∙ is.2))
-
--- tests that agree on all elements count the same
-pub count_same : (p q : ℕ → Bool) (xs : List ℕ) → ((k : ℕ) → Contains xs k → p k ≡ q k) → count_by p xs ≡ count_by q xs
-count_same p q [] same = refl
-count_same p q (x ∷ xs) same =
-    sum_by-cons (λ k. cond (p k) 1 0) x xs
-    ∙ ap (λ b. cond b 1 0 + count_by p xs) (same x (0, omega arith, refl))
-    ∙ ap (λ (n : ℕ). cond (q x) 1 0 + n) (count_same p q xs (λ k is. same k (behind x xs k is)))
-    ∙ sym (sum_by-cons (λ k. cond (q k) 1 0) x xs)
-
-pub count_nothing : (p : ℕ → Bool) (xs : List ℕ) → ((k : ℕ) → Contains xs k → p k ≡ false) → count_by p xs ≡ 0
-count_nothing p xs none = count_same p (λ _. false) xs none ∙ nothing xs where
-  nothing : (ys : List ℕ) → count_by (λ (_ : ℕ). false) ys ≡ 0
-  nothing [] = refl
-  nothing (y ∷ ys) = sum_by-cons (λ (_ : ℕ). 0) y ys ∙ zero-add (sum_by (λ (_ : ℕ). 0) ys) ∙ nothing ys
-
-pub count_absent : (xs : List ℕ) (k : ℕ) → (Contains xs k → ⊥) → count_by (λ x. x == k) xs ≡ 0
-count_absent xs k out = count_nothing (λ x. x == k) xs (λ j is. elim (eqb_tells j k) [ inl e ↦ absurd (out (subst (Contains xs) e.1 is)) | inr e ↦ e.0 ])
-
-pub count_present : (xs : List ℕ) (k : ℕ) → Contains xs k → 0 < count_by (λ x. x == k) xs
-count_present xs k is =
-    let most = get_or-le-sum_by (λ (x : ℕ). cond (x == k) 1 0) xs is.0 k is.1 in
-    let one : ◌≡◌ {A = ℕ} (cond (get_or xs is.0 k == k) 1 0) 1 = elim (eqb_tells (get_or xs is.0 k) k) [ inl e ↦ ap (λ b. cond b 1 0) e.0 | inr e ↦ absurd (e.1 is.2) ] in
-    omega (arith, most, one)
-
--- tests that agree but on one element, which the first passes and the second doesn't
-pub count_split : (p q : ℕ → Bool) (c : ℕ) (xs : List ℕ) → ((k : ℕ) → Contains xs k → k ≢ c → p k ≡ q k) → p c ≡ true → q c ≡ false → count_by p xs ≡ count_by q xs + count_by (λ x. x == c) xs
-count_split p q c [] same passes fails = refl
-count_split p q c (x ∷ xs) same passes fails =
-    let first = sum_by-cons (λ k. cond (p k) 1 0) x xs in
-    let second = sum_by-cons (λ k. cond (q k) 1 0) x xs in
-    let third = sum_by-cons (λ k. cond (k == c) 1 0) x xs in
-    let rest = count_split p q c xs (λ k is. same k (behind x xs k is)) passes fails in
-    let here : ◌≡◌ {A = ℕ} (cond (p x) 1 0) (cond (q x) 1 0 + cond (x == c) 1 0) = elim (eqb_tells x c) [
-      | inl e ↦
-          ap (λ (k : ℕ). cond (p k) 1 0) e.1 ∙ ap (λ b. cond b 1 0) passes
-          ∙ sym (ap (λ (k : ℕ). cond (q k) 1 0 + cond (x == c) 1 0) e.1 ∙ ap (λ b. cond b 1 0 + cond (x == c) 1 0) fails ∙ ap (λ b. 0 + cond b 1 0) e.0)
-      | inr e ↦ ap (λ b. cond b 1 0) (same x (0, omega arith, refl) e.1) ∙ sym (add-zero (cond (q x) 1 0)) ∙ ap (λ b. cond (q x) 1 0 + cond b 1 0) (sym e.0)
-    ] in
-    omega (arith, first, second, third, rest, here)
 
 -- ---- a column's rows
 
@@ -121,23 +65,26 @@ count_rows lists k (suc n) r l =
 
 -- what holds of each one of each row holds of the ones of a row
 pub in_row : (lists : List (List ℕ)) (width r k : ℕ) → All (λ row. All (λ column. column < width) row) lists → r < length lists → Contains (ones_of lists r) k → k < width
-in_row lists width r k below l is = subst (λ (c : ℕ). c < width) is.2 (below r [] l is.0 k is.1)
+in_row lists width r k below l = All-contains (λ (c : ℕ). c < width) (ones_of lists r) k (below r [] l)
+
+-- of a row's ones in active columns those are gone that were in a column that isn't active any more
+active_split : (row : List ℕ) (old new : ColumnState) (column : ℕ) → All (λ k. k < length old.order) row → column < length old.order → IsActive old column → EndsActive column old new → active_ones old row ≡ active_ones new row + count_by (λ x. x == column) row
+active_split row old new column below inside active ends =
+    count_split (is_active old) (is_active new) column row
+    (λ k is d.
+    let within = All-contains (λ (c : ℕ). c < length old.order) row k below is in
+    bool_same (is_active old k) (is_active new k) (λ e. active_true new k (ends.kept k within (true_active old k e) d)) (λ e. active_true old k (ends.left k within (true_active new k e)).0))
+    (active_true old column active) (false_from_ne_true (is_active new column) (λ e. (ends.left column inside (true_active new column e)).1 refl))
 
 -- where a column isn't active any more, and its rows' degrees are lowered
 pub degrees_lowered :
     (lists : List (List ℕ)) (columns : ColumnLists) → ListsColumns lists columns → length lists ≡ columns.height → All (λ row. All (λ column. column < length columns.lists) row) lists → (old new : ColumnState) (column : ℕ) (was now : List ℕ) → length columns.lists ≡ length old.order → column < length old.order → IsActive old column → EndsActive column old new → columns.height ≡ length was
     → LowersRows (slice_index_or columns.lists column []) was now → KeepsDegrees lists old new was now
 degrees_lowered lists columns holds high below old new column was now width inside active ends height lowered counts r l =
-    let row = ones_of lists r in
     let fell = lowered r (omega (arith, high, height, l)) in
     let listed = holds column (omega (arith, width, inside)) in
     let often : count_by (λ x. x == r) (slice_index_or columns.lists column []) ≡ one_in lists r column = ap (count_by (λ x. x == r)) listed ∙ count_rows lists column (length lists) r l in
-    let gone : is_active new column ≡ false = false_from_ne_true (is_active new column) (λ e. (ends.left column inside (true_active new column e)).1 refl) in
-    let parts : active_ones old row ≡ active_ones new row + one_in lists r column = count_split (is_active old) (is_active new) column row
-    (λ k is d.
-    let k_in : k < length old.order = omega (arith, width, in_row lists (length columns.lists) r k below l is) in
-    bool_same (is_active old k) (is_active new k) (λ e. active_true new k (ends.kept k k_in (true_active old k e) d)) (λ e. active_true old k (ends.left k k_in (true_active new k e)).0))
-    (active_true old column active) gone in
+    let parts : active_ones old (ones_of lists r) ≡ active_ones new (ones_of lists r) + one_in lists r column = active_split (ones_of lists r) old new column (rw (← width) (below r [] l)) inside active ends in
     omega (arith, fell, often, parts, counts r l)
 
 -- a row's active column that isn't active any more was its only one
@@ -145,12 +92,8 @@ pub none_behind :
     (row : List ℕ) (old new : ColumnState) (column : ℕ) → All (λ k. k < length old.order) row → Contains row column → IsActive old column → EndsActive column old new → active_ones old row ≤ 1
     → HasNoActive row new
 none_behind row old new column below is active ends few k there still =
-    let within = λ (j : ℕ) (is : Contains row j). subst (λ (c : ℕ). c < length old.order) is.2 (below is.0 j is.1) in
-    let gone : is_active new column ≡ false = false_from_ne_true (is_active new column) (λ e. (ends.left column (within column is) (true_active new column e)).1 refl) in
-    let parts : active_ones old row ≡ active_ones new row + count_by (λ x. x == column) row = count_split (is_active old) (is_active new) column row
-    (λ j in_row d. bool_same (is_active old j) (is_active new j) (λ e. active_true new j (ends.kept j (within j in_row) (true_active old j e) d)) (λ e. active_true old j (ends.left j (within j in_row) (true_active new j e)).0))
-    (active_true old column active) gone in
-    let some = count_present row column is in
+    let parts = active_split row old new column below (All-contains (λ (c : ℕ). c < length old.order) row column below is) active ends in
+    let some = count_contains row column is in
     let most = get_or-le-sum_by (λ (x : ℕ). cond (is_active new x) 1 0) row there.0 k there.1 in
     let one : ◌≡◌ {A = ℕ} (cond (is_active new (get_or row there.0 k)) 1 0) 1 = ap (λ (x : ℕ). cond (is_active new x) 1 0) there.2 ∙ ap (λ b. cond b 1 0) (active_true new k still) in
     omega (arith, few, parts, some, most, one)
@@ -164,9 +107,9 @@ tested_zero : (n : ℕ) → (n == 0) ≡ true → n ≡ 0
 tested_zero n e = elim (eqb_tells n 0) [ inl is ↦ is.1 | inr is ↦ absurd (not_both (n == 0) e is.0) ]
 
 -- one more row is taken: what holds of each row beside those before it holds of each again
-pub takes_more : (P : ℕ → List ℕ → ℕ → Type 0) (taken : List ℕ) (row : ℕ) → ((p : ℕ) → p < length taken → P p (take p taken) (at taken p)) → P (length taken) taken row
+pub each_taken_more : (P : ℕ → List ℕ → ℕ → Type 0) (taken : List ℕ) (row : ℕ) → ((p : ℕ) → p < length taken → P p (take p taken) (at taken p)) → P (length taken) taken row
     → (p : ℕ) → p < length (taken ++ row ∷ []) → P p (take p (taken ++ row ∷ [])) (at (taken ++ row ∷ []) p)
-takes_more P taken row each is p l =
+each_taken_more P taken row each is p l =
     let long = length-append taken (row ∷ []) in
     elim (cases_lt p (length taken)) [
       | inl before ↦ rw (take-append-le p taken (row ∷ []) (omega arith), get_or-append taken (row ∷ []) 0 p before) (each p before)
@@ -176,13 +119,16 @@ takes_more P taken row each is p l =
           rw (all, get_or_push taken row 0 p last, ← last) is
     ]
 
--- before a row is taken, these are the first active ones
-pub left_first : (lists : List (List ℕ)) (width lt_columns k : ℕ) → k < width → is_left lists lt_columns [] k ≡ is_active (first_columns width lt_columns) k
-left_first lists width lt_columns k l =
+-- before a row is taken the columns of LT symbols are active
+active_first : (width lt_columns k : ℕ) → k < width → is_active (first_columns width lt_columns) k ≡ nat_lt k lt_columns
+active_first width lt_columns k l =
     let own : at (range_with_len 0 width) k ≡ k = get_or-range_with_len 0 width k 0 l ∙ zero-add k in
-    bool_same (is_left lists lt_columns [] k) (is_active (first_columns width lt_columns) k)
-    (λ e. active_true (first_columns width lt_columns) k (record { from = omega arith; below = rw own (ltb-true k lt_columns (true_both (nat_lt k lt_columns) (0 == 0) e).0) }))
-    (λ e. both_true (nat_lt k lt_columns) (0 == 0) (lt-ltb k lt_columns (rw own at (true_active (first_columns width lt_columns) k e).below)) (zero_tested 0 refl))
+    bool_same (is_active (first_columns width lt_columns) k) (nat_lt k lt_columns)
+    (λ e. lt-ltb k lt_columns (rw own at (true_active (first_columns width lt_columns) k e).below))
+    (λ e. active_true (first_columns width lt_columns) k (record { from = omega arith; below = rw own (ltb-true k lt_columns e) }))
+
+pub left_first : (lists : List (List ℕ)) (width lt_columns k : ℕ) → k < width → is_left lists lt_columns [] k ≡ is_active (first_columns width lt_columns) k
+left_first lists width lt_columns k l = and-true (nat_lt k lt_columns) ∙ sym (active_first width lt_columns k l)
 
 module _ (lists : List (List ℕ)) (lt_columns : ℕ) (rows : List ℕ) (row : ℕ) (old new : ColumnState) (takes : TakesRow (ones_of lists row) old new) (left : (k : ℕ) → k < length old.order → is_left lists lt_columns rows k ≡ is_active old k) where
   pub left_next : (k : ℕ) → k < length old.order → is_left lists lt_columns (rows ++ row ∷ []) k ≡ is_active new k
@@ -192,17 +138,17 @@ module _ (lists : List (List ℕ)) (lt_columns : ℕ) (rows : List ℕ) (row : �
       let more : after ≡ before + one_in lists row k = sum_by_push (λ r. one_in lists r k) rows row in
       bool_same (is_left lists lt_columns (rows ++ row ∷ []) k) (is_active new k)
       (λ e.
-      let both = true_both (nat_lt k lt_columns) (after == 0) e in
+      let both = and_parts (nat_lt k lt_columns) (after == 0) e in
       let none = tested_zero after both.1 in
-      let was : is_left lists lt_columns rows k ≡ true = both_true (nat_lt k lt_columns) (before == 0) both.0 (zero_tested before (omega (arith, none, more))) in
-      active_true new k (takes.ends.kept k l (true_active old k (sym (left k l) ∙ was)) (λ is. let some = count_present (ones_of lists row) k is in omega (arith, none, more, some))))
+      let was : is_left lists lt_columns rows k ≡ true = and_from (nat_lt k lt_columns) (before == 0) both.0 (zero_tested before (omega (arith, none, more))) in
+      active_true new k (takes.ends.kept k l (true_active old k (sym (left k l) ∙ was)) (λ is. let some = count_contains (ones_of lists row) k is in omega (arith, none, more, some))))
       (λ e.
       let active = true_active new k e in
-      let was : is_left lists lt_columns rows k ≡ true = left k l ∙ active_true old k (takes.ends.left k l active) in
-      let both = true_both (nat_lt k lt_columns) (before == 0) was in
+      let was : is_left lists lt_columns rows k ≡ true = left k l ∙ active_true old k (takes.ends.left k l active).0 in
+      let both = and_parts (nat_lt k lt_columns) (before == 0) was in
       let none = tested_zero before both.1 in
-      let absent = count_absent (ones_of lists row) k (λ is. takes.ends.ended k is active) in
-      both_true (nat_lt k lt_columns) (after == 0) both.0 (zero_tested after (omega (arith, more, none, absent))))
+      let absent = count_absent (ones_of lists row) k (λ is. takes.ended k is active) in
+      and_from (nat_lt k lt_columns) (after == 0) both.0 (zero_tested after (omega (arith, more, none, absent))))
 
   -- the row's pivot stands in a column that was left
   column_left : All (λ row. All (λ column. column < length old.order) row) lists → row < length lists → is_left lists lt_columns rows (at new.order old.pivots) ≡ true
@@ -210,7 +156,7 @@ module _ (lists : List (List ℕ)) (lt_columns : ℕ) (rows : List ℕ) (row : �
 
   pub columns_next : All (λ row. All (λ column. column < length old.order) row) lists → row < length lists → length rows ≡ old.pivots → TakesColumnsLeft lists lt_columns rows old.order → TakesColumnsLeft lists lt_columns (rows ++ row ∷ []) new.order
   columns_next below inside count were =
-      takes_more (λ p taken _. is_left lists lt_columns taken (at new.order p) ≡ true) rows row
+      each_taken_more (λ p taken _. is_left lists lt_columns taken (at new.order p) ≡ true) rows row
       (λ p l. rw (takes.ends.before p (omega (arith, l, count))) (were p l)) (rw count (column_left below inside))
 
 -- ---- rows by their degrees
@@ -245,9 +191,4 @@ module _ (lists : List (List ℕ)) (lt_columns width : ℕ) (taken : List ℕ) (
 -- the degrees at the start are the numbers of ones in the columns that are active then
 pub counts_first : (lists : List (List ℕ)) (lt_columns width : ℕ) (degrees : List ℕ) → All (λ row. All (λ column. column < width) row) lists → CountsBefore lt_columns lists degrees → CountsActive lists (first_columns width lt_columns) degrees
 counts_first lists lt_columns width degrees below counts r l =
-    counts r l ∙ count_same (λ column. nat_lt column lt_columns) (is_active (first_columns width lt_columns)) (ones_of lists r) (λ k is.
-    let inside = in_row lists width r k below l is in
-    let own : at (range_with_len 0 width) k ≡ k = get_or-range_with_len 0 width k 0 inside ∙ zero-add k in
-    bool_same (nat_lt k lt_columns) (is_active (first_columns width lt_columns) k)
-    (λ e. active_true (first_columns width lt_columns) k (record { from = omega arith; below = rw own (ltb-true k lt_columns e) }))
-    (λ e. lt-ltb k lt_columns (rw own at (true_active (first_columns width lt_columns) k e).below)))
+    counts r l ∙ count_same (λ column. nat_lt column lt_columns) (is_active (first_columns width lt_columns)) (ones_of lists r) (λ k is. sym (active_first width lt_columns k (in_row lists width r k below l is)))

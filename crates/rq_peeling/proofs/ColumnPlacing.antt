@@ -1,5 +1,5 @@
 -- Rows that are put column by column.
-use Rattle.std.proofs.Common.{◌≡◌, ◌≢◌, ℕ, zero, suc, ◌+◌, ◌-◌, ◌*◌, ◌<◌, ◌≤◌, ◌==◌, cond, min, List, [], ◌∷◌, ◌++◌, length, take, drop, set, replicate, count_by, refl, sym, ap, ◌∙◌, subst, arith, inl, inr, add-zero}
+use Rattle.std.proofs.Common.{◌≡◌, ◌≢◌, ℕ, zero, suc, ◌+◌, ◌-◌, ◌<◌, ◌≤◌, ◌==◌, cond, min, List, [], ◌∷◌, ◌++◌, length, take, drop, set, replicate, count_by, refl, sym, ap, ◌∙◌, subst, arith, inl, inr, add-zero}
 use Rattle.std.specs.Prelude.{slice_range, slice_index_or}
 use Rattle.std.proofs.Math.Seq.{take-append_seam}
 use Rattle.std.specs.List.{sum, sum_by}
@@ -7,34 +7,11 @@ use Rattle.std.proofs.lemmas.Bool.{cases_eq, cases_lt}
 use Rattle.std.proofs.lemmas.Bool.Decides.{eqb_tells}
 use Rattle.std.proofs.lemmas.List.{length-append, length-set, length-replicate, get_or-set_same, get_or-set_other, get_or-take, length-drop, get_or-drop, length-take-le, get_or_default, get_or_past, take_all}
 use Rattle.std.proofs.lemmas.List.Sums.{sum_by_more, sum_by_more_le, sum_by-take-le}
-use Rattle.std.proofs.lemmas.List.Folds.{sum_by-replicate}
 use Rattle.std.proofs.lemmas.Grind.{same_number_lists}
 use Rattle.rq_algebra.specs.Systems.{at}
 use Rattle.rq_peeling.specs.SystemRows.{one_in}
 use Rattle.rq_peeling.specs.ColumnRows.{HasPlaced, rows_with, rows_of_column}
-
--- ---- sums
-
--- the sum of the first numbers, and the next one
-pub sum_next : (xs : List ℕ) (k : ℕ) → k < length xs → sum (take (k + 1) xs) ≡ sum (take k xs) + at xs k
-sum_next xs k l = sum_by_more (λ x. x) xs k 0 l
-
-pub sum_within : (xs : List ℕ) (k : ℕ) → sum (take k xs) ≤ sum xs
-sum_within xs k = sum_by-take-le (λ x. x) xs k
-
--- more numbers have no less a sum
-pub sum_rises : (xs : List ℕ) (a n : ℕ) → a + n ≤ length xs → sum (take a xs) ≤ sum (take (a + n) xs)
-sum_rises xs a zero l = let same : a + 0 ≡ a = omega arith in rw same (omega arith)
-sum_rises xs a (suc n) l =
-    let back : a + n + 1 ≡ a + suc n = omega arith in
-    let more = sum_next xs (a + n) (omega arith) in
-    let before = sum_rises xs a n (omega arith) in
-    rw (← back) (omega (arith, more, before))
-
-pub sum_rises_to : (xs : List ℕ) (a b : ℕ) → a ≤ b → b ≤ length xs → sum (take a xs) ≤ sum (take b xs)
-sum_rises_to xs a b le l =
-    let back : a + (b - a) ≡ b = omega arith in
-    rw back at (sum_rises xs a (b - a) (omega arith))
+use Rattle.rq_peeling.proofs.Counting.{sum_next, sum_within, sum_rises_to}
 
 -- ---- counting
 
@@ -257,11 +234,3 @@ module _ (lists : List (List ℕ)) (counts starts rows : List ℕ) (placed : Has
       get_or-take (end - at starts k) (drop (at starts k) rows) j 0 (omega (arith, long, m, first, more))
       ∙ get_or-drop (at starts k) rows j 0
       ∙ placed.here k j l (omega (arith, long, many, m)))
-
--- ---- how often a row is there
-
-pub count-replicate : (n row other : ℕ) → count_by (λ r. r == other) (replicate n row) ≡ cond (row == other) n 0
-count-replicate n row other = elim (eqb_tells row other) [
-  | inl same ↦ sum_by-replicate (λ (r : ℕ). cond (r == other) 1 0) n row ∙ ap (λ b. n * cond b 1 0) same.0 ∙ omega arith ∙ ap (λ b. cond b n 0) (sym same.0)
-  | inr apart ↦ sum_by-replicate (λ (r : ℕ). cond (r == other) 1 0) n row ∙ ap (λ b. n * cond b 1 0) apart.0 ∙ omega arith ∙ ap (λ b. cond b n 0) (sym apart.0)
-]

@@ -1,11 +1,11 @@
 pub mod ActiveOnes
 pub mod ColumnLaws
 pub mod ColumnPlacing
+pub mod Counting
 pub mod DegreeLists
 pub mod ListParts
 pub mod MatrixRows
 pub mod PeelerLaws
 pub mod PeelingLaws
-pub mod PlaceCounts
 pub mod RowCounts
 pub mod RowLists

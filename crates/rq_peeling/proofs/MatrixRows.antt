@@ -1,11 +1,32 @@
 -- The ones of a matrix of bits are rows of bits, and leave the HDPC rows empty.
-use Rattle.std.proofs.Common.{◌≡◌, ℕ, ◌+◌, ◌<◌, ◌≤◌, List, [], ◌∷◌, length, refl, ◌∙◌, arith}
+use Rattle.std.proofs.Common.{◌≡◌, ℕ, ◌+◌, ◌<◌, ◌≤◌, ◌==◌, List, [], ◌∷◌, All, length, refl, sym, ◌∙◌, arith, inl, inr}
+use Rattle.std.specs.List.{count_by}
+use Rattle.std.proofs.lemmas.Bool.{cases_lt}
 use Rattle.std.proofs.lemmas.List.Elements.{All-weaker}
+use Rattle.rq_algebra.specs.Systems.{at}
 use Rattle.rq_standard.specs.BitTableSteps.{ArePlacesOfOnes}
 use Rattle.rq_parts.specs.DenseOctetMatrix.{OctetTable}
 use Rattle.rq_peeling.specs.SystemRows.{AreRowsOfBits, AreOctetRows}
 use Rattle.rq_peeling.specs.RowOnes.{AreOnesOfRows, ones_of}
-use Rattle.rq_peeling.proofs.PlaceCounts.{count_contains}
+use Rattle.rq_peeling.proofs.Counting.{count_contains, few_places, twice_counted}
+
+-- the columns in which a row of bits has ones
+pub record AreColumnsOfRow (width : ℕ) (columns : List ℕ) : Type 0 where
+  pub within : All (λ k. k < width) columns
+  pub once : (k : ℕ) → k < width → count_by (λ x. x == k) columns ≤ 1
+
+-- a row of bits has at most as many ones as columns
+pub few_columns : (width : ℕ) (columns : List ℕ) → AreColumnsOfRow width columns → length columns ≤ width
+few_columns width columns are = few_places (length columns) width (at columns) (record {
+  below = λ i l. are.within i 0 l;
+  apart = λ i j l m e. elim (cases_lt i j) [
+    | inl before ↦ absurd (twice_counted columns i j before m e (are.once (at columns j) (are.within j 0 m)))
+    | inr after ↦ elim (cases_lt j i) [
+      | inl before ↦ absurd (twice_counted columns j i before l (sym e) (are.once (at columns i) (are.within i 0 l)))
+      | inr same ↦ omega (arith, after, same)
+    ]
+  ];
+})
 
 -- a row of zeros has no ones
 no_places : (bit : ℕ → ℕ) (width : ℕ) (places : List ℕ) → ArePlacesOfOnes bit 0 width places → ((k : ℕ) → k < width → bit k ≡ 0) → places ≡ []

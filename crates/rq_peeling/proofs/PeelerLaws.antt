@@ -5,7 +5,8 @@ use Rattle.rq_peeling.specs.RowDegrees.{CountsActive, HasLeastDegree, KeepsDegre
 use Rattle.rq_peeling.specs.ColumnState.{ColumnState, EndsActive, HasNoActive, IsActive}
 use Rattle.rq_peeling.specs.RowOnes.{ones_of}
 use Rattle.rq_peeling.specs.declared.peeler.Peeler.{Peeler}
-use Rattle.rq_peeling.proofs.ActiveOnes.{count_nothing, degrees_lowered, true_active}
+use Rattle.rq_peeling.proofs.ActiveOnes.{degrees_lowered, true_active}
+use Rattle.rq_peeling.proofs.Counting.{count_nothing}
 use Rattle.rq_peeling.proofs.PeelingLaws.{columns_below}
 use Rattle.std.proofs.lemmas.Bool.{false_from_ne_true}
 

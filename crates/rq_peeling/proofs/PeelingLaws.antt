@@ -3,11 +3,11 @@ use Rattle.std.proofs.Common.{◌≡◌, ℕ, ◌+◌, ◌<◌, ◌≤◌, ◌�
 use Rattle.std.specs.List.{Contains}
 use Rattle.std.proofs.lemmas.Bool.{cases_lt}
 use Rattle.std.proofs.lemmas.List.{length-append, get_or_push, get_or_default, take_more}
-use Rattle.std.proofs.lemmas.List.Elements.{All-take, Contains-append_cases, Contains-append_left, Contains-push}
+use Rattle.std.proofs.lemmas.List.Elements.{All-contains, All-take, Contains-append_cases, Contains-append_left, Contains-push}
 use Rattle.std.proofs.Math.ListN.{get_or-append}
 use Rattle.rq_algebra.specs.Systems.{at}
 use Rattle.rq_peeling.specs.SystemRows.{AreRowsOfBits}
-use Rattle.rq_peeling.specs.ColumnState.{ColumnState, EndsActive, InactivatesRow, IsActive, TakesRow, IsOrderOf, first_columns}
+use Rattle.rq_peeling.specs.ColumnState.{ColumnState, EndsActive, EndsThese, HasNoActive, InactivatesRow, IsActive, TakesRow, IsOrderOf, first_columns}
 use Rattle.rq_peeling.specs.Peeling.{IsPeeled}
 use Rattle.rq_peeling.specs.RowOnes.{ones_of}
 use Rattle.rq_peeling.specs.Chosen.{IsPeeledSo}
@@ -20,10 +20,6 @@ peeled_none lists width lt_columns = record {
   later = λ p q l m is. absurd (omega arith);
   ended = λ p k l is active. absurd (omega arith);
 }
-
--- what holds of each element holds of one that is contained
-pub of_contained : (P : ℕ → Type 0) (xs : List ℕ) (x : ℕ) → All P xs → Contains xs x → P x
-of_contained P xs x all is = subst P is.2 (all is.0 x is.1)
 
 module _ (lists : List (List ℕ)) (rows : List ℕ) (old new : ColumnState) (columns : All (λ row. All (λ column. column < length old.order) row) lists) (so : IsPeeledSo lists rows old) (row : ℕ) (in_row : row < length lists) (takes : TakesRow (ones_of lists row) old new) where
   one_more : length (rows ++ row ∷ []) ≡ length rows + 1
@@ -89,9 +85,9 @@ module _ (lists : List (List ℕ)) (rows : List ℕ) (old new : ColumnState) (co
         elim (cases_lt p (length rows)) [
           | inl before ↦
               let in_old = subst (λ (r : ℕ). Contains (ones_of lists r) k) (row_kept p before) is in
-              let below = of_contained (λ (c : ℕ). c < length old.order) (ones_of lists (at rows p)) k (columns (at rows p) [] (so.in_rows.below p before)) in_old in
-              so.ended p k before in_old (takes.ends.left k below active)
-          | inr after ↦ takes.ends.ended k (subst (λ (r : ℕ). Contains (ones_of lists r) k) (row_new p (omega (arith, one_more))) is) active
+              let below = All-contains (λ (c : ℕ). c < length old.order) (ones_of lists (at rows p)) k (columns (at rows p) [] (so.in_rows.below p before)) in_old in
+              so.ended p k before in_old (takes.ends.left k below active).0
+          | inr after ↦ takes.ended k (subst (λ (r : ℕ). Contains (ones_of lists r) k) (row_new p (omega (arith, one_more))) is) active
         ];
   }
 
@@ -111,14 +107,47 @@ columns_below width lists bits i d l = let same : get_or lists i d ≡ ones_of l
 
 -- ---- columns that aren't active any more
 
+-- some of them first, and then the others
+ends_more : (first second both : ℕ → Type 0) (old cur new : ColumnState) → ((k : ℕ) → first k → both k) → ((k : ℕ) → second k → both k) → ((k : ℕ) → both k → (first k → ⊥) → (second k → ⊥) → ⊥) → old.pivots ≤ cur.pivots
+    → EndsThese first old cur → EndsThese second cur new → EndsThese both old new
+ends_more first second both old cur new in_first in_second no_other rises ends more = record {
+  width = more.width ∙ ends.width;
+  before = λ p l. more.before p (omega arith) ∙ ends.before p l;
+  left = λ k l active.
+      let still = more.left k (rw ends.width l) active in
+      let was = ends.left k l still.0 in
+      (was.0, (λ is. no_other k is was.1 still.1));
+  kept = λ k l active out. more.kept k (rw ends.width l) (ends.kept k l active (λ is. out (in_first k is))) (λ is. out (in_second k is));
+  fewer = omega (arith, ends.fewer, more.fewer);
+}
+
+pub inactivates_none : (row : List ℕ) (state : ColumnState) → HasNoActive row state → InactivatesRow row state state
+inactivates_none row state none = record {
+  pivots = refl;
+  ends = record { width = refl; before = λ p l. refl; left = λ k l active. (active, (λ is. none k is active)); kept = λ k l active out. active; fewer = omega arith };
+  ended = none;
+}
+
+-- a row's pivot, and then all its columns
+pub takes_row : (row : List ℕ) (column : ℕ) (old cur new : ColumnState) → Contains row column → IsActive old column → cur.pivots ≡ old.pivots + 1 → at cur.order old.pivots ≡ column → EndsActive column old cur → InactivatesRow row cur new → TakesRow row old new
+takes_row row column old cur new there active next here ends others =
+    let same : column ≡ at new.order old.pivots = sym (others.ends.before old.pivots (omega (arith, next)) ∙ here) in
+    record {
+      pivots = others.pivots ∙ next;
+      own = subst (Contains row) same there;
+      was = subst (IsActive old) same active;
+      ends = ends_more (λ k. k ≡ column) (Contains row) (Contains row) old cur new (λ k e. subst (Contains row) (sym e) there) (λ k is. is) (λ k is apart out. out is) (omega (arith, next)) ends others.ends;
+      ended = others.ended;
+    }
+
 module _ (row : List ℕ) (t : ℕ) (in_row : t < length row) where
   one_column_more : take (t + 1) row ≡ take t row ++ at row t ∷ []
   one_column_more = take_more row t 0 in_row
 
-  still_there : (k : ℕ) → Contains (take t row) k → Contains (take (t + 1) row) k
+  pub still_there : (k : ℕ) → Contains (take t row) k → Contains (take (t + 1) row) k
   still_there k is = subst (λ (xs : List ℕ). Contains xs k) (sym one_column_more) (Contains-append_left (take t row) (at row t ∷ []) k is)
 
-  now_there : Contains (take (t + 1) row) (at row t)
+  pub now_there : Contains (take (t + 1) row) (at row t)
   now_there = subst (λ (xs : List ℕ). Contains xs (at row t)) (sym one_column_more) (Contains-push (take t row) (at row t))
 
   -- a column that is there is the last, or was there before
@@ -134,18 +163,13 @@ module _ (row : List ℕ) (t : ℕ) (in_row : t < length row) where
     pub inactivates_more : EndsActive (at row t) cur new → new.pivots ≡ cur.pivots → InactivatesRow (take (t + 1) row) old new
     inactivates_more ends pivots = record {
       pivots = pivots ∙ so.pivots;
-      ends = record {
-        width = ends.width ∙ so.ends.width;
-        before = λ p l. ends.before p (omega (arith, so.pivots, l)) ∙ so.ends.before p l;
-        left = λ k l a. so.ends.left k l (ends.left k (rw so.ends.width l) a).0;
-        kept = λ k l a out. ends.kept k (rw so.ends.width l) (so.ends.kept k l a (λ is. out (still_there k is))) (λ e. out (subst (Contains (take (t + 1) row)) (sym e) now_there));
-        fewer = omega (arith, ends.fewer, so.ends.fewer);
-        ended = λ k is a.
-            elim (was_there k is) [
-              | inl before ↦ so.ends.ended k before (ends.left k (rw so.ends.width (of_contained (λ (c : ℕ). c < length old.order) (take t row) k (All-take (λ (c : ℕ). c < length old.order) t row columns) before)) a).0
-              | inr here ↦ (ends.left k (rw (so.ends.width, ← here) (columns t 0 in_row)) a).1 (sym here)
-            ];
-      };
+      ends = ends_more (Contains (take t row)) (λ k. k ≡ at row t) (Contains (take (t + 1) row)) old cur new still_there (λ k e. subst (Contains (take (t + 1) row)) (sym e) now_there)
+          (λ k is before last. elim (was_there k is) [ inl there ↦ before there | inr here ↦ last (sym here) ]) (omega (arith, so.pivots)) so.ends ends;
+      ended = λ k is active.
+          elim (was_there k is) [
+            | inl before ↦ so.ended k before (ends.left k (rw so.ends.width (All-contains (λ (c : ℕ). c < length old.order) (take t row) k (All-take (λ (c : ℕ). c < length old.order) t row columns) before)) active).0
+            | inr here ↦ (ends.left k (rw (so.ends.width, ← here) (columns t 0 in_row)) active).1 (sym here)
+          ];
     }
 
     -- the next column wasn't active
@@ -155,12 +179,14 @@ module _ (row : List ℕ) (t : ℕ) (in_row : t < length row) where
       ends = record {
         width = so.ends.width;
         before = so.ends.before;
-        left = so.ends.left;
-        kept = λ k l a out. so.ends.kept k l a (λ is. out (still_there k is));
+        left = λ k l active. ((so.ends.left k l active).0, (λ is. ended k is active));
+        kept = λ k l active out. so.ends.kept k l active (λ is. out (still_there k is));
         fewer = so.ends.fewer;
-        ended = λ k is a. elim (was_there k is) [
-          | inl before ↦ so.ends.ended k before a
-          | inr here ↦ none (subst (IsActive cur) (sym here) a)
-        ];
       };
-    }
+      ended = ended;
+    } where
+      ended : HasNoActive (take (t + 1) row) cur
+      ended k is active = elim (was_there k is) [
+        | inl before ↦ so.ended k before active
+        | inr here ↦ none (subst (IsActive cur) (sym here) active)
+      ]

@@ -3,6 +3,8 @@ use Rattle.std.proofs.Common.{◌≡◌, ◌≢◌, ℕ, zero, suc, ◌+◌, ◌
 use Rattle.std.specs.List.{swap}
 use Rattle.std.proofs.lemmas.Bool.{cases_eq}
 use Rattle.std.proofs.lemmas.List.Edits.{swapped_from_swap, length-swap}
+use Rattle.rq_algebra.specs.Changes.{with_at}
+use Rattle.rq_algebra.proofs.ChangeLaws.{with_at_same, with_at_other}
 use Rattle.rq_standard.specs.BitTable.{BitTable, IsBitTable}
 use Rattle.rq_standard.specs.BitTableSteps.{ones_below, ones_between, HasSameShape, SwapsRows, SwapsPlaces, SwapsColumns}
 use Rattle.rq_matrix.proofs.Ones.{ones_below-same}
@@ -28,18 +30,6 @@ ones_below-changed f g (suc n) i l same = elim (cases_eq i n) [
       omega arith
 ]
 
--- a row of bits with another one at one place
-replaced : (ℕ → ℕ) → ℕ → ℕ → ℕ → ℕ
-replaced f i b k = elim (cases_eq k i) [ inl e ↦ b | inr d ↦ f k ]
-
-replaced_here : (f : ℕ → ℕ) (i b : ℕ) → replaced f i b i ≡ b
-unfolding replaced
-replaced_here f i b = elim (cases_eq i i) as (λ c. elim c [ inl e ↦ b | inr d ↦ f i ] ≡ b) [ inl e ↦ refl | inr d ↦ absurd (d refl) ]
-
-replaced_other : (f : ℕ → ℕ) (i b k : ℕ) → k ≢ i → replaced f i b k ≡ f k
-unfolding replaced
-replaced_other f i b k other = elim (cases_eq k i) as (λ c. elim c [ inl e ↦ b | inr d ↦ f k ] ≡ f k) [ inl e ↦ absurd (other e) | inr d ↦ refl ]
-
 -- places that are exchanged have as many ones together
 ones_below-swapped : (f g : ℕ → ℕ) (n i j : ℕ) → i < n → j < n → g i ≡ f j → g j ≡ f i → ((k : ℕ) → k < n → k ≢ i → k ≢ j → g k ≡ f k) → ones_below g n ≡ ones_below f n
 ones_below-swapped f g n i j l m first second same = elim (cases_eq i j) [
@@ -48,13 +38,13 @@ ones_below-swapped f g n i j l m first second same = elim (cases_eq i j) [
     | inr h ↦ same k o h (λ q. h (q ∙ sym e))
   ])
   | inr d ↦
-      let half = replaced f i (f j) in
-      let here = replaced_here f i (f j) in
-      let there = replaced_other f i (f j) j (λ h. d (sym h)) in
-      let one = ones_below-changed f half n i l (λ k o other. replaced_other f i (f j) k other) in
+      let half = with_at f i (f j) in
+      let here = with_at_same f i (f j) i refl in
+      let there = with_at_other f i (f j) j (λ h. d (sym h)) in
+      let one = ones_below-changed f half n i l (λ k o other. with_at_other f i (f j) k other) in
       let two = ones_below-changed half g n j m (λ k o other. elim (cases_eq k i) [
         | inl h ↦ ap g h ∙ first ∙ sym here ∙ ap half (sym h)
-        | inr h ↦ same k o h other ∙ sym (replaced_other f i (f j) k h)
+        | inr h ↦ same k o h other ∙ sym (with_at_other f i (f j) k h)
       ]) in
       omega arith
 ]

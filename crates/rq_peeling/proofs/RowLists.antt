@@ -19,17 +19,13 @@ use Rattle.rq_parts.proofs.KeyedLists.{list_read, length-lists}
 use Rattle.rq_peeling.proofs.ListParts as parts
 use Rattle.rq_peeling.specs.RowDegrees.{CountsBefore}
 use Rattle.rq_peeling.specs.RowOnes.{ones_of, AreOnesOfRows, AddsOneColumns, AreAllBetween}
-use Rattle.rq_peeling.proofs.ActiveOnes.{count_absent, count_nothing}
+use Rattle.rq_peeling.proofs.Counting.{count_absent, count_nothing}
 
 -- ---- the places of a row's ones
 
 -- the places that come with a one
 abbrev pub places_among : List (ℕ × ℕ) → List ℕ
 places_among pairs = map (λ pair. pair.0) (filter (λ pair. pair.1 == 1) pairs)
-
--- how often a place comes in one list and in another behind it
-count-append : (k : ℕ) (xs ys : List ℕ) → count_by (λ place. place == k) (xs ++ ys) ≡ count_by (λ place. place == k) xs + count_by (λ place. place == k) ys
-count-append k xs ys = sum_by-append (λ place. cond (place == k) 1 0) xs ys
 
 -- the place of a pair counts where the pair is a one
 count-places_among : (k : ℕ) (pairs : List (ℕ × ℕ)) → count_by (λ place. place == k) (places_among pairs) ≡ steps.ones_at k pairs
@@ -71,25 +67,12 @@ places_together bit start middle end xs ys low high first second = record {
       (λ i d lt. let here = first.within i d lt in (here.0, (let below = here.1 in omega arith)))
       (λ i d lt. let here = second.within i d lt in ((let from = here.0 in omega arith), here.1));
   once = λ k from below.
-      count-append k xs ys
+      sum_by-append (λ place. cond (place == k) 1 0) xs ys
       ∙ elim (cases_lt k middle) [
         | inl before ↦ ap (λ n. count_by (λ place. place == k) xs + n) (count_absent ys k (λ is. let here = (second.within is.0 k is.1).0 in omega (arith, here, is.2, before))) ∙ add-zero (count_by (λ place. place == k) xs) ∙ first.once k from before
         | inr after ↦ ap (λ n. n + count_by (λ place. place == k) ys) (count_absent xs k (λ is. let here = (first.within is.0 k is.1).1 in omega (arith, here, is.2, after))) ∙ zero-add (count_by (λ place. place == k) ys) ∙ second.once k after below
       ];
 }
-
--- two parts behind a list, the second that of a slice
-both_behind : (old first second slice middle new : List ℕ) → middle ≡ old ++ first → new ≡ middle ++ slice → slice ≡ second → new ≡ old ++ (first ++ second)
-both_behind old first second slice middle new is_middle is_new is_slice = is_new ∙ ap (λ l. middle ++ l) is_slice ∙ ap (λ l. l ++ second) is_middle ∙ append_assoc old first second
-
--- the places of two parts of a row there
-pub adds_ones : (bit : ℕ → ℕ) (width : ℕ) (old first second slice middle new : List ℕ) → middle ≡ old ++ first → new ≡ middle ++ slice → slice ≡ second → ArePlacesOfOnes bit 0 width (first ++ second) → AddsOneColumns bit width old new
-adds_ones bit width old first second slice middle new is_middle is_new is_slice ones =
-    let is = both_behind old first second slice middle new is_middle is_new is_slice in
-    record {
-      kept = ap (take (length old)) is ∙ take-append_seam old (first ++ second);
-      ones = subst (ArePlacesOfOnes bit 0 width) (sym (ap (drop (length old)) is ∙ drop-append_seam old (first ++ second))) ones;
-    }
 
 -- ---- one more list
 
@@ -221,22 +204,6 @@ module _ (starts values : List ℕ) (all : AreAllBetween starts values) where
   unfolding list_of
   lists_joined = joined_before (length starts - 1) (omega (arith, all.rise.some)) ∙ ap (λ (m : ℕ). take m values) all.last ∙ take_all (length values) values (omega arith)
 
--- what is counted in all of them is counted in each
-pub sum_by-concat : (f : ℕ → ℕ) (lists : List (List ℕ)) → sum_by f (concat lists) ≡ sum_by (sum_by f) lists
-sum_by-concat f [] = refl
-sum_by-concat f (list ∷ lists) =
-    sum_by-append f list (concat lists)
-    ∙ ap (λ n. sum_by f list + n) (sum_by-concat f lists)
-    ∙ sym (sum_by-cons (sum_by f) list lists)
-
-pub length-concat : (lists : List (List ℕ)) → length (concat lists) ≡ sum_by length lists
-length-concat [] = refl
-length-concat (list ∷ lists) = length-append list (concat lists) ∙ ap (λ n. length list + n) (length-concat lists) ∙ sym (sum_by-cons length list lists)
-
-pub All-concat : (P : ℕ → Type 0) (lists : List (List ℕ)) → All (All P) lists → All P (concat lists)
-All-concat P [] all = λ i d l. absurd (omega arith)
-All-concat P (list ∷ lists) all = All-append P list (concat lists) (all 0 [] (omega arith)) (All-concat P lists (λ i d l. all (suc i) d (omega arith)))
-
 -- ---- how many ones stand before the dense columns
 
 -- columns before the dense ones, and others
@@ -253,12 +220,25 @@ counted_before lt_columns xs ys low high =
           let head : ◌≡◌ {A = ℕ} (cond (nat_lt x lt_columns) 1 0) 1 = ap (λ b. cond b 1 0) (lt-ltb x lt_columns below) in
           sum_by-cons (λ k. cond (nat_lt k lt_columns) 1 0) x xs ∙ ap (λ n. n + count_by (λ k. nat_lt k lt_columns) xs) head ∙ ap (λ n. 1 + n) (all xs (λ i d l. low (suc i) d (omega arith))) ∙ omega arith
 
--- a row's places behind a list, those before the dense columns first
-pub adds_counted : (bit : ℕ → ℕ) (lt_columns width : ℕ) (old first second slice middle new : List ℕ) → middle ≡ old ++ first → new ≡ middle ++ slice → slice ≡ second → ArePlacesOfOnes bit 0 lt_columns first → ArePlacesOfOnes bit lt_columns width second
-    → length middle - length old ≡ count_by (λ k. nat_lt k lt_columns) (drop (length old) new)
-adds_counted bit lt_columns width old first second slice middle new is_middle is_new is_slice low high =
-    let is = both_behind old first second slice middle new is_middle is_new is_slice in
-    let rest : drop (length old) new ≡ first ++ second = ap (drop (length old)) is ∙ drop-append_seam old (first ++ second) in
-    let long : length middle ≡ length old + length first = ap length is_middle ∙ length-append old first in
-    let many = counted_before lt_columns first second (All-weaker (λ k. (0 ≤ k) × (k < lt_columns)) (λ k. k < lt_columns) (λ k b. b.1) first low.within) (All-weaker (λ k. (lt_columns ≤ k) × (k < width)) (λ k. lt_columns ≤ k) (λ k b. b.0) second high.within) in
-    rw rest (omega (arith, long, many))
+-- ---- two parts behind a list, the second that of a slice
+
+module _ (old first second slice middle new : List ℕ) (is_middle : middle ≡ old ++ first) (is_new : new ≡ middle ++ slice) (is_slice : slice ≡ second) where
+  both_behind : new ≡ old ++ (first ++ second)
+  both_behind = is_new ∙ ap (λ l. middle ++ l) is_slice ∙ ap (λ l. l ++ second) is_middle ∙ append_assoc old first second
+
+  rest : drop (length old) new ≡ first ++ second
+  rest = ap (drop (length old)) both_behind ∙ drop-append_seam old (first ++ second)
+
+  -- the places of two parts of a row
+  pub adds_ones : (bit : ℕ → ℕ) (width : ℕ) → ArePlacesOfOnes bit 0 width (first ++ second) → AddsOneColumns bit width old new
+  adds_ones bit width ones = record {
+    kept = ap (take (length old)) both_behind ∙ take-append_seam old (first ++ second);
+    ones = subst (ArePlacesOfOnes bit 0 width) (sym rest) ones;
+  }
+
+  -- a row's places, those before the dense columns first
+  pub adds_counted : (bit : ℕ → ℕ) (lt_columns width : ℕ) → ArePlacesOfOnes bit 0 lt_columns first → ArePlacesOfOnes bit lt_columns width second → length middle - length old ≡ count_by (λ k. nat_lt k lt_columns) (drop (length old) new)
+  adds_counted bit lt_columns width low high =
+      let long : length middle ≡ length old + length first = ap length is_middle ∙ length-append old first in
+      let many = counted_before lt_columns first second (All-weaker (λ k. (0 ≤ k) × (k < lt_columns)) (λ k. k < lt_columns) (λ k b. b.1) first low.within) (All-weaker (λ k. (lt_columns ≤ k) × (k < width)) (λ k. lt_columns ≤ k) (λ k b. b.0) second high.within) in
+      rw rest (omega (arith, long, many))

@@ -1,5 +1,5 @@
 -- Columns in an order: those that have pivots, those that are active and those that are inactive.
-use Rattle.std.specs.Prelude.{◌≡◌, ◌≢◌, ℕ, ◌+◌, ◌<◌, ◌≤◌, List, Contains, length}
+use Rattle.std.specs.Prelude.{◌≡◌, ℕ, ◌+◌, ◌<◌, ◌≤◌, List, Contains, length}
 use Rattle.std.specs.List.{range_with_len}
 use Rattle.rq_algebra.specs.Arrangements.{exchange}
 use Rattle.rq_algebra.specs.Systems.{at}
@@ -45,31 +45,28 @@ pub record ExchangesColumns (p q : ℕ) (old new : ColumnState) : Type 0 where
   pub pivots : new.pivots ≡ old.pivots
   pub end : new.end ≡ old.end
 
--- a column isn't active any more, others are as they were, and the pivots stay
-pub record EndsActive (column : ℕ) (old new : ColumnState) : Type 0 where
+-- the columns that are meant aren't active any more, others are as they were, and the pivots stay
+pub record EndsThese (these : ℕ → Type 0) (old new : ColumnState) : Type 0 where
   pub width : length new.order ≡ length old.order
   pub before : (p : ℕ) → p < old.pivots → at new.order p ≡ at old.order p
-  pub left : (k : ℕ) → k < length old.order → IsActive new k → IsActive old k × (k ≢ column)
-  pub kept : (k : ℕ) → k < length old.order → IsActive old k → k ≢ column → IsActive new k
+  pub left : (k : ℕ) → k < length old.order → IsActive new k → IsActive old k × (these k → ⊥)
+  pub kept : (k : ℕ) → k < length old.order → IsActive old k → (these k → ⊥) → IsActive new k
   pub fewer : new.end ≤ old.end
 
--- none of a row's columns is active any more, others are as they were, and the pivots stay
-pub record EndsRow (row : List ℕ) (old new : ColumnState) : Type 0 where
-  pub width : length new.order ≡ length old.order
-  pub before : (p : ℕ) → p < old.pivots → at new.order p ≡ at old.order p
-  pub left : (k : ℕ) → k < length old.order → IsActive new k → IsActive old k
-  pub kept : (k : ℕ) → k < length old.order → IsActive old k → (Contains row k → ⊥) → IsActive new k
-  pub fewer : new.end ≤ old.end
-  pub ended : HasNoActive row new
+-- one column isn't active any more, others are as they were, and the pivots stay
+abbrev pub EndsActive : ℕ → ColumnState → ColumnState → Type 0
+EndsActive column old new = EndsThese (λ k. k ≡ column) old new
 
--- no column has another pivot
+-- none of a row's columns is active any more, and no column has another pivot
 pub record InactivatesRow (row : List ℕ) (old new : ColumnState) : Type 0 where
   pub pivots : new.pivots ≡ old.pivots
-  pub ends : EndsRow row old new
+  pub ends : EndsThese (Contains row) old new
+  pub ended : HasNoActive row new
 
--- the row has the next pivot, in one of its columns that were active
+-- none of a row's columns is active any more, and the row has the next pivot, in one of its columns that were active
 pub record TakesRow (row : List ℕ) (old new : ColumnState) : Type 0 where
   pub pivots : new.pivots ≡ old.pivots + 1
   pub own : Contains row (at new.order old.pivots)
   pub was : IsActive old (at new.order old.pivots)
-  pub ends : EndsRow row old new
+  pub ends : EndsThese (Contains row) old new
+  pub ended : HasNoActive row new

@@ -17,14 +17,14 @@ use Rattle.rq_solver.specs.declared.pi_solver.solved.Solved.{Solved}
 use Rattle.rq_solver.specs.declared.pi_solver.solved.Solved.TheVariants.{Operations, Undetermined}
 use Rattle.rq_peeling.specs.System.{IsSystemOf, rows_of_system}
 use Rattle.rq_peeling.specs.declared.system.System.{System}
-use Rattle.rq_solver.proofs.OctetRows.{same_rows}
+use Rattle.rq_solver.proofs.OctetRows.{with_octet_rows-same}
 use Rattle.rq_elimination.proofs.RowStepLaws.{SameEntries}
 use Rattle.rq_solver.proofs.SolutionLaws.{finds_same, homogeneous_same}
 
 module _ (bits : BitTable) (hdpc : OctetTable) (first : ℕ) (system : System) (is : IsSystemOf bits hdpc first system) where
   same_entries : SameEntries (length system.ones) system.width (rows_of_system system) (with_octet_rows system.first_hdpc (length system.hdpc.rows) bits.bit (entry_of system.hdpc))
   same_entries =
-      same_rows system.first_hdpc (length system.hdpc.rows) (entry_of system.hdpc) (length system.ones) system.width (one_in system.ones) bits.bit
+      with_octet_rows-same system.first_hdpc (length system.hdpc.rows) (entry_of system.hdpc) (length system.ones) system.width (one_in system.ones) bits.bit
       (λ i k l m. (is.ones_are.each i (rw is.ones_are.count at l)).once k (omega arith) (rw is.width_is at m))
 
   pub rows_of_bits : (i k : ℕ) → i < bits.height → k < bits.width → rows_of_system system i k ≡ with_octet_rows first (length hdpc.rows) bits.bit (entry_of hdpc) i k

@@ -1,56 +1,12 @@
 -- How many additions are recorded at most.
-use Rattle.std.proofs.Common.{add-one, zero-add, ◌≡◌, ◌≢◌, ℕ, zero, suc, ◌+◌, ◌-◌, ◌*◌, ◌<◌, ◌≤◌, ◌==◌, if◌then◌else◌, refl, sym, ap, ◌∙◌, arith, inl, inr}
+use Rattle.std.proofs.Common.{add-one, zero-add, ◌≡◌, ◌≢◌, ℕ, zero, suc, ◌+◌, ◌-◌, ◌*◌, ◌<◌, ◌≤◌, refl, sym, ap, ◌∙◌, arith, inl, inr}
 use Rattle.std.proofs.lemmas.Bool.{cases_eq, cases_lt}
 use Rattle.std.proofs.Math.Nat.{mul-le-mul_left, mul-le-mul_right}
 use Rattle.rq_algebra.specs.Arrangements.{ArePlaces}
-use Rattle.rq_algebra.specs.Systems.{stacked}
-use Rattle.rq_algebra.proofs.Stacks.{stacked_above, stacked_below}
+use Rattle.rq_algebra.specs.Changes.{with_at}
+use Rattle.rq_algebra.proofs.ChangeLaws.{with_at_same, with_at_other}
 use Rattle.rq_elimination.specs.OperationCounts.{beyond_one, multiples, multiples-none, multiples-more, triangle, triangle-none, triangle-more}
 use Rattle.rq_solver.specs.HdpcOctets.{hdpc_bound}
-use Rattle.rq_peeling.proofs.PlaceCounts.{few_places}
-use Rattle.rq_elimination.proofs.Choices.{if_same, if_apart}
-
--- places, and others that follow each other
-module _ (n count first bound : ℕ) (places : ℕ → ℕ) (are : ArePlaces n bound places) (within : first + count ≤ bound) (other : (i q : ℕ) → i < count → q < n → first + i ≢ places q) where
-  both : ℕ → ℕ
-  both = stacked n places (λ i. first + i)
-
-  both_first : (i : ℕ) → i < n → both i ≡ places i
-  unfolding both
-  both_first i l = stacked_above n places (λ j. first + j) i l
-
-  both_after : (i : ℕ) → both (n + i) ≡ first + i
-  unfolding both
-  both_after i = stacked_below n places (λ j. first + j) i
-
-  -- a place behind the first n
-  behind : (i : ℕ) → n ≤ i → i < n + count → (j : ℕ) × (j < count) × (both i ≡ first + j)
-  behind i late l = let back : n + (i - n) ≡ i = omega arith in (i - n, (omega arith), ap both (sym back) ∙ both_after (i - n))
-
-  both_are : ArePlaces (n + count) bound both
-  both_are = record {
-    below = λ i l. elim (cases_lt i n) [
-      | inl early ↦ rw (both_first i early) (are.below i early)
-      | inr late ↦ let j = behind i late l in rw j.2 (let inside = j.1 in omega (arith, inside))
-    ];
-    apart = λ i k l m e. elim (cases_lt i n) [
-      | inl early ↦ elim (cases_lt k n) [
-        | inl first_k ↦ are.apart i k early first_k (sym (both_first i early) ∙ e ∙ both_first k first_k)
-        | inr late_k ↦ let j = behind k late_k m in absurd (other j.0 i j.1 early (sym j.2 ∙ sym e ∙ both_first i early))
-      ]
-      | inr late ↦ elim (cases_lt k n) [
-        | inl first_k ↦ let j = behind i late l in absurd (other j.0 k j.1 first_k (sym j.2 ∙ e ∙ both_first k first_k))
-        | inr late_k ↦
-            let back : n + (i - n) ≡ i = omega arith in
-            let back_k : n + (k - n) ≡ k = omega arith in
-            let same : first + (i - n) ≡ first + (k - n) = sym (both_after (i - n)) ∙ ap both back ∙ e ∙ ap both (sym back_k) ∙ both_after (k - n) in
-            omega (arith, same, back, back_k)
-      ]
-    ];
-  }
-
-  pub few_together : n + count ≤ bound
-  few_together = few_places (n + count) bound both both_are
 
 -- n different places below the bound were met among the first t of these
 pub record HasMet (bound : ℕ) (place : ℕ → ℕ) (t n : ℕ) : Type 0 where
@@ -74,16 +30,14 @@ module _ (bound : ℕ) (place : ℕ → ℕ) where
       met = λ s l. let q = has.met s l in (q.0, (let early = q.1 in omega arith), q.2);
     }
 
-    next : ℕ → ℕ
-    next s = if s == n then place t else has.which s
+    abbrev next : ℕ → ℕ
+    next = with_at has.which n (place t)
 
     next_here : (s : ℕ) → s ≡ n → next s ≡ place t
-    unfolding next
-    next_here s e = if_same s n (place t) (has.which s) e
+    next_here = with_at_same has.which n (place t)
 
     next_other : (s : ℕ) → s ≢ n → next s ≡ has.which s
-    unfolding next
-    next_other s d = if_apart s n (place t) (has.which s) d
+    next_other = with_at_other has.which n (place t)
 
     further : ((q : ℕ) → q < t → place q ≢ place t) → (s : ℕ) → s < n → has.which s ≢ place t
     further fresh s l e = let q = has.met s l in fresh q.0 q.1 (q.2 ∙ e)

@@ -1,6 +1,5 @@
 -- One turn of an elimination: rows exchanged in their list, a row scaled, a column cleared.
 use Rattle.std.proofs.Common.{◌≡◌, ◌≢◌, ℕ, ◌+◌, ◌<◌, ◌≤◌, List, length, refl, ap, ◌∙◌, arith, inl, inr}
-use Rattle.std.specs.List.{SwappedAt}
 use Rattle.std.proofs.lemmas.Bool.{cases_eq, cases_lt}
 use Rattle.rq_algebra.specs.Steps.{AddsRow, ScalesRow}
 use Rattle.rq_algebra.specs.Systems.{at}
@@ -8,24 +7,24 @@ use Rattle.rq_algebra.proofs.Places.{exchange_left, exchange_right, exchange_oth
 use Rattle.rq_algebra.proofs.Sums.{mul_zero}
 use Rattle.rq_standard.specs.OctetField.{octets}
 use Rattle.rq_parts.specs.DenseOctetMatrix.{OctetTable, entry_of, HasOctets}
-use Rattle.rq_solver.proofs.HdpcClearing.{plus_zero_times, plus_own}
+use Rattle.rq_solver.proofs.OctetSums.{plus_zero_times, plus_own}
 use Rattle.rq_elimination.specs.RowSteps.{AreRows, ClearsBelow, IsEchelon}
-use Rattle.rq_elimination.proofs.SwappedRows.{at-swapped}
+use Rattle.rq_elimination.proofs.SwappedRows.{Exchanges, at-swapped}
 
 -- ---- rows in echelon form
 
 pub echelon_none : (rows : List ℕ) (table : OctetTable) → IsEchelon rows 0 table
 echelon_none rows table = record { fits = omega arith; ones = λ p l. absurd (omega arith); zeros = λ i p l n m. absurd (omega arith) }
 
-pub swapped_echelon : (rows swapped : List ℕ) (p q : ℕ) (swaps : SwappedAt rows swapped p q) (long : length swapped ≡ length rows) (in_p : p < length rows) (in_q : q < length rows) (done : ℕ) (table : OctetTable) → done ≤ p → done ≤ q → IsEchelon rows done table → IsEchelon swapped done table
-swapped_echelon rows swapped p q swaps long in_p in_q done table left_p left_q echelon = record {
-  fits = rw long echelon.fits;
-  ones = λ k l. ap (λ (r : ℕ). entry_of table r k) (at-swapped rows swapped p q swaps long in_p in_q k ∙ ap (at rows) (exchange_other p q k (omega arith) (omega arith))) ∙ echelon.ones k l;
-  zeros = λ i k l early m. ap (λ (r : ℕ). entry_of table r k) (at-swapped rows swapped p q swaps long in_p in_q i) ∙ elim (cases_eq i p) [
-    | inl e ↦ ap (λ (n : ℕ). entry_of table (at rows n) k) (exchange_left p q i e) ∙ echelon.zeros q k in_q (omega arith) m
+pub swapped_echelon : {rows swapped : List ℕ} {p q : ℕ} → Exchanges rows swapped p q → (done : ℕ) (table : OctetTable) → done ≤ p → done ≤ q → IsEchelon rows done table → IsEchelon swapped done table
+swapped_echelon {rows} {swapped} {p} {q} exchanges done table left_p left_q echelon = record {
+  fits = rw exchanges.len echelon.fits;
+  ones = λ k l. ap (λ (r : ℕ). entry_of table r k) (at-swapped exchanges k ∙ ap (at rows) (exchange_other p q k (omega arith) (omega arith))) ∙ echelon.ones k l;
+  zeros = λ i k l early m. ap (λ (r : ℕ). entry_of table r k) (at-swapped exchanges i) ∙ elim (cases_eq i p) [
+    | inl e ↦ ap (λ (n : ℕ). entry_of table (at rows n) k) (exchange_left p q i e) ∙ echelon.zeros q k exchanges.right (omega arith) m
     | inr d ↦ elim (cases_eq i q) [
-      | inl e ↦ ap (λ (n : ℕ). entry_of table (at rows n) k) (exchange_right p q i e) ∙ echelon.zeros p k in_p (omega arith) m
-      | inr f ↦ ap (λ (n : ℕ). entry_of table (at rows n) k) (exchange_other p q i d f) ∙ echelon.zeros i k (rw long at l) early m
+      | inl e ↦ ap (λ (n : ℕ). entry_of table (at rows n) k) (exchange_right p q i e) ∙ echelon.zeros p k exchanges.left (omega arith) m
+      | inr f ↦ ap (λ (n : ℕ). entry_of table (at rows n) k) (exchange_other p q i d f) ∙ echelon.zeros i k (rw exchanges.len at l) early m
     ]
   ];
 }

@@ -4,35 +4,31 @@ use Rattle.std.proofs.lemmas.Bool.{cases_eq, cases_lt}
 use Rattle.std.proofs.lemmas.List.Elements.{All-append, All-nil, Contains-get_or}
 use Rattle.rq_algebra.specs.Operations.{Operation}
 use Rattle.rq_algebra.specs.Systems.{at}
-use Rattle.rq_algebra.proofs.Sums.{add_zero}
 use Rattle.rq_standard.specs.OctetField.{octets}
 use Rattle.rq_parts.specs.DenseOctetMatrix.{OctetTable, entry_of}
 use Rattle.rq_peeling.specs.SystemRows.{AreRowsOfBits, one_in}
-use Rattle.rq_solver.specs.FourthPhase.{FinishesPivots, IsFinished, Sparsifies}
+use Rattle.rq_solver.specs.FourthPhase.{AreUnfinished, FinishesPivots, IsFinished, Sparsifies}
 use Rattle.rq_solver.specs.PivotAdditions.{IsCleared, IsUncleared, RecordsPivots, TakesPivots, TakesPivotsBy}
-use Rattle.rq_solver.specs.SecondPhase.{AreUnits, ClearsColumns, IsStepTo}
+use Rattle.rq_solver.specs.SecondPhase.{ClearsColumns, IsStepTo}
 use Rattle.rq_peeling.specs.Peeling.{IsPeeled}
 use Rattle.rq_peeling.specs.RowOnes.{ones_of}
 use Rattle.rq_elimination.specs.RecordedRows.{Performs, Records}
 use Rattle.rq_elimination.specs.declared.recorded.RecordedRows.{RecordedRows}
 use Rattle.rq_elimination.specs.RowSteps.{AreRows, IsEchelon, rows_after}
 use Rattle.rq_elimination.proofs.Performing.{performs_none, performs_more, records_none, records_more}
-use Rattle.rq_elimination.proofs.Choices.{if_same, if_apart}
 use Rattle.rq_peeling.proofs.ActiveOnes.{not_both}
-use Rattle.rq_peeling.proofs.PlaceCounts.{count_contains}
 use Rattle.rq_elimination.proofs.StepColumns.{rows_after-none, rows_after-next}
+use Rattle.rq_solver.proofs.PivotsTaken.{own_and_taken, own_is_left}
 use Rattle.rq_solver.proofs.StepsToRows.{steps_to, sums_to}
+
+-- a row that stays as it was is finished as it was
+finished_same : {rows order : List ℕ} {count : ℕ} {column : ℕ → ℕ} (m now : ℕ → ℕ → ℕ) (r : ℕ) → ((k : ℕ) → now r k ≡ m r k) → IsFinished rows order count column m r → IsFinished rows order count column now r
+finished_same {rows} {order} {count} {column} m now r same done =
+    record { cleared = record { entries = λ i l. same (at order i) ∙ done.cleared.entries i l }; zeros = λ f l. same (column f) ∙ done.zeros f l }
 
 module _ (lists : List (List ℕ)) (rows order places : List ℕ) (width : ℕ) (bits : AreRowsOfBits width lists) (peeled : IsPeeled width lists (record { rows = rows; order = order; places = places })) where
   rows_apart : (p q : ℕ) → p < length rows → q < length rows → p ≢ q → at rows p ≢ at rows q
   rows_apart p q l n d e = d (peeled.in_rows.apart p q l n e)
-
-  -- a row has a one in its own pivot's column
-  own_one : (p : ℕ) → p < length rows → one_in lists (at rows p) (at order p) ≡ 1
-  own_one p l =
-      let some = count_contains (ones_of lists (at rows p)) (at order p) (peeled.own p l) in
-      let most = bits.once (at rows p) (at order p) (peeled.in_rows.below p l) (peeled.columns.ordered p (omega (arith, peeled.few))).0 in
-      omega (arith, some, most)
 
   -- a row takes rows of earlier pivots alone
   only_earlier : (p j : ℕ) → p < length rows → j < length rows → Contains (ones_of lists (at rows p)) (at order j) → at rows j ≢ at rows p → j < p
@@ -52,36 +48,21 @@ module _ (lists : List (List ℕ)) (rows order places : List ℕ) (width : ℕ) 
     pub turns_back : IsCleared rows order m (at rows p) → IsUncleared lists rows order (rows_after octets taken.steps m) (at rows p)
     turns_back cleared = record {
       entries = λ i l.
-          let row = at rows p in
-          let bit = one_in lists row (at order i) in
-          taken.taken m needed i l ∙ elim (cases_eq (at rows i) row) [
-            | inl e ↦
-                let same : i ≡ p = peeled.in_rows.apart i p l in_rows e in
-                let own : bit ≡ 1 = ap (λ (n : ℕ). one_in lists row (at order n)) same ∙ own_one p in_rows in
-                ap (octets.add (m row (at order i))) (if_same (at rows i) row 0 bit e) ∙ add_zero octets (m row (at order i)) ∙ cleared.entries i l ∙ if_same (at rows i) row 1 0 e ∙ sym own
-            | inr d ↦
-                ap (octets.add (m row (at order i))) (if_apart (at rows i) row 0 bit d) ∙ ap (λ (x : ℕ). octets.add x bit) (cleared.entries i l ∙ if_apart (at rows i) row 1 0 d) ∙ octets.zero_add bit
-          ];
+          taken.taken m needed i l ∙ ap (λ (x : ℕ). octets.add x (if at rows i == at rows p then 0 else one_in lists (at rows p) (at order i))) (cleared.entries i l)
+          ∙ own_and_taken lists rows order places width bits peeled i l (at rows p);
     }
 
     pub turns_again : IsUncleared lists rows order m (at rows p) → IsCleared rows order (rows_after octets taken.steps m) (at rows p)
     turns_again raw = record {
       entries = λ i l.
-          let row = at rows p in
-          let bit = one_in lists row (at order i) in
-          taken.taken m needed i l ∙ ap (λ (x : ℕ). octets.add x (if at rows i == row then 0 else bit)) (raw.entries i l) ∙ elim (cases_eq (at rows i) row) [
-            | inl e ↦
-                let same : i ≡ p = peeled.in_rows.apart i p l in_rows e in
-                let own : bit ≡ 1 = ap (λ (n : ℕ). one_in lists row (at order n)) same ∙ own_one p in_rows in
-                ap (octets.add bit) (if_same (at rows i) row 0 bit e) ∙ add_zero octets bit ∙ own ∙ sym (if_same (at rows i) row 1 0 e)
-            | inr d ↦ ap (octets.add bit) (if_apart (at rows i) row 0 bit d) ∙ octets.add_self bit ∙ sym (if_apart (at rows i) row 1 0 d)
-          ];
+          taken.taken m needed i l ∙ ap (λ (x : ℕ). octets.add x (if at rows i == at rows p then 0 else one_in lists (at rows p) (at order i))) (raw.entries i l)
+          ∙ own_is_left lists rows order places width bits peeled i l (at rows p);
     }
 
   -- ---- back
 
-  pub takes_none : (marks : List Bool) (old : RecordedRows) → Sparsifies lists rows order marks (length rows) old old
-  takes_none marks old = record {
+  pub sparsifies_none : (marks : List Bool) (old : RecordedRows) → Sparsifies lists rows order marks (length rows) old old
+  sparsifies_none marks old = record {
     steps = [];
     performs = performs_none old;
     within = All-nil (IsStepTo (Contains rows));
@@ -151,7 +132,7 @@ module _ (lists : List (List ℕ)) (rows order places : List ℕ) (width : ℕ) 
       records = records_none old;
       within = All-nil (IsStepTo (Contains rows));
       elsewhere = λ m r k out. rows_after-none octets m r k;
-      final = λ m column units zeros shown plain raw p l. absurd (omega arith);
+      final = λ m column before p l. absurd (omega arith);
     }
 
     module _ (t : ℕ) (in_rows : t < length rows) (old cur mid : RecordedRows) (v : FinishesPivots lists rows order inactive_rows marks count t old cur) (turn : ClearsColumns inactive_rows (at rows t) 0 count count (entry_of cur.table (at rows t)) cur mid)
@@ -174,8 +155,7 @@ module _ (lists : List (List ℕ)) (rows order places : List ℕ) (width : ℕ) 
       first_elsewhere : (m : ℕ → ℕ → ℕ) (r k : ℕ) → ((p : ℕ) → p < t + 1 → at rows p ≢ r) → rows_after octets (v.steps ++ turn.steps) m r k ≡ m r k
       first_elsewhere m r k out = first_is m r k ∙ turn.elsewhere (rows_after octets v.steps m) r k (λ e. out t (omega arith) (sym e)) ∙ v.elsewhere m r k (λ p l. out p (omega arith))
 
-      module _ (m : ℕ → ℕ → ℕ) (column : ℕ → ℕ) (units : AreUnits inactive_rows 0 count column m) (zeros : (f i : ℕ) → f < count → i < length rows → m (at inactive_rows f) (at order i) ≡ 0)
-          (shown : (p f : ℕ) → p < length rows → f < count → m (at rows p) (column f) ≡ entry_of old.table (at rows p) f) where
+      module _ (m : ℕ → ℕ → ℕ) (column : ℕ → ℕ) (before : AreUnfinished lists rows order inactive_rows marks count old.table column m) where
         reduced_stay : (f k : ℕ) → f < count → rows_after octets v.steps m (at inactive_rows f) k ≡ m (at inactive_rows f) k
         reduced_stay f k l = v.elsewhere m (at inactive_rows f) k (λ p n. apart p f (omega arith) l)
 
@@ -183,13 +163,13 @@ module _ (lists : List (List ℕ)) (rows order places : List ℕ) (width : ℕ) 
         own_stays_yet k = v.elsewhere m (at rows t) k (λ p l. rows_apart p t (omega arith) in_rows (λ e. omega (arith, e, l)))
 
         first_pivots : (i : ℕ) → i < length rows → rows_after octets (v.steps ++ turn.steps) m (at rows t) (at order i) ≡ m (at rows t) (at order i)
-        first_pivots i l = first_is m (at rows t) (at order i) ∙ turn.kept (rows_after octets v.steps m) (at order i) (λ f from n. reduced_stay f (at order i) n ∙ zeros f i n l) ∙ own_stays_yet (at order i)
+        first_pivots i l = first_is m (at rows t) (at order i) ∙ turn.kept (rows_after octets v.steps m) (at order i) (λ f from n. reduced_stay f (at order i) n ∙ before.zeros f i n l) ∙ own_stays_yet (at order i)
 
         first_zero : (f : ℕ) → f < count → rows_after octets (v.steps ++ turn.steps) m (at rows t) (column f) ≡ 0
         first_zero f l =
             first_is m (at rows t) (column f)
-            ∙ turn.cleared (rows_after octets v.steps m) column (λ a g from n o. reduced_stay a (column g) n ∙ units a g from n o)
-            (λ g from n. own_stays_yet (column g) ∙ shown t g in_rows n ∙ ap (λ table. entry_of table (at rows t) g) (sym v.records.table)) f (omega arith) l l
+            ∙ turn.cleared (rows_after octets v.steps m) column (λ a g from n o. reduced_stay a (column g) n ∙ before.units a g from n o)
+            (λ g from n. own_stays_yet (column g) ∙ before.shown t g in_rows n ∙ ap (λ table. entry_of table (at rows t) g) (sym v.records.table)) f (omega arith) l l
 
       pub finish_plain : get_or marks t false ≡ false → FinishesPivots lists rows order inactive_rows marks count (t + 1) old mid
       finish_plain unset = record {
@@ -197,17 +177,12 @@ module _ (lists : List (List ℕ)) (rows order places : List ℕ) (width : ℕ) 
         records = first_recorded;
         within = first_within;
         elsewhere = first_elsewhere;
-        final = λ m column units zeros shown plain raw p l. elim (cases_eq p t) [
+        final = λ m column before p l. elim (cases_eq p t) [
           | inl e ↦ rw e (record {
-            cleared = record { entries = λ i n. first_pivots m column units zeros shown i n ∙ (plain t in_rows unset).entries i n };
-            zeros = first_zero m column units zeros shown;
+            cleared = record { entries = λ i n. first_pivots m column before i n ∙ (before.plain t in_rows unset).entries i n };
+            zeros = first_zero m column before;
           })
-          | inr d ↦
-              let done = v.final m column units zeros shown plain raw p (omega arith) in
-              record {
-                cleared = record { entries = λ i n. first_other m p (at order i) (omega arith) d ∙ done.cleared.entries i n };
-                zeros = λ f n. first_other m p (column f) (omega arith) d ∙ done.zeros f n;
-              }
+          | inr d ↦ finished_same _ _ _ (λ k. first_other m p k (omega arith) d) (v.final m column before p (omega arith))
         ];
       }
 
@@ -218,28 +193,20 @@ module _ (lists : List (List ℕ)) (rows order places : List ℕ) (width : ℕ) 
         all_other : (m : ℕ → ℕ → ℕ) (p k : ℕ) → p < length rows → p ≢ t → rows_after octets ((v.steps ++ turn.steps) ++ taken.steps) m (at rows p) k ≡ rows_after octets v.steps m (at rows p) k
         all_other m p k l d = all_is m (at rows p) k ∙ taken.elsewhere (rows_after octets (v.steps ++ turn.steps) m) (at rows p) k (rows_apart p t l in_rows d) ∙ first_other m p k l d
 
-        module _ (m : ℕ → ℕ → ℕ) (column : ℕ → ℕ) (units : AreUnits inactive_rows 0 count column m) (zeros : (f i : ℕ) → f < count → i < length rows → m (at inactive_rows f) (at order i) ≡ 0)
-            (shown : (p f : ℕ) → p < length rows → f < count → m (at rows p) (column f) ≡ entry_of old.table (at rows p) f)
-            (plain : (p : ℕ) → p < length rows → get_or marks p false ≡ false → IsCleared rows order m (at rows p)) (raw : (p : ℕ) → p < length rows → get_or marks p false ≡ true → IsUncleared lists rows order m (at rows p)) where
+        module _ (m : ℕ → ℕ → ℕ) (column : ℕ → ℕ) (before : AreUnfinished lists rows order inactive_rows marks count old.table column m) where
           done_before : (j : ℕ) → j < t → j < length rows → IsFinished rows order count column (rows_after octets (v.steps ++ turn.steps) m) (at rows j)
-          done_before j l n =
-              let done = v.final m column units zeros shown plain raw j l in
-              let d : j ≢ t = omega arith in
-              record {
-                cleared = record { entries = λ i o. first_other m j (at order i) n d ∙ done.cleared.entries i o };
-                zeros = λ f o. first_other m j (column f) n d ∙ done.zeros f o;
-              }
+          done_before j l n = finished_same _ _ _ (λ k. first_other m j k n (omega arith)) (v.final m column before j l)
 
           own_finished : IsFinished rows order count column (rows_after octets ((v.steps ++ turn.steps) ++ taken.steps) m) (at rows t)
           own_finished =
               let again = turns_again Records t in_rows mid new taken (rows_after octets (v.steps ++ turn.steps) m) (λ j l n. (done_before j l n).cleared)
-              (record { entries = λ i n. first_pivots m column units zeros shown i n ∙ (raw t in_rows yes).entries i n }) in
+              (record { entries = λ i n. first_pivots m column before i n ∙ (before.raw t in_rows yes).entries i n }) in
               record {
                 cleared = record { entries = λ i n. all_is m (at rows t) (at order i) ∙ again.entries i n };
                 zeros = λ f n.
                     all_is m (at rows t) (column f)
                     ∙ taken.kept (rows_after octets (v.steps ++ turn.steps) m) (column f) (λ j o c d. (done_before j (only_earlier t j in_rows o c d) o).zeros f n)
-                    ∙ first_zero m column units zeros shown f n;
+                    ∙ first_zero m column before f n;
               }
 
         pub finish_again : FinishesPivots lists rows order inactive_rows marks count (t + 1) old new
@@ -248,14 +215,9 @@ module _ (lists : List (List ℕ)) (rows order places : List ℕ) (width : ℕ) 
           records = records_more (v.steps ++ turn.steps) taken.steps old mid new first_recorded taken.done;
           within = All-append (IsStepTo (Contains rows)) (v.steps ++ turn.steps) taken.steps first_within (sums_to (Contains rows) (at rows t) own_row (length mid.table.rows) taken.steps taken.sums);
           elsewhere = λ m r k out. all_is m r k ∙ taken.elsewhere (rows_after octets (v.steps ++ turn.steps) m) r k (λ e. out t (omega arith) (sym e)) ∙ first_elsewhere m r k out;
-          final = λ m column units zeros shown plain raw p l. elim (cases_eq p t) [
-            | inl e ↦ rw e (own_finished m column units zeros shown plain raw)
-            | inr d ↦
-                let done = v.final m column units zeros shown plain raw p (omega arith) in
-                record {
-                  cleared = record { entries = λ i n. all_other m p (at order i) (omega arith) d ∙ done.cleared.entries i n };
-                  zeros = λ f n. all_other m p (column f) (omega arith) d ∙ done.zeros f n;
-                }
+          final = λ m column before p l. elim (cases_eq p t) [
+            | inl e ↦ rw e (own_finished m column before)
+            | inr d ↦ finished_same _ _ _ (λ k. all_other m p k (omega arith) d) (v.final m column before p (omega arith))
           ];
         }
 

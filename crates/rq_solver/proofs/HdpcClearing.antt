@@ -1,27 +1,21 @@
 -- HDPC rows take one another, factors, and rows of pivots.
 use Rattle.std.proofs.Common.{◌≡◌, ◌≢◌, ℕ, ◌+◌, ◌<◌, ◌≤◌, List, [], ◌∷◌, ◌++◌, length, refl, sym, ap, ◌∙◌, arith, inl, inr, lit<}
 use Rattle.std.proofs.lemmas.Bool.{cases_eq, cases_lt}
-use Rattle.rq_algebra.specs.Operations.{MulAssign}
+use Rattle.rq_algebra.specs.Operations.{Operation, MulAssign}
 use Rattle.rq_algebra.specs.Steps.{AddsRow, ScalesRow}
 use Rattle.rq_algebra.specs.Systems.{at, HasElements}
-use Rattle.rq_algebra.proofs.Sums.{add_zero, mul_zero, mul_one}
+use Rattle.rq_algebra.proofs.Sums.{mul_zero}
 use Rattle.rq_standard.specs.OctetField.{octets}
-use Rattle.rq_solver.specs.HdpcOctets.{ClearsOctets, AreOctetsIn, HasPivotsBeside, PivotsAreCleared, ShowHdpcOctets, CombinesOctets, ChangesOctets, octets_from, with_zeros}
+use Rattle.rq_solver.specs.HdpcOctets.{ClearsOctets, AreOctetsIn, HasPivotsBeside, PivotsAreCleared, ShowHdpcOctets, CombinesOctets, ChangesOctets, HaveZeros, octets_from, with_zeros}
 use Rattle.rq_elimination.specs.RecordedRows.{Performs}
 use Rattle.rq_elimination.specs.RowSteps.{sum_step, rows_after}
 use Rattle.rq_elimination.specs.declared.recorded.RecordedRows.{RecordedRows}
 use Rattle.rq_elimination.proofs.StepColumns.{rows_after-none, rows_after-next}
 use Rattle.rq_elimination.proofs.Performing.{sum_step-here, sum_step-elsewhere, scaling-here, scaling-elsewhere, performs_none, performs_more}
 use Rattle.rq_elimination.proofs.Choices.{if_same, if_apart}
+use Rattle.rq_solver.proofs.OctetSums.{plus_zero_times, plus_own}
 use Rattle.rq_solver.proofs.PivotsTaken.{cleared_small}
 use Rattle.rq_solver.proofs.OctetColumns.{before_column, from_column, zero_here, same_beside, same_behind, zeros_in_all}
-
--- a multiple of zero adds nothing, and a multiple of 1 takes away what it is
-pub plus_zero_times : (x c y : ℕ) → y ≡ 0 → octets.add x (octets.mul c y) ≡ x
-plus_zero_times x c y e = ap (λ (z : ℕ). octets.add x (octets.mul c z)) e ∙ ap (octets.add x) (mul_zero octets c) ∙ add_zero octets x
-
-pub plus_own : (x c y : ℕ) → c < 256 → x ≡ c → y ≡ 1 → octets.add x (octets.mul c y) ≡ 0
-plus_own x c y small e f = ap (λ (z : ℕ). octets.add x (octets.mul c z)) f ∙ ap (octets.add x) (mul_one octets c small) ∙ ap (λ (z : ℕ). octets.add z c) e ∙ octets.add_self c
 
 -- a row with 0 in a column keeps it as it takes a multiple of another one
 zero_takes_zero : (dest src scalar : ℕ) (m : ℕ → ℕ → ℕ) (k : ℕ) → m src k ≡ 0 → m dest k ≡ 0 → rows_after octets (sum_step dest src scalar ∷ []) m dest k ≡ 0
@@ -49,38 +43,41 @@ module _ (first count width : ℕ) where
   }
 
   module _ (was now : ℕ → ℕ → ℕ) (old new : RecordedRows) (are : HasElements octets count width was) (dest row scalar : ℕ) (in_dest : dest < count) (row_is : row ≡ first + dest) where
-    pub combines_sum : (src from : ℕ) → src < count → from ≡ first + src → AddsRow octets count width dest src scalar was now
-        → Performs (sum_step row from scalar ∷ []) old new → CombinesOctets first count width was now old new
-    combines_sum src from in_src from_is adds performs = record {
-      steps = sum_step (first + dest) (first + src) scalar ∷ [];
-      performs = rw (row_is, from_is) at performs;
-      elsewhere = λ m r k out. sum_step-elsewhere (first + dest) (first + src) scalar m r k (λ e. out dest in_dest (sym e));
+    -- one step that changes this row alone
+    combines_step : (step : Operation) → Performs (step ∷ []) old new → ((m : ℕ → ℕ → ℕ) (r k : ℕ) → r ≢ first + dest → rows_after octets (step ∷ []) m r k ≡ m r k)
+        → ((m : ℕ → ℕ → ℕ) (l k : ℕ) → k < width → ((i : ℕ) → i < count → m (first + i) l ≡ was i k) → rows_after octets (step ∷ []) m (first + dest) l ≡ now dest k)
+        → ((i k : ℕ) → i < count → k < width → i ≢ dest → now i k ≡ was i k) → ((m : ℕ → ℕ → ℕ) (k : ℕ) → HaveZeros first count m k → rows_after octets (step ∷ []) m (first + dest) k ≡ 0)
+        → CombinesOctets first count width was now old new
+    combines_step step performs elsewhere here others zero = record {
+      steps = step ∷ [];
+      performs = performs;
+      elsewhere = λ m r k out. elsewhere m r k (λ e. out dest in_dest (sym e));
       shown = λ m l k n had i o. elim (cases_eq i dest) [
-        | inl e ↦
-            let small : m (first + src) l < 256 = rw (had src in_src) (are src k in_src n) in
-            rw e (sum_step-here (first + dest) (first + src) scalar m l small ∙ cc (had dest in_dest, had src in_src, adds.at_dest k n))
-        | inr d ↦ sum_step-elsewhere (first + dest) (first + src) scalar m (first + i) l (λ e. d (omega (arith, e))) ∙ had i o ∙ sym (adds.elsewhere i k o n d)
+        | inl e ↦ rw e (here m l k n had)
+        | inr d ↦ elsewhere m (first + i) l (λ e. d (omega (arith, e))) ∙ had i o ∙ sym (others i k o n d)
       ];
       kept = λ m k zeros i o. elim (cases_eq i dest) [
-        | inl e ↦ rw e (zero_takes_zero (first + dest) (first + src) scalar m k (zeros src in_src) (zeros dest in_dest))
-        | inr d ↦ sum_step-elsewhere (first + dest) (first + src) scalar m (first + i) k (λ e. d (omega (arith, e))) ∙ zeros i o
+        | inl e ↦ rw e (zero m k zeros)
+        | inr d ↦ elsewhere m (first + i) k (λ e. d (omega (arith, e))) ∙ zeros i o
       ];
     }
 
+    pub combines_sum : (src from : ℕ) → src < count → from ≡ first + src → AddsRow octets count width dest src scalar was now
+        → Performs (sum_step row from scalar ∷ []) old new → CombinesOctets first count width was now old new
+    combines_sum src from in_src from_is adds performs =
+        combines_step (sum_step (first + dest) (first + src) scalar) (rw (row_is, from_is) at performs) (sum_step-elsewhere (first + dest) (first + src) scalar)
+        (λ m l k n had.
+        let small : m (first + src) l < 256 = rw (had src in_src) (are src k in_src n) in
+        sum_step-here (first + dest) (first + src) scalar m l small ∙ cc (had dest in_dest, had src in_src, adds.at_dest k n))
+        adds.elsewhere
+        (λ m k zeros. zero_takes_zero (first + dest) (first + src) scalar m k (zeros src in_src) (zeros dest in_dest))
+
     pub combines_scaling : ScalesRow octets count width dest scalar was now → Performs (MulAssign row scalar ∷ []) old new → CombinesOctets first count width was now old new
-    combines_scaling scales performs = record {
-      steps = MulAssign (first + dest) scalar ∷ [];
-      performs = rw row_is at performs;
-      elsewhere = λ m r k out. scaling-elsewhere (first + dest) scalar m r k (λ e. out dest in_dest (sym e));
-      shown = λ m l k n had i o. elim (cases_eq i dest) [
-        | inl e ↦ rw e (scaling-here (first + dest) scalar m l ∙ cc (had dest in_dest, scales.at_dest k n))
-        | inr d ↦ scaling-elsewhere (first + dest) scalar m (first + i) l (λ e. d (omega (arith, e))) ∙ had i o ∙ sym (scales.elsewhere i k o n d)
-      ];
-      kept = λ m k zeros i o. elim (cases_eq i dest) [
-        | inl e ↦ rw e (scaling-here (first + dest) scalar m k ∙ ap (octets.mul scalar) (zeros dest in_dest) ∙ mul_zero octets scalar)
-        | inr d ↦ scaling-elsewhere (first + dest) scalar m (first + i) k (λ e. d (omega (arith, e))) ∙ zeros i o
-      ];
-    }
+    combines_scaling scales performs =
+        combines_step (MulAssign (first + dest) scalar) (rw row_is at performs) (scaling-elsewhere (first + dest) scalar)
+        (λ m l k n had. scaling-here (first + dest) scalar m l ∙ cc (had dest in_dest, scales.at_dest k n))
+        scales.elsewhere
+        (λ m k zeros. scaling-here (first + dest) scalar m k ∙ ap (octets.mul scalar) (zeros dest in_dest) ∙ mul_zero octets scalar)
 
 -- ---- steps with the pivots' rows
 
@@ -92,8 +89,8 @@ module _ (rows order places : List ℕ) (first count width : ℕ) where
   pub beside_still : (old new : RecordedRows) → HasPivotsBeside rows order places first count width old → length new.table.rows ≡ length old.table.rows → HasPivotsBeside rows order places first count width new
   beside_still old new beside heights = record { columns = beside.columns; few = beside.few; pivots = rw heights beside.pivots; apart = beside.apart }
 
-  pub changes_none : (octet : ℕ → ℕ → ℕ) (state : RecordedRows) → ChangesOctets rows order first count octet octet state state
-  changes_none octet state = record {
+  pub changes_no_octets : (octet : ℕ → ℕ → ℕ) (state : RecordedRows) → ChangesOctets rows order first count octet octet state state
+  changes_no_octets octet state = record {
     steps = [];
     performs = performs_none state;
     elsewhere = λ m r k out. rows_after-none octets m r k;
@@ -123,9 +120,9 @@ module _ (rows order places : List ℕ) (first count width : ℕ) where
     kept = λ m k none zeros. combines.kept m k zeros;
   }
 
-  pub changes_more : (a b c : ℕ → ℕ → ℕ) (old cur new : RecordedRows) → HasPivotsBeside rows order places first count width old
+  pub changes_more_octets : (a b c : ℕ → ℕ → ℕ) (old cur new : RecordedRows) → HasPivotsBeside rows order places first count width old
       → ChangesOctets rows order first count a b old cur → ChangesOctets rows order first count b c cur new → ChangesOctets rows order first count a c old new
-  changes_more a b c old cur new beside done next = record {
+  changes_more_octets a b c old cur new beside done next = record {
     steps = done.steps ++ next.steps;
     performs = performs_more done.steps next.steps old cur new done.performs next.performs;
     elsewhere = λ m r k out. rows_after-next octets done.steps next.steps m r k ∙ next.elsewhere (rows_after octets done.steps m) r k out ∙ done.elsewhere m r k out;
@@ -240,5 +237,5 @@ module _ (rows order places : List ℕ) (first count width : ℕ) where
       changes
 
   -- the HDPC rows have zeros in the pivots' columns, or there are none
-  pub clears_none : (octet : ℕ → ℕ → ℕ) (state : RecordedRows) → ((p : ℕ) → p < length rows → (i : ℕ) → i < count → octet i (at order p) ≡ 0) → ClearsOctets rows order octet first count state state
-  clears_none octet state none = changes_same octet octet (λ i k. 0) state state (λ i p l n. none p n i l) (changes_none octet state)
+  pub clears_no_octets : (octet : ℕ → ℕ → ℕ) (state : RecordedRows) → ((p : ℕ) → p < length rows → (i : ℕ) → i < count → octet i (at order p) ≡ 0) → ClearsOctets rows order octet first count state state
+  clears_no_octets octet state none = changes_same octet octet (λ i k. 0) state state (λ i p l n. none p n i l) (changes_no_octets octet state)

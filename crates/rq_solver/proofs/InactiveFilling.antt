@@ -4,11 +4,11 @@ use Rattle.std.proofs.lemmas.Bool.{cases_eq, cases_lt}
 use Rattle.rq_algebra.specs.Systems.{at}
 use Rattle.rq_parts.specs.DenseOctetMatrix.{OctetTable, entry_of, HasOctets}
 use Rattle.rq_standard.specs.ConstraintMatrix.{with_octet_rows}
-use Rattle.rq_elimination.specs.LeadingRows.{HasLeading}
-use Rattle.rq_solver.specs.InactiveColumns.{FillsColumn, FillsRow}
+use Rattle.rq_elimination.specs.LeadingRows.{HasLeading, WritesRow}
+use Rattle.rq_solver.specs.InactiveColumns.{FillsColumn}
 use Rattle.rq_peeling.specs.SystemRows.{one_in}
 use Rattle.rq_solver.proofs.OctetRows.{octet_row, octet_row_or_bit_row, bit_row}
-use Rattle.rq_peeling.proofs.PlaceCounts.{count_next, count_skipped}
+use Rattle.rq_peeling.proofs.Counting.{count_next, count_skipped}
 use Rattle.rq_elimination.proofs.Writes.{SetsEntry}
 
 -- ---- a column
@@ -50,14 +50,14 @@ module _ (lists : List (List ℕ)) (first : ℕ) (hdpc : OctetTable) (order : Li
             ∙ sym (bit_row first (done + 1) (entry_of hdpc) (one_in lists) i k (λ j l e. elim (cases_lt j done) [ inl m ↦ out j m e | inr m ↦ let last : j ≡ done = omega (arith, l, m) in d (ap (λ (n : ℕ). first + n) (sym last) ∙ e) ]))
       ]
 
-  pub leading_next : (inactive done : ℕ) (old new : OctetTable) → HasLeading (length lists) inactive (length lists) (rows_so_far done) old → FillsRow (first + done) inactive (λ f. entry_of hdpc done (at order (pivots + f))) old new
+  pub leading_next : (inactive done : ℕ) (old new : OctetTable) → HasLeading (length lists) inactive (length lists) (rows_so_far done) old → WritesRow (first + done) 0 inactive (λ f. entry_of hdpc done (at order (pivots + f))) old new
       → HasLeading (length lists) inactive (length lists) (rows_so_far (done + 1)) new
   leading_next inactive done old new v fills = record {
     height_is = fills.height ∙ v.height_is;
     wide = rw fills.width v.wide;
     octets = fills.octets;
     written = λ i k l m. elim (cases_eq i (first + done)) [
-      | inl e ↦ rw e (fills.here k m ∙ sym (octet_row first (done + 1) (entry_of hdpc) (one_in lists) done (at order (pivots + k)) (omega arith)))
+      | inl e ↦ rw e (fills.here k (omega arith) m ∙ sym (octet_row first (done + 1) (entry_of hdpc) (one_in lists) done (at order (pivots + k)) (omega arith)))
       | inr d ↦ fills.elsewhere i k d ∙ v.written i k l m ∙ apart done i k (λ e. d (sym e))
     ];
     left = λ i k l m. absurd (omega (arith, l, m));

@@ -3,7 +3,6 @@ pub mod ChangedColumns
 pub mod CountLaws
 pub mod EchelonRows
 pub mod EquationLaws
-pub mod FilledRows
 pub mod FinishedPivots
 pub mod HdpcClearing
 pub mod InactiveFilling

@@ -37,10 +37,7 @@ module _ (column count width dest scalar : ℕ) (was now : ℕ → ℕ → ℕ) 
       | inl before ↦ rw (before_column column was dest k before, before_column column was src k before, before_column column now dest k before, mul_zero octets scalar) (sym (octets.zero_add 0))
       | inr from ↦ rw (from_column column was dest k from, from_column column was src k from, from_column column now dest k from) (adds.at_dest k l)
     ];
-    elsewhere = λ i k l m d. elim (cases_lt k column) [
-      | inl before ↦ before_column column now i k before ∙ sym (before_column column was i k before)
-      | inr from ↦ from_column column now i k from ∙ adds.elsewhere i k l m d ∙ sym (from_column column was i k from)
-    ];
+    elsewhere = λ i k l m d. ap (λ (octet : ℕ). if nat_lt k column then 0 else octet) (adds.elsewhere i k l m d);
   }
 
   pub from_scales : ScalesRow octets count width dest scalar was now → ScalesRow octets count width dest scalar (octets_from column was) (octets_from column now)
@@ -49,10 +46,7 @@ module _ (column count width dest scalar : ℕ) (was now : ℕ → ℕ → ℕ) 
       | inl before ↦ rw (before_column column was dest k before, before_column column now dest k before) (sym (mul_zero octets scalar))
       | inr from ↦ rw (from_column column was dest k from, from_column column now dest k from) (scales.at_dest k l)
     ];
-    elsewhere = λ i k l m d. elim (cases_lt k column) [
-      | inl before ↦ before_column column now i k before ∙ sym (before_column column was i k before)
-      | inr from ↦ from_column column now i k from ∙ scales.elsewhere i k l m d ∙ sym (from_column column was i k from)
-    ];
+    elsewhere = λ i k l m d. ap (λ (octet : ℕ). if nat_lt k column then 0 else octet) (scales.elsewhere i k l m d);
   }
 
 -- ---- zeros in a column of the first rows

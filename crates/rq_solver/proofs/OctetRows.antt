@@ -55,8 +55,8 @@ module _ (first count : ℕ) (octet : ℕ → ℕ → ℕ) where
     ]
 
   -- other bits in the rows of bits
-  pub same_rows : (height width : ℕ) (bit other : ℕ → ℕ → ℕ) → ((i k : ℕ) → i < height → k < width → bit i k ≡ other i k) → (i k : ℕ) → i < height → k < width → with_octet_rows first count bit octet i k ≡ with_octet_rows first count other octet i k
-  same_rows height width bit other same i k l m = elim (octet_row_or_bit_row i) [
+  pub with_octet_rows-same : (height width : ℕ) (bit other : ℕ → ℕ → ℕ) → ((i k : ℕ) → i < height → k < width → bit i k ≡ other i k) → (i k : ℕ) → i < height → k < width → with_octet_rows first count bit octet i k ≡ with_octet_rows first count other octet i k
+  with_octet_rows-same height width bit other same i k l m = elim (octet_row_or_bit_row i) [
     | inl q ↦ rw (← q.2) (octet_row bit q.0 k q.1 ∙ sym (octet_row other q.0 k q.1))
     | inr out ↦ bit_row bit i k out ∙ same i k l m ∙ sym (bit_row other i k out)
   ]

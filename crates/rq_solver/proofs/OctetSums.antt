@@ -1,7 +1,7 @@
 -- Sums of octets, and products that bring one to 0 or 1.
 use Rattle.std.proofs.Common.{◌≡◌, ◌≢◌, ℕ, suc, ◌+◌, ◌<◌, sym, ap, ◌∙◌, arith}
 use Rattle.rq_algebra.specs.Systems.{sum_below}
-use Rattle.rq_algebra.proofs.Sums.{mul_one}
+use Rattle.rq_algebra.proofs.Sums.{add_zero, mul_one, mul_zero}
 use Rattle.rq_standard.specs.Octets.{octet_div}
 use Rattle.rq_standard.specs.OctetField.{octets}
 use Rattle.rq_elimination.proofs.ChangedEntries.{mul_is}
@@ -25,3 +25,10 @@ quotient_times x y small below nonzero =
 
 pub plus_quotient_times : (x y : ℕ) → x < 256 → y < 256 → y ≢ 0 → octets.add x (octets.mul (octet_div x y) y) ≡ 0
 plus_quotient_times x y small below nonzero = ap (octets.add x) (quotient_times x y small below nonzero) ∙ octets.add_self x
+
+-- a multiple of zero adds nothing, and a multiple of 1 takes away what it is
+pub plus_zero_times : (x c y : ℕ) → y ≡ 0 → octets.add x (octets.mul c y) ≡ x
+plus_zero_times x c y e = ap (λ (z : ℕ). octets.add x (octets.mul c z)) e ∙ ap (octets.add x) (mul_zero octets c) ∙ add_zero octets x
+
+pub plus_own : (x c y : ℕ) → c < 256 → x ≡ c → y ≡ 1 → octets.add x (octets.mul c y) ≡ 0
+plus_own x c y small e f = ap (λ (z : ℕ). octets.add x (octets.mul c z)) f ∙ ap (octets.add x) (mul_one octets c small) ∙ ap (λ (z : ℕ). octets.add z c) e ∙ octets.add_self c

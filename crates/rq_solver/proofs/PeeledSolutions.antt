@@ -1,19 +1,18 @@
 -- What the elimination over peeled rows has found when it ends.
-use Rattle.std.proofs.Common.{◌≡◌, ◌≢◌, ℕ, suc, ◌+◌, ◌-◌, ◌<◌, ◌≤◌, ◌==◌, if◌then◌else◌, Bool, List, [], ◌∷◌, ◌++◌, All, Contains, map, length, drop, append_assoc, refl, sym, ap, ◌∙◌, arith, inl, inr}
+use Rattle.std.proofs.Common.{◌≡◌, ◌≢◌, ◌⊎◌, ℕ, suc, ◌+◌, ◌-◌, ◌<◌, ◌≤◌, ◌==◌, if◌then◌else◌, Bool, List, [], ◌∷◌, ◌++◌, All, Contains, map, length, drop, append_assoc, refl, sym, ap, ◌∙◌, arith, inl, inr}
 use Rattle.std.specs.List.{range_with_len}
 use Rattle.std.specs.List.Sorted.{IsPermutation}
 use Rattle.std.proofs.lemmas.Bool.{cases_eq, cases_lt}
-use Rattle.std.proofs.lemmas.List.{length-map, get_or_default}
+use Rattle.std.proofs.lemmas.List.{get_or-map, get_or_default, length-map}
 use Rattle.std.proofs.lemmas.List.Elements.{All-append, Contains-get_or}
 use Rattle.std.proofs.lemmas.List.Sorted.{Contains-permutation, IsPermutation-sym}
-use Rattle.std.proofs.Math.ListN.{get_or-map}
 use Rattle.rq_algebra.specs.Arrangements.{ArePlaces, IsFewOn}
 use Rattle.rq_algebra.specs.PivotColumns.{ReadsPivots, HasFirstPivots}
 use Rattle.rq_algebra.specs.Following.{Follows}
 use Rattle.rq_algebra.specs.Operations.{Operation, Reorder, FindsColumn}
 use Rattle.rq_algebra.specs.Systems.{at, dot, stacked, HasElements, HasHomogeneousColumn, IsColumn, IsHomogeneousColumn, Solves}
 use Rattle.rq_algebra.proofs.FewEquations.{dot_places, homogeneous_of_few}
-use Rattle.rq_algebra.proofs.Pivots.{finds_by_pivots, homogeneous_back}
+use Rattle.rq_algebra.proofs.Pivots.{finds_by_pivots, homogeneous_back, zeros_back}
 use Rattle.rq_algebra.proofs.Reduction.{pivots_of_first}
 use Rattle.rq_algebra.proofs.OperationRuns.{follows_none}
 use Rattle.rq_algebra.proofs.Stacks.{stacked_above, stacked_below}
@@ -28,21 +27,21 @@ use Rattle.rq_solver.specs.SecondPhase.{AreUnits, SubstitutesBack}
 use Rattle.rq_peeling.specs.ColumnState.{IsOrderOf}
 use Rattle.rq_elimination.specs.RecordedRows.{ChangesRows}
 use Rattle.rq_elimination.specs.declared.recorded.RecordedRows.{RecordedRows}
-use Rattle.rq_elimination.specs.RowSteps.{IsEchelon, IsStuck, IsStepAmong, rows_after}
-use Rattle.rq_elimination.proofs.Performing.{below_range, changes_keep, shows_after}
+use Rattle.rq_elimination.specs.RowSteps.{AreStepsBelow, IsEchelon, IsStuck, IsStepAmong, rows_after}
+use Rattle.rq_elimination.proofs.Performing.{changes_keep, shows_after}
 use Rattle.rq_elimination.proofs.Choices.{if_same, if_apart}
 use Rattle.rq_solver.proofs.PivotsCleared.{left_below, left_apart, pivot_or_left}
 use Rattle.rq_elimination.proofs.RowStepLaws.{rows_after-elements, follows_steps}
 use Rattle.rq_elimination.proofs.StepColumns.{rows_after-apart, rows_after-next, Contains-range}
-use Rattle.rq_solver.proofs.StepDots.{rows_after-says, zeros_back}
+use Rattle.rq_solver.proofs.StepDots.{rows_after-says}
 
 -- what was recorded for steps among all rows does to values what it did to the rows
-module _ (height width : ℕ) (system : ℕ → ℕ → ℕ) (steps : List Operation) (among : All (IsStepAmong octets (range_with_len 0 height)) steps) (small : HasElements octets height width system) where
+module _ (height width : ℕ) (system : ℕ → ℕ → ℕ) (steps : List Operation) (among : AreStepsBelow octets height steps) (small : HasElements octets height width system) where
   pub steps_follow : Follows octets height width system (rows_after octets steps system) steps
-  steps_follow = follows_steps octets height width (range_with_len 0 height) (below_range height) steps system system [] among small (follows_none octets height width system)
+  steps_follow = follows_steps octets height width steps system system [] among small (follows_none octets height width system)
 
   pub steps_elements : HasElements octets height width (rows_after octets steps system)
-  steps_elements = rows_after-elements octets height width (range_with_len 0 height) (below_range height) steps system among small
+  steps_elements = rows_after-elements octets height width steps system among small
 
 module _ (height width : ℕ) (system : ℕ → ℕ → ℕ) (rows order places : List ℕ) (arranged : IsOrderOf width order places) (rows_are : ArePlaces (length rows) height (at rows)) (listed : List ℕ) (listing : ListsRows height rows listed)
     (inactive : ℕ) (middle last : RecordedRows) (peeled : HasPeeledPivots height width system (record { rows = rows; order = order; places = places }) (drop (length rows) listed) middle) (wide : length rows + inactive ≡ width) (narrow : inactive ≤ middle.table.width)
@@ -62,7 +61,7 @@ module _ (height width : ℕ) (system : ℕ → ℕ → ℕ) (rows order places 
   abbrev meant : ℕ → ℕ → ℕ
   meant = rows_after octets steps system
 
-  among : All (IsStepAmong octets (range_with_len 0 height)) steps
+  among : AreStepsBelow octets height steps
   among = All-append (IsStepAmong octets (range_with_len 0 height)) middle.operations changes.steps peeled.among (rw peeled.height_is at changes.performs.among)
 
   -- the pivots' columns stay as they were when the inactive ones get pivots
@@ -105,6 +104,22 @@ module _ (height width : ℕ) (system : ℕ → ℕ → ℕ) (rows order places 
   left_pivot : (r p : ℕ) → Contains left r → p < pivots → meant r (at order p) ≡ 0
   left_pivot r p c l = kept p r l ∙ peeled.others r p c l
 
+  -- each row is a pivot's, or one of those that are left
+  row_found : (i : ℕ) → i < height → ((p : ℕ) × (p < pivots) × (at rows p ≡ i)) ⊎ ((q : ℕ) × (q < length inactive_rows) × (at inactive_rows q ≡ i))
+  row_found i l = elim (pivot_or_left height rows listed listing i l) [
+    | inl p ↦ inl p
+    | inr c ↦ let d = Contains-permutation left inactive_rows i permuted c in inr (d.0, d.1, get_or_default inactive_rows d.0 0 i d.1 ∙ d.2)
+  ]
+
+  row_below : (p : ℕ) → p < pivots + length inactive_rows → row_of p < height
+  row_below p l = elim (cases_lt p pivots) [
+    | inl early ↦ rw (of_pivot p early) (pivot_below p early)
+    | inr late ↦
+        let q : ℕ = p - pivots in
+        let there : pivots + q ≡ p = omega arith in
+        rw (← there, of_left q) (reduced_below q (omega arith))
+  ]
+
   -- columns stand at one place each
   columns_apart : (n : ℕ) → n ≤ width → ArePlaces n width (at order)
   columns_apart n l = record {
@@ -117,15 +132,12 @@ module _ (height width : ℕ) (system : ℕ → ℕ → ℕ) (rows order places 
   module _ (stuck : IsStuck inactive_rows inactive last.table) where
     -- a row that is none of those with pivots stands behind them
     behind : (i : ℕ) → i < height → ((p : ℕ) → p < pivots + stuck.done → row_of p ≢ i) → (q : ℕ) × (stuck.done ≤ q) × (q < length inactive_rows) × (at inactive_rows q ≡ i)
-    behind i l free = elim (pivot_or_left height rows listed listing i l) [
+    behind i l free = elim (row_found i l) [
       | inl p ↦ absurd (free p.0 (omega (arith, p.1)) (of_pivot p.0 p.1 ∙ p.2))
-      | inr c ↦
-          let d = Contains-permutation left inactive_rows i permuted c in
-          let is : at inactive_rows d.0 ≡ i = get_or_default inactive_rows d.0 0 i d.1 ∙ d.2 in
-          elim (cases_lt d.0 stuck.done) [
-            | inl done ↦ absurd (free (pivots + d.0) (omega arith) (of_left d.0 ∙ is))
-            | inr undone ↦ (d.0, undone, d.1, is)
-          ]
+      | inr q ↦ elim (cases_lt q.0 stuck.done) [
+        | inl done ↦ absurd (free (pivots + q.0) (omega arith) (of_left q.0 ∙ q.2))
+        | inr undone ↦ (q.0, undone, q.1, q.2)
+      ]
     ]
 
     nothing_behind : (q j : ℕ) → stuck.done ≤ q → q < length inactive_rows → j < suc (pivots + stuck.done) → meant (at inactive_rows q) (at order j) ≡ 0
@@ -144,13 +156,7 @@ module _ (height width : ℕ) (system : ℕ → ℕ → ℕ) (rows order places 
 
     few : IsFewOn height width (pivots + stuck.done) meant row_of (at order)
     few = record {
-      rows_below = λ p l. elim (cases_lt p pivots) [
-        | inl early ↦ rw (of_pivot p early) (pivot_below p early)
-        | inr late ↦
-            let q : ℕ = p - pivots in
-            let back : pivots + q ≡ p = omega arith in
-            rw (← back, of_left q) (reduced_below q (omega (arith, stuck.echelon.fits)))
-      ];
+      rows_below = λ p l. row_below p (omega (arith, l, stuck.echelon.fits, stuck.below));
       columns_are = columns_apart (suc (pivots + stuck.done)) (omega (arith, stuck.below));
       zeros = λ i l free j n. let b = behind i l free in rw (← b.3) (nothing_behind b.0 j b.1 b.2 n);
     }
@@ -192,13 +198,7 @@ module _ (height width : ℕ) (system : ℕ → ℕ → ℕ) (rows order places 
 
     meant_solved : Solves octets height width meant (at column) (λ _. 0)
     meant_solved = record {
-      at = λ i l. elim (pivot_or_left height rows listed listing i l) [
-        | inl p ↦ rw (← p.2) (pivot_says p.0 p.1)
-        | inr c ↦
-            let d = Contains-permutation left inactive_rows i permuted c in
-            let is : at inactive_rows d.0 ≡ i = get_or_default inactive_rows d.0 0 i d.1 ∙ d.2 in
-            rw (← is) (left_says d.0 d.1)
-      ];
+      at = λ i l. elim (row_found i l) [ inl p ↦ rw (← p.2) (pivot_says p.0 p.1) | inr q ↦ rw (← q.2) (left_says q.0 q.1) ];
     }
 
     pub shown_by_peeled : length column ≡ width → IsColumn octets width (at column) → (index : ℕ) → index < width → at column index ≢ 0 → IsHomogeneousColumn octets height width system column
@@ -226,7 +226,7 @@ module _ (height width : ℕ) (system : ℕ → ℕ → ℕ) (rows order places 
     abbrev between : ℕ → ℕ → ℕ
     between = rows_after octets reduces.steps given
 
-    all_among : All (IsStepAmong octets (range_with_len 0 height)) all_steps
+    all_among : AreStepsBelow octets height all_steps
     all_among =
         let Among = IsStepAmong octets (range_with_len 0 height) in
         let first : All Among back.steps = rw (changes.performs.height, peeled.height_is) at back.performs.among in
@@ -276,12 +276,13 @@ module _ (height width : ℕ) (system : ℕ → ℕ → ℕ) (rows order places 
     meant_cleared p l = record { entries = λ i n. pivot_pivot p i l n }
 
     finished : (p : ℕ) → p < pivots → IsFinished rows order inactive (λ f. at order (length rows + f)) (rows_after octets finishes.steps between) (at rows p)
-    finished p l = finishes.final between (λ f. at order (length rows + f)) units
-        (λ f i n o. between_pivot (at inactive_rows f) i o ∙ given_zero f i n o)
-        (λ q f n o. between_row q (at order (pivots + f)) n ∙ given_at (at rows q) f (pivot_below q n) o ∙ ap (λ table. entry_of table (at rows q) f) (sym reduces.records.table))
-        (λ q n e. record { entries = λ i o. between_row q (at order i) n ∙ back.unmarked meant q (at order i) (omega arith) n e ∙ pivot_pivot q i n o })
-        (λ q n e. record { entries = λ i o. between_row q (at order i) n ∙ (back.uncleared meant meant_cleared q (omega arith) n e).entries i o })
-        p l
+    finished p l = finishes.final between (λ f. at order (length rows + f)) (record {
+      units = units;
+      zeros = λ f i n o. between_pivot (at inactive_rows f) i o ∙ given_zero f i n o;
+      shown = λ q f n o. between_row q (at order (pivots + f)) n ∙ given_at (at rows q) f (pivot_below q n) o ∙ ap (λ table. entry_of table (at rows q) f) (sym reduces.records.table);
+      plain = λ q n e. record { entries = λ i o. between_row q (at order i) n ∙ back.unmarked meant q (at order i) (omega arith) n e ∙ pivot_pivot q i n o };
+      raw = λ q n e. record { entries = λ i o. between_row q (at order i) n ∙ (back.uncleared meant meant_cleared q (omega arith) n e).entries i o };
+    }) p l
 
     cleared : (p f : ℕ) → p < pivots → f < inactive → ended (at rows p) (at order (pivots + f)) ≡ 0
     cleared p f l n = ended_is (at rows p) (at order (pivots + f)) ∙ (finished p l).zeros f n
@@ -340,27 +341,18 @@ module _ (height width : ℕ) (system : ℕ → ℕ → ℕ) (rows order places 
         ]
 
     rest_zero : (i p : ℕ) → i < height → ((q : ℕ) → q < width → row_of q ≢ i) → p < width → ended i (at order p) ≡ 0
-    rest_zero i p l free n = elim (pivot_or_left height rows listed listing i l) [
+    rest_zero i p l free n = elim (row_found i l) [
       | inl q ↦ absurd (free q.0 (omega (arith, q.1, wide)) (of_pivot q.0 q.1 ∙ q.2))
-      | inr c ↦
-          let d = Contains-permutation left inactive_rows i permuted c in
-          let is : at inactive_rows d.0 ≡ i = get_or_default inactive_rows d.0 0 i d.1 ∙ d.2 in
-          elim (cases_lt d.0 inactive) [
-            | inl taken ↦ absurd (free (pivots + d.0) (omega (arith, wide)) (of_left d.0 ∙ is))
-            | inr late ↦ rw (← is) (behind_zero d.0 p late d.1 n)
-          ]
-    ]
-
-    row_below : (p : ℕ) → p < width → row_of p < height
-    row_below p l = elim (cases_lt p pivots) [
-      | inl early ↦ rw (of_pivot p early) (pivot_below p early)
-      | inr late ↦ let f = inactive_place p l late in rw (← f.2, of_left f.0) (reduced_below f.0 (fits f.0 f.1))
+      | inr q ↦ elim (cases_lt q.0 inactive) [
+        | inl taken ↦ absurd (free (pivots + q.0) (omega (arith, wide)) (of_left q.0 ∙ q.2))
+        | inr late ↦ rw (← q.2) (behind_zero q.0 p late q.1 n)
+      ]
     ]
 
     -- rows with 1 in different columns, and 0 in the others', are different
     all_rows_are : ArePlaces width height row_of
     all_rows_are = record {
-      below = row_below;
+      below = λ p l. row_below p (omega (arith, l, wide, echelon.fits));
       apart = λ i p l n e. elim (cases_eq i p) [
         | inl same ↦ same
         | inr d ↦ let z : 0 ≡ 1 = sym (row_zero i p l n d) ∙ ap (λ (r : ℕ). ended r (at order p)) e ∙ row_one p n in absurd (omega (arith, z))
@@ -371,9 +363,7 @@ module _ (height width : ℕ) (system : ℕ → ℕ → ℕ) (rows order places 
     reads = record {
       count = length-map places (at placed) ∙ arranged.place_count;
       reads = λ p l.
-          let there : at order p < length (map (at placed) places) = omega (arith, length-map places (at placed), arranged.place_count, (arranged.ordered p l).0) in
-          get_or_default (map (at placed) places) (at order p) 0 (at placed 0) there
-          ∙ get_or-map (at placed) places (at order p) 0
+          get_or-map (at placed) places (at order p) 0 0 (omega (arith, arranged.place_count, (arranged.ordered p l).0))
           ∙ ap (at placed) (arranged.ordered p l).1
           ∙ elim (cases_lt p pivots) [
             | inl early ↦ starts p early ∙ sym (of_pivot p early)

@@ -30,8 +30,8 @@ pub record TakesOnes (inactive_rows : List ℕ) (row end word rest : ℕ) (old n
   pub few : additions new.operations ≤ additions old.operations + place
 
 module _ (inactive_rows : List ℕ) (row end word : ℕ) (old : RecordedRows) where
-  pub takes_none : end ≤ 64 → TakesOnes inactive_rows row end word (low_bits word end) old old
-  takes_none within = record {
+  pub takes_no_ones : end ≤ 64 → TakesOnes inactive_rows row end word (low_bits word end) old old
+  takes_no_ones within = record {
     place = 0;
     before = omega arith;
     behind = λ k l. absurd (omega arith);

@@ -3,7 +3,6 @@ use Rattle.std.proofs.Common.{◌≡◌, ◌≢◌, ℕ, ◌+◌, ◌<◌, List,
 use Rattle.std.proofs.lemmas.Bool.{cases_eq, cases_lt}
 use Rattle.rq_algebra.specs.Operations.{Operation}
 use Rattle.rq_algebra.specs.Systems.{at}
-use Rattle.rq_algebra.proofs.Sums.{add_zero}
 use Rattle.rq_standard.specs.OctetField.{octets}
 use Rattle.rq_peeling.specs.SystemRows.{AreRowsOfBits, one_in}
 use Rattle.rq_solver.specs.PivotAdditions.{IsCleared, IsUncleared, TakesPivots, ClearsRows}
@@ -14,12 +13,11 @@ use Rattle.rq_elimination.specs.declared.recorded.RecordedRows.{RecordedRows}
 use Rattle.rq_elimination.specs.RowSteps.{rows_after}
 use Rattle.rq_elimination.proofs.StepColumns.{rows_after-none, rows_after-next}
 use Rattle.rq_elimination.proofs.Performing.{performs_none, performs_more}
-use Rattle.rq_elimination.proofs.Choices.{if_same, if_apart}
-use Rattle.rq_peeling.proofs.PlaceCounts.{count_contains}
+use Rattle.rq_solver.proofs.PivotsTaken.{own_is_left}
 
 module _ (lists : List (List ℕ)) (rows order listed : List ℕ) where
-  pub clears_none : (state : RecordedRows) → ClearsRows lists rows order listed 0 state state
-  clears_none state = record {
+  pub clears_no_rows : (state : RecordedRows) → ClearsRows lists rows order listed 0 state state
+  clears_no_rows state = record {
     steps = [];
     performs = performs_none state;
     idle = λ m i k e. rows_after-none octets m i k;
@@ -82,17 +80,9 @@ module _ (lists : List (List ℕ)) (rows order listed : List ℕ) where
         cleared_now raw = record {
           entries = λ i l.
               let row = at listed t in
-              let bit = one_in lists row (at order i) in
-              let had : now row (at order i) ≡ bit = v.rest m t (at order i) (omega arith) in_listed ∙ raw.entries i l in
-              after_all row (at order i) ∙ taken.taken now (λ j n c d. needed j n c d) i l ∙ ap (λ (x : ℕ). octets.add x (if at rows i == row then 0 else bit)) had
-              ∙ elim (cases_eq (at rows i) row) [
-                | inl e ↦
-                    let some = count_contains (ones_of lists row) (at order i) (subst (λ (r : ℕ). Contains (ones_of lists r) (at order i)) e (peeled.own i l)) in
-                    let most = bits.once row (at order i) (listing.are.below t in_listed) (peeled.columns.ordered i (omega (arith, peeled.few))).0 in
-                    let one : bit ≡ 1 = omega (arith, some, most) in
-                    ap (octets.add bit) (if_same (at rows i) row 0 bit e) ∙ add_zero octets bit ∙ one ∙ sym (if_same (at rows i) row 1 0 e)
-                | inr d ↦ ap (octets.add bit) (if_apart (at rows i) row 0 bit d) ∙ octets.add_self bit ∙ sym (if_apart (at rows i) row 1 0 d)
-              ];
+              let had : now row (at order i) ≡ one_in lists row (at order i) = v.rest m t (at order i) (omega arith) in_listed ∙ raw.entries i l in
+              after_all row (at order i) ∙ taken.taken now (λ j n c d. needed j n c d) i l ∙ ap (λ (x : ℕ). octets.add x (if at rows i == row then 0 else one_in lists row (at order i))) had
+              ∙ own_is_left lists rows order places width bits peeled i l row;
         }
 
         cleared_next : (s : ℕ) → s < t + 1 → IsUncleared lists rows order m (at listed s) → IsCleared rows order (rows_after octets all_steps m) (at listed s)
@@ -106,9 +96,9 @@ module _ (lists : List (List ℕ)) (rows order listed : List ℕ) where
           }
         ]
 
-    pub clears_more : ClearsRows lists rows order listed (t + 1) old new
+    pub clears_next_row : ClearsRows lists rows order listed (t + 1) old new
     unfolding all_steps now
-    clears_more = record {
+    clears_next_row = record {
       steps = v.steps ++ taken.steps;
       performs = performs_more v.steps taken.steps old cur new v.performs taken.done;
       idle = idle_next;

@@ -11,11 +11,12 @@ use Rattle.rq_standard.specs.OctetField.{octets}
 use Rattle.rq_parts.specs.DenseOctetMatrix.{entry_of}
 use Rattle.rq_peeling.specs.RowOnes.{ones_of}
 use Rattle.rq_peeling.specs.SystemRows.{one_in}
-use Rattle.rq_peeling.proofs.ActiveOnes.{count_absent, count_present}
+use Rattle.rq_peeling.proofs.Counting.{count_absent}
 use Rattle.rq_solver.specs.Elimination.{inactive_count, left_rows, IsUnderWay}
 use Rattle.rq_solver.specs.HomogeneousColumns.{inactive_dot, inactive_entry, HasZerosAtPivots, SolvesLeftRows, SolvesPivotRows}
 use Rattle.rq_solver.specs.declared.pi_solver.elimination.Elimination.{Elimination}
 use Rattle.rq_solver.proofs.ChangedColumns.{dot_kept, dot_own}
+use Rattle.rq_solver.proofs.PivotsTaken.{own_one}
 
 -- what is listed once at most is listed as often as its parity says
 parity_once : (indices : List ℕ) (k : ℕ) → count_by (λ index. index == k) indices ≤ 1 → parity indices k ≡ count_by (λ index. index == k) indices
@@ -118,12 +119,6 @@ module _ (e : Elimination) (under : IsUnderWay e) (old : List ℕ) (count : leng
     row_within : (q : ℕ) → q < pivots → at e.peeling.rows q < length e.additions.ones
     row_within q l = under.peeled.peeled.in_rows.below q l
 
-    own_one : one_in e.additions.ones (at e.peeling.rows p) column ≡ 1
-    own_one =
-        let some = count_present (ones_of e.additions.ones (at e.peeling.rows p)) column (under.peeled.peeled.own p inside) in
-        let once = under.peeled.bits.once (at e.peeling.rows p) column (row_within p inside) column_within in
-        omega (arith, some, once)
-
     none_before : (q : ℕ) → q < p → one_in e.additions.ones (at e.peeling.rows q) column ≡ 0
     none_before q l = count_absent (ones_of e.additions.ones (at e.peeling.rows q)) column (under.peeled.peeled.later q p l inside)
 
@@ -138,6 +133,6 @@ module _ (e : Elimination) (under : IsUnderWay e) (old : List ℕ) (count : leng
     pivot_solves elements zeros is solves q l =
         let zero = zeros p (omega arith) inside in
         elim (cases_eq q p) [
-          | inl same ↦ rw same (dot_own octets width column (at old) (at next) column_within zero (λ k m apart. set_other p value within k apart) (one_in e.additions.ones (at e.peeling.rows p)) own_one (set_here p value within ∙ is ∙ sum_is elements))
+          | inl same ↦ rw same (dot_own octets width column (at old) (at next) column_within zero (λ k m apart. set_other p value within k apart) (one_in e.additions.ones (at e.peeling.rows p)) (own_one e.additions.ones e.peeling.rows e.peeling.order e.peeling.places width under.peeled.bits under.peeled.peeled p inside) (set_here p value within ∙ is ∙ sum_is elements))
           | inr apart ↦ dot_kept octets width column (at old) (at next) column_within zero (λ k m d. set_other p value within k d) (one_in e.additions.ones (at e.peeling.rows q)) (none_before q (omega (arith, l, apart))) ∙ solves q (omega (arith, l, apart))
         ]

@@ -4,7 +4,7 @@ use Rattle.std.proofs.lemmas.Option.{none-some, same_Some}
 use Rattle.std.specs.Option.{MatchOption, option_map}
 use Rattle.rq_algebra.specs.Field.{Field}
 use Rattle.rq_algebra.specs.Following.{Follows}
-use Rattle.rq_algebra.specs.Systems.{HasHomogeneousColumn, at}
+use Rattle.rq_algebra.specs.Systems.{HasHomogeneousColumn, Solves, at}
 use Rattle.rq_algebra.specs.Operations.{Operation, Reorder, Store, step, run, read, unordered, FindsColumn, found_by}
 use Rattle.rq_algebra.specs.Symbols.{symbols}
 use Rattle.rq_algebra.proofs.Solutions.{solves_same}
@@ -29,6 +29,12 @@ use Rattle.rq_elimination.proofs.RowStepLaws.{SameEntries}
 
 -- systems with the same entries have the same solutions
 module _ (F : Field) (height width : ℕ) (a b : ℕ → ℕ → ℕ) (same : SameEntries height width a b) where
+  onward : (x values : ℕ → ℕ) → Solves F height width a x values → Solves F height width b x values
+  onward x values = solves_same F height width a b x values values same (λ i l. refl)
+
+  back : (x values : ℕ → ℕ) → Solves F height width b x values → Solves F height width a x values
+  back x values = solves_same F height width b a x values values (λ i k l m. sym (same i k l m)) (λ i l. refl)
+
   pub finds_same : (operations : List Operation) → FindsColumn F height width a operations → FindsColumn F height width b operations
   finds_same operations finds = record {
     allowed = finds.allowed;
@@ -36,10 +42,10 @@ module _ (F : Field) (height width : ℕ) (a b : ℕ → ℕ → ℕ) (same : Sa
     before = finds.before;
     ends = finds.ends;
     count = finds.count;
-    only = λ v e x is s. finds.only v e x is (solves_same F height width b a x (at v) (at v) (λ i k l m. sym (same i k l m)) (λ i l. refl) s);
-    solves = λ square v e. solves_same F height width a b _ (at v) (at v) same (λ i l. refl) (finds.solves square v e);
-    leaves = λ v e x is s. finds.leaves v e x is (solves_same F height width b a x (at v) (at v) (λ i k l m. sym (same i k l m)) (λ i l. refl) s);
-    consistent = λ v e zeros. solves_same F height width a b _ (at v) (at v) same (λ i l. refl) (finds.consistent v e zeros);
+    only = λ v e x is s. finds.only v e x is (back x (at v) s);
+    solves = λ square v e. onward _ (at v) (finds.solves square v e);
+    leaves = λ v e x is s. finds.leaves v e x is (back x (at v) s);
+    consistent = λ v e zeros. onward _ (at v) (finds.consistent v e zeros);
   }
 
   -- no operation is needed to get from one to the other
@@ -51,8 +57,8 @@ module _ (F : Field) (height width : ℕ) (a b : ℕ → ℕ → ℕ) (same : Sa
       values = e;
       order = refl;
       same = record {
-        onward = λ x s. solves_same F height width b a x (at v) (at v) (λ i k l m. sym (same i k l m)) (λ i l. refl) s;
-        back = λ x s. solves_same F height width a b x (at v) (at v) same (λ i l. refl) s;
+        onward = λ x s. back x (at v) s;
+        back = λ x s. onward x (at v) s;
       };
     };
   }
@@ -60,11 +66,13 @@ module _ (F : Field) (height width : ℕ) (a b : ℕ → ℕ → ℕ) (same : Sa
   pub homogeneous_same : HasHomogeneousColumn F height width a → HasHomogeneousColumn F height width b
   homogeneous_same null = homogeneous_back F height width b a [] follows_same null
 
--- what is read in a slab after operations, where no order was set before
+-- a slab in which no order was set is its values
+pub store-unordered : (handed : Slab) → handed.order ≡ None → store_of handed ≡ unordered handed.values
+store-unordered handed none = ap (λ (o : Option (List ℕ)). let t : Store (List ℕ) = record { values = handed.values; order = o } in t) none
+
+-- what is read in it after operations
 pub symbol_in-after_all : (operations : List Operation) (handed : Slab) (k : ℕ) → handed.order ≡ None → symbol_in (after_all operations handed) k ≡ found_by (symbols octets) operations handed.values k
-symbol_in-after_all operations handed k unordered_is =
-    let start : store_of handed ≡ unordered handed.values = ap (λ (o : Option (List ℕ)). let t : Store (List ℕ) = record { values = handed.values; order = o } in t) unordered_is in
-    ap (λ (s : Store (List ℕ)). read (symbols octets) (run (symbols octets) operations s) k) start
+symbol_in-after_all operations handed k none = ap (λ (s : Store (List ℕ)). read (symbols octets) (run (symbols octets) operations s) k) (store-unordered handed none)
 
 module _ (height width : ℕ) (rows : ℕ → ℕ → ℕ) (operations : List Operation) (finds : FindsColumn octets height width rows operations) (handed : Slab) where
   -- operations that find the column end with an order of as many places as there are columns

@@ -1,17 +1,14 @@
 -- Steps by the row that they change.
-use Rattle.std.proofs.Common.{◌≡◌, ℕ, Bool, List, All, get_or, sym, ap, subst, inl, inr, if◌then◌else◌}
-use Rattle.std.proofs.lemmas.Bool.{cases_eq, eq-eqb, ne_eqb}
+use Rattle.std.proofs.Common.{◌≡◌, ℕ, List, All, get_or, sym, subst}
 use Rattle.rq_algebra.specs.Operations.{Operation, AddAssign, MulAssign, Fma, Reorder}
 use Rattle.rq_elimination.specs.RowSteps.{sum_step}
+use Rattle.rq_elimination.proofs.Choices.{if_either}
 use Rattle.rq_solver.specs.PivotAdditions.{IsSumOf}
 use Rattle.rq_solver.specs.SecondPhase.{IsStepTo}
 
 -- a multiple is added to a row
 pub sum_to : (P : ℕ → Type 0) (dest src scalar : ℕ) → P dest → IsStepTo P (sum_step dest src scalar)
-sum_to P dest src scalar holds = elim (cases_eq scalar 1) [
-  | inl e ↦ subst (IsStepTo P) (sym (ap (λ (b : Bool). if b then AddAssign dest src else Fma dest src scalar) (eq-eqb scalar 1 e))) holds
-  | inr d ↦ subst (IsStepTo P) (sym (ap (λ (b : Bool). if b then AddAssign dest src else Fma dest src scalar) (ne_eqb scalar 1 d))) holds
-]
+sum_to P dest src scalar holds = if_either (IsStepTo P) scalar 1 (AddAssign dest src) (Fma dest src scalar) (λ e. holds) (λ d. holds)
 
 -- the one row is among others
 module _ (P : ℕ → Type 0) (row : ℕ) (holds : P row) where

@@ -10,8 +10,8 @@ use Rattle.rq_elimination.specs.RecordedRows.{Records}
 use Rattle.rq_elimination.specs.RowSteps.{sum_step, AreRows, IsEchelon, rows_after}
 use Rattle.rq_elimination.specs.declared.recorded.RecordedRows.{RecordedRows}
 use Rattle.rq_elimination.proofs.StepColumns.{rows_after-none, rows_after-next}
-use Rattle.rq_elimination.proofs.Performing.{sum_step-here, sum_step-elsewhere, records_none, records_more}
-use Rattle.rq_solver.proofs.HdpcClearing.{plus_zero_times, plus_own}
+use Rattle.rq_elimination.proofs.Performing.{sum_after-here, sum_after-elsewhere, records_none, records_more}
+use Rattle.rq_solver.proofs.OctetSums.{plus_zero_times, plus_own}
 use Rattle.rq_solver.proofs.StepsToRows.{sum_to, steps_to}
 use Rattle.rq_elimination.proofs.Choices.{if_same, if_apart}
 
@@ -54,7 +54,7 @@ module _ (inactive_rows : List ℕ) (row start count : ℕ) (entries : ℕ → �
 
         next_entry : (k : ℕ) → m (at inactive_rows t) k < 256 → rows_after octets (v.steps ++ sum_step row (at inactive_rows t) scalar ∷ []) m row k ≡ octets.add (now row k) (octets.mul scalar (now (at inactive_rows t) k))
         unfolding now
-        next_entry k l = rows_after-next octets v.steps (sum_step row (at inactive_rows t) scalar ∷ []) m row k ∙ sum_step-here row (at inactive_rows t) scalar (rows_after octets v.steps m) k (rw (src_now k) l)
+        next_entry k l = sum_after-here row (at inactive_rows t) scalar m v.steps k (rw (src_now k) l)
 
         next_zero : (k : ℕ) → m (at inactive_rows t) k ≡ 0 → rows_after octets (v.steps ++ sum_step row (at inactive_rows t) scalar ∷ []) m row k ≡ now row k
         next_zero k zero = next_entry k (rw zero (lit< tt)) ∙ plus_zero_times (now row k) scalar (now (at inactive_rows t) k) (src_now k ∙ zero)
@@ -77,7 +77,7 @@ module _ (inactive_rows : List ℕ) (row start count : ℕ) (entries : ℕ → �
         steps = v.steps ++ sum_step row (at inactive_rows t) scalar ∷ [];
         records = records_more v.steps (sum_step row (at inactive_rows t) scalar ∷ []) old cur new v.records records;
         within = All-push (IsStepTo (λ r. r ≡ row)) v.steps (sum_step row (at inactive_rows t) scalar) v.within (sum_to (λ r. r ≡ row) row (at inactive_rows t) scalar refl);
-        elsewhere = λ m i k d. rows_after-next octets v.steps (sum_step row (at inactive_rows t) scalar ∷ []) m i k ∙ sum_step-elsewhere row (at inactive_rows t) scalar (rows_after octets v.steps m) i k d ∙ v.elsewhere m i k d;
+        elsewhere = λ m i k d. sum_after-elsewhere row (at inactive_rows t) scalar m v.steps i k d ∙ v.elsewhere m i k d;
         kept = λ m k zeros. next_zero m k (zeros t from inside) ∙ v.kept m k zeros;
         cleared = λ m column units shown f first l n. elim (cases_eq f t) [
           | inl e ↦ rw e (this_entry m column units (shown t from inside))
@@ -142,11 +142,11 @@ module _ (inactive_rows : List ℕ) (place : ℕ) where
 
         sum_here : (k : ℕ) → m (at inactive_rows place) k < 256 → rows_after octets (v.steps ++ sum_step (at inactive_rows t) (at inactive_rows place) scalar ∷ []) m (at inactive_rows t) k ≡ octets.add (so_far (at inactive_rows t) k) (octets.mul scalar (so_far (at inactive_rows place) k))
         unfolding so_far
-        sum_here k l = rows_after-next octets v.steps (sum_step (at inactive_rows t) (at inactive_rows place) scalar ∷ []) m (at inactive_rows t) k ∙ sum_step-here (at inactive_rows t) (at inactive_rows place) scalar (rows_after octets v.steps m) k (rw (source k) l)
+        sum_here k l = sum_after-here (at inactive_rows t) (at inactive_rows place) scalar m v.steps k (rw (source k) l)
 
         sum_elsewhere : (r k : ℕ) → r ≢ at inactive_rows t → rows_after octets (v.steps ++ sum_step (at inactive_rows t) (at inactive_rows place) scalar ∷ []) m r k ≡ so_far r k
         unfolding so_far
-        sum_elsewhere r k d = rows_after-next octets v.steps (sum_step (at inactive_rows t) (at inactive_rows place) scalar ∷ []) m r k ∙ sum_step-elsewhere (at inactive_rows t) (at inactive_rows place) scalar (rows_after octets v.steps m) r k d
+        sum_elsewhere r k d = sum_after-elsewhere (at inactive_rows t) (at inactive_rows place) scalar m v.steps r k d
 
         sum_zero : (r k : ℕ) → m (at inactive_rows place) k ≡ 0 → rows_after octets (v.steps ++ sum_step (at inactive_rows t) (at inactive_rows place) scalar ∷ []) m r k ≡ so_far r k
         sum_zero r k zero = elim (cases_eq r (at inactive_rows t)) [

@@ -50,7 +50,8 @@ finish_bound e = length e.peeling.rows * (inactive_count e + e.sparsify_limit)
 -- how often the second phase and the fourth add a row at most
 abbrev pub AddsLater : Elimination → Elimination → Type 0
 AddsLater old new =
-    additions new.recorded.operations ≤ additions old.recorded.operations + inactive_count old * (length old.row_order.items - 1) + 2 * (length old.peeling.rows * old.sparsify_limit)
+    additions new.recorded.operations
+    ≤ additions old.recorded.operations + inactive_count old * (length old.row_order.items - 1) + 2 * (length old.peeling.rows * old.sparsify_limit)
 
 -- ---- where the stretches of the phases end
 

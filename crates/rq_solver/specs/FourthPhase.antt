@@ -3,7 +3,7 @@ use Rattle.std.specs.Prelude.{◌≡◌, ◌≢◌, ℕ, ◌+◌, ◌-◌, ◌<�
 use Rattle.rq_algebra.specs.Systems.{at}
 use Rattle.rq_algebra.specs.Operations.{Operation}
 use Rattle.rq_standard.specs.OctetField.{octets}
-use Rattle.rq_parts.specs.DenseOctetMatrix.{entry_of}
+use Rattle.rq_parts.specs.DenseOctetMatrix.{OctetTable, entry_of}
 use Rattle.rq_elimination.specs.RecordedRows.{Performs, Records}
 use Rattle.rq_elimination.specs.RowSteps.{rows_after}
 use Rattle.rq_elimination.specs.declared.recorded.RecordedRows.{RecordedRows}
@@ -39,17 +39,25 @@ pub record IsFinished (rows order : List ℕ) (count : ℕ) (column : ℕ → �
   pub cleared : IsCleared rows order m r
   pub zeros : (f : ℕ) → f < count → m r (column f) ≡ 0
 
+-- Before that the rows with the inactive columns' pivots have 1 in their own column alone, the table shows what the pivots' rows have in the inactive columns,
+-- and these are cleared, or have what rows of bits have where they have a mark.
+pub record AreUnfinished
+    (lists : List (List ℕ)) (rows order inactive_rows : List ℕ) (marks : List Bool) (count : ℕ)
+    (table : OctetTable) (column : ℕ → ℕ) (m : ℕ → ℕ → ℕ) : Type 0 where
+  pub units : AreUnits inactive_rows 0 count column m
+  pub zeros : (f i : ℕ) → f < count → i < length rows → m (at inactive_rows f) (at order i) ≡ 0
+  pub shown : (p f : ℕ) → p < length rows → f < count → m (at rows p) (column f) ≡ entry_of table (at rows p) f
+  pub plain : (p : ℕ) → p < length rows → HasNoMark marks p → IsCleared rows order m (at rows p)
+  pub raw : (p : ℕ) → p < length rows → HasMark marks p → IsUncleared lists rows order m (at rows p)
+
 -- The first of the pivots' rows take the rows with the inactive columns' pivots, and those that have a mark then take the pivots' rows again.
-pub record FinishesPivots (lists : List (List ℕ)) (rows order inactive_rows : List ℕ) (marks : List Bool) (count done : ℕ) (old new : RecordedRows) : Type 0 where
+pub record FinishesPivots
+    (lists : List (List ℕ)) (rows order inactive_rows : List ℕ) (marks : List Bool) (count done : ℕ) (old new : RecordedRows) : Type 0 where
   pub steps : List Operation
   pub records : Records steps old new
   pub within : All (IsStepTo (Contains rows)) steps
   pub elsewhere : (m : ℕ → ℕ → ℕ) (r k : ℕ) → ((p : ℕ) → p < done → at rows p ≢ r) → rows_after octets steps m r k ≡ m r k
-  pub final : (m : ℕ → ℕ → ℕ) (column : ℕ → ℕ) → AreUnits inactive_rows 0 count column m
-      → ((f i : ℕ) → f < count → i < length rows → m (at inactive_rows f) (at order i) ≡ 0)
-      → ((p f : ℕ) → p < length rows → f < count → m (at rows p) (column f) ≡ entry_of old.table (at rows p) f)
-      → ((p : ℕ) → p < length rows → HasNoMark marks p → IsCleared rows order m (at rows p))
-      → ((p : ℕ) → p < length rows → HasMark marks p → IsUncleared lists rows order m (at rows p))
+  pub final : (m : ℕ → ℕ → ℕ) (column : ℕ → ℕ) → AreUnfinished lists rows order inactive_rows marks count old.table column m
       → (p : ℕ) → p < done → IsFinished rows order count column (rows_after octets steps m) (at rows p)
 
 -- of the pivots' rows of an elimination those that have a mark are made sparse again

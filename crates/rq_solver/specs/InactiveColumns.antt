@@ -2,7 +2,7 @@
 use Rattle.std.specs.Prelude.{◌≡◌, ◌≢◌, ℕ, ◌+◌, ◌-◌, ◌<◌, ◌==◌, List, count_by, length, min}
 use Rattle.rq_algebra.specs.Systems.{at}
 use Rattle.rq_parts.specs.DenseOctetMatrix.{OctetTable, entry_of, HasOctets}
-use Rattle.rq_elimination.specs.LeadingRows.{HasLeading}
+use Rattle.rq_elimination.specs.LeadingRows.{HasLeading, WritesRow}
 use Rattle.rq_peeling.specs.Peeling.{Pivots}
 use Rattle.rq_peeling.specs.SystemRows.{one_in}
 use Rattle.rq_peeling.specs.declared.system.System.{System}
@@ -16,14 +16,6 @@ HasInactive height width rows pivots table =
 abbrev pub AreFilled : List (List ℕ) → Pivots → ℕ → ℕ → OctetTable → Type 0
 AreFilled lists pivots inactive n table = HasLeading (length lists) inactive n (λ r f. one_in lists r (at pivots.order (length pivots.rows + f))) table
 
--- the first entries of one row are these, and the other rows are as they were
-pub record FillsRow (row count : ℕ) (wanted : ℕ → ℕ) (old new : OctetTable) : Type 0 where
-  pub width : new.width ≡ old.width
-  pub height : length new.rows ≡ length old.rows
-  pub octets : HasOctets new
-  pub here : (k : ℕ) → k < count → entry_of new row k ≡ wanted k
-  pub elsewhere : (i k : ℕ) → i ≢ row → entry_of new i k ≡ entry_of old i k
-
 -- a column that was zeros has 1 in these rows, and the others are as they were
 pub record FillsColumn (rows : List ℕ) (column : ℕ) (old new : OctetTable) : Type 0 where
   pub width : new.width ≡ old.width
@@ -35,4 +27,4 @@ pub record FillsColumn (rows : List ℕ) (column : ℕ) (old new : OctetTable) :
 -- an HDPC row of a system has its octets in the inactive columns
 abbrev pub FillsHdpcRow : System → ℕ → Pivots → ℕ → OctetTable → OctetTable → Type 0
 FillsHdpcRow system from pivots inactive old new =
-    FillsRow (system.first_hdpc + from) inactive (λ f. entry_of system.hdpc from (at pivots.order (length pivots.rows + f))) old new
+    WritesRow (system.first_hdpc + from) 0 inactive (λ f. entry_of system.hdpc from (at pivots.order (length pivots.rows + f))) old new

@@ -69,8 +69,15 @@ pub record SolvesInactive (old new : Elimination) : Type 0 where
   pub echelon : IsEchelon (left_rows new) (inactive_count old) forward.table
   pub sparsifies : Sparsifies old.additions.ones old.peeling.rows old.peeling.order marks 0 forward sparse
   pub reduces : SubstitutesBack (left_rows new) (inactive_count old) 0 sparse back
-  pub finishes : FinishesPivots old.additions.ones old.peeling.rows old.peeling.order (left_rows new) marks (inactive_count old) (length old.peeling.rows) back new.recorded
-  pub ends : new.ends ≡ record { cleared = old.ends.cleared; eliminated = length forward.operations; sparsified = length sparse.operations; substituted = length back.operations }
+  pub finishes : FinishesPivots old.additions.ones old.peeling.rows old.peeling.order (left_rows new) marks (inactive_count old)
+      (length old.peeling.rows) back new.recorded
+  pub ends : new.ends
+      ≡ record {
+        cleared = old.ends.cleared;
+        eliminated = length forward.operations;
+        sparsified = length sparse.operations;
+        substituted = length back.operations;
+      }
 
 -- whether the inactive columns have pivots, and what was done
 abbrev pub RunsLater : Elimination → Elimination → Option (Vec ℕ Global) → Type 0

@@ -39,14 +39,16 @@ pub record IsSumOf (row height : ℕ) (step : Operation) : Type 0 where
   pub other : source ≢ row
 
 -- A row takes the rows of the other pivots in whose columns it has these ones, by steps of which `Done` holds. What it is in whole is `m`, whatever that is.
-pub record TakesPivotsBy (Done : List Operation → RecordedRows → RecordedRows → Type 0) (rows order : List ℕ) (row : ℕ) (columns : List ℕ) (old new : RecordedRows) : Type 0 where
+pub record TakesPivotsBy
+    (Done : List Operation → RecordedRows → RecordedRows → Type 0) (rows order : List ℕ) (row : ℕ) (columns : List ℕ) (old new : RecordedRows) : Type 0 where
   pub steps : List Operation
   pub done : Done steps old new
   pub sums : All (IsSumOf row (length old.table.rows)) steps
   pub idle : columns ≡ [] → steps ≡ []
   pub elsewhere : (m : ℕ → ℕ → ℕ) (i k : ℕ) → i ≢ row → rows_after octets steps m i k ≡ m i k
   pub taken : (m : ℕ → ℕ → ℕ) → ((j : ℕ) → j < length rows → Contains columns (at order j) → at rows j ≢ row → IsCleared rows order m (at rows j))
-      → (i : ℕ) → i < length rows → rows_after octets steps m row (at order i) ≡ octets.add (m row (at order i)) (if at rows i == row then 0 else count_by (λ column. column == at order i) columns)
+      → (i : ℕ) → i < length rows → rows_after octets steps m row (at order i)
+      ≡ octets.add (m row (at order i)) (if at rows i == row then 0 else count_by (λ column. column == at order i) columns)
   -- where these rows have zeros it stays as it was
   pub kept : (m : ℕ → ℕ → ℕ) (k : ℕ) → ((j : ℕ) → j < length rows → Contains columns (at order j) → at rows j ≢ row → m (at rows j) k ≡ 0)
       → rows_after octets steps m row k ≡ m row k

@@ -18,7 +18,9 @@ EndsForward rows count state found = MatchBool found (IsEchelon rows count state
 -- each of `count` pivots' rows is added to the rows behind it at most
 abbrev pub AddsForward : ℕ → ℕ → RecordedRows → RecordedRows → Bool → Type 0
 AddsForward rows count old new found =
-    MatchBool found (additions new.operations + triangle count ≤ additions old.operations + count * (rows - 1)) (additions new.operations ≤ additions old.operations + count * (rows - 1))
+    MatchBool found
+    (additions new.operations + triangle count ≤ additions old.operations + count * (rows - 1))
+    (additions new.operations ≤ additions old.operations + count * (rows - 1))
 
 -- ---- steps by the row that they change
 
@@ -47,7 +49,8 @@ pub record ClearsColumns (inactive_rows : List ℕ) (row start count done : ℕ)
   pub within : All (IsStepTo (λ r. r ≡ row)) steps
   pub elsewhere : (m : ℕ → ℕ → ℕ) (i k : ℕ) → i ≢ row → rows_after octets steps m i k ≡ m i k
   pub kept : (m : ℕ → ℕ → ℕ) (k : ℕ) → ((f : ℕ) → start ≤ f → f < count → m (at inactive_rows f) k ≡ 0) → rows_after octets steps m row k ≡ m row k
-  pub cleared : (m : ℕ → ℕ → ℕ) (column : ℕ → ℕ) → AreUnits inactive_rows start count column m → ((f : ℕ) → start ≤ f → f < count → m row (column f) ≡ entries f)
+  pub cleared : (m : ℕ → ℕ → ℕ) (column : ℕ → ℕ) → AreUnits inactive_rows start count column m
+      → ((f : ℕ) → start ≤ f → f < count → m row (column f) ≡ entries f)
       → (f : ℕ) → start ≤ f → f < done → f < count → rows_after octets steps m row (column f) ≡ 0
   pub rest : (m : ℕ → ℕ → ℕ) (column : ℕ → ℕ) → AreUnits inactive_rows start count column m
       → (f : ℕ) → done ≤ f → f < count → rows_after octets steps m row (column f) ≡ m row (column f)
@@ -74,7 +77,8 @@ TakesOnesBehind rows place count old new =
 -- at most one addition for each place behind, and none for an entry that takes a multiple
 abbrev pub AddsOnes : List ℕ → ℕ → ℕ → RecordedRows → RecordedRows → Type 0
 AddsOnes rows place count old new =
-    additions new.operations + multiples (entry_of old.table (at rows place)) (place + 1) (count - (place + 1)) ≤ additions old.operations + (count - (place + 1))
+    additions new.operations + multiples (entry_of old.table (at rows place)) (place + 1) (count - (place + 1))
+    ≤ additions old.operations + (count - (place + 1))
 
 -- Of the first rows those whose entry in the column of the row at a place is neither 0 nor 1 take that multiple of it. Where it is 1 they then
 -- have 0, and where it is 0 they stay.

@@ -10,14 +10,17 @@ use Rattle.rq_standard.specs.TableRows.{IsChecked, b_of, pi_symbols, intermediat
 use Rattle.rq_standard.specs.Equations.{ldpc_step, row_indices}
 use Rattle.rq_standard.specs.TableLaws.{LdpcRowsAreThree, IndicesAreBelow}
 
+-- the sum modulo m of two numbers below it, where it is no less than m
+pub sum_past : (m x y : ℕ) → x < m → y < m → m ≤ x + y → (x + y) % m ≡ x + y - m
+sum_past m x y hx hy past =
+    let same : x + y ≡ (x + y - m) + m = omega arith in
+    ap (λ (n : ℕ). n % m) same ∙ add-mod_right (x + y - m) m ∙ mod-eq_of_lt (let lt : x + y - m < m = omega arith in lt)
+
 -- a step leads to the sum, or to what is m less
 step_to : (m x a y : ℕ) → x < m → a < m → y ≡ (x + a) % m → (x + a ≡ y) ⊎ (x + a ≡ y + m)
 step_to m x a y hx below is = elim (cases_lt (x + a) m) [
   | inl low ↦ inl (sym (is ∙ mod-eq_of_lt low))
-  | inr high ↦
-      let same : x + a ≡ (x + a - m) + m = omega arith in
-      let rest : y ≡ x + a - m = is ∙ ap (λ (n : ℕ). n % m) same ∙ add-mod_right (x + a - m) m ∙ mod-eq_of_lt (let lt : x + a - m < m = omega arith in lt) in
-      inr (omega (arith, rest))
+  | inr high ↦ inr (omega (arith, is ∙ sum_past m x a hx below high))
 ]
 
 -- a step that is neither 0 nor the modulus leads elsewhere, and so do two where the modulus is odd

@@ -1,6 +1,6 @@
 use Rattle.std.proofs.Common.{◌≡◌, ◌<◌}
 use Rattle.rq_base.specs.Indices.{next_below}
-use Rattle.rq_base.proofs.WalkLaws.{steps_to}
+use Rattle.rq_base.proofs.WalkLaws.{steps_left}
 use Rattle.rq_base.proofs.indices.next_below.Given as goal
 
 abbrev pub invariant-loop-value : goal.invariant-loop-value
@@ -10,4 +10,4 @@ invariant-loop-value l = record {
 }
 
 abbrev pub decreases-loop-value : goal.decreases-loop-value
-decreases-loop-value l = steps_to l.pi_symbols l.p1 l.step l.value
+decreases-loop-value l = steps_left l.pi_symbols l.p1 l.step l.value

@@ -1,6 +1,6 @@
 -- What the check leaves to show of `null_vector::reduce`.
 use Rattle.std.proofs.Common.{◌<◌, ◌+◌, length, zero-add, arith}
-use Rattle.rq_elimination.proofs.SwappedRows.{swapped_rows}
+use Rattle.rq_elimination.proofs.SwappedRows.{Exchanges, swapped_rows}
 use Rattle.rq_null_vector.proofs.ReducedRows.{swapped_reduced, reduced_more}
 use Rattle.rq_null_vector.proofs.ZeroValues.{keeps_more}
 use Rattle.rq_null_vector.proofs.null_vector.reduce.Goals as goal
@@ -19,8 +19,9 @@ loop-column-preserved c =
     let in_rows : column < length rows = omega (arith, found) in
     let in_swapped : column < length swapped = omega (arith, c.swap.ensures.len) in
     let in_columns : 0 + column < a.width = omega (arith, v.keeps.width, c.requires.width) in
-    let are = swapped_rows rows swapped column c.in-Some.pivot c.swap.ensures.by_index c.swap.ensures.len in_rows found.1 a v.are_rows in
-    let reduced = swapped_reduced rows swapped column c.in-Some.pivot c.swap.ensures.by_index c.swap.ensures.len in_rows found.1 0 column a (omega arith) found.0 v.reduced in
+    let exchanges : Exchanges rows swapped column c.in-Some.pivot = record { by_index = c.swap.ensures.by_index; len = c.swap.ensures.len; left = in_rows; right = found.1 } in
+    let are = swapped_rows exchanges a v.are_rows in
+    let reduced = swapped_reduced exchanges 0 column a (omega arith) found.0 v.reduced in
     record {
       are_rows = rw (cleared.keeps.height, scaled.keeps.height) are;
       keeps = keeps_more c.args.matrix.now b c.clear_column.new.matrix (keeps_more c.args.matrix.now a b v.keeps scaled.keeps) cleared.keeps;

@@ -1,9 +1,10 @@
 -- What the check leaves to show of `null_vector::scale_row`.
 use Rattle.std.proofs.Common.{◌≡◌, ℕ, ◌<◌, subst, length}
 use Rattle.rq_algebra.specs.Steps.{ScalesRow}
+use Rattle.rq_algebra.proofs.Sums.{inverse_nonzero}
 use Rattle.rq_standard.specs.OctetField.{octets}
 use Rattle.rq_parts.specs.DenseOctetMatrix.{entry_of}
-use Rattle.rq_elimination.proofs.ChangedEntries.{one-div, inverse_nonzero}
+use Rattle.rq_elimination.proofs.ChangedEntries.{one-div}
 use Rattle.rq_null_vector.proofs.ZeroValues.{scales_row, scaled_keeps}
 use Rattle.rq_null_vector.proofs.null_vector.scale_row.Goals as goal
 
@@ -25,7 +26,7 @@ module _ (c : goal.After-mul_assign_row) where
 
 pub returns-clause-keeps : goal.returns-clause-keeps
 unfolding entry
-returns-clause-keeps c = scaled_keeps c.args.matrix.now c.requires.octets c.args.row c.div-scalar.result c.requires.row (small c) c.mul_assign_row.new.self c.mul_assign_row.ensures (rw (scalar_is c) (inverse_nonzero (entry c) (is_octet c) c.requires.nonzero))
+returns-clause-keeps c = scaled_keeps c.args.matrix.now c.requires.octets c.args.row c.div-scalar.result c.requires.row (small c) c.mul_assign_row.new.self c.mul_assign_row.ensures (rw (scalar_is c) (inverse_nonzero octets (entry c) (is_octet c) c.requires.nonzero))
 
 pub returns-clause-scaled : goal.returns-clause-scaled
 unfolding entry

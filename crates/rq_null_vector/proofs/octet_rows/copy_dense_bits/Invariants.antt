@@ -1,6 +1,6 @@
 -- What the loops keep in `octet_rows::copy_dense_bits`.
 use Rattle.std.proofs.Common.{min, count_by, take, ◌==◌}
-use Rattle.rq_null_vector.specs.RowWrites.{WritesRow}
+use Rattle.rq_elimination.specs.LeadingRows.{WritesRow}
 use Rattle.rq_null_vector.proofs.octet_rows.copy_dense_bits.Given as goal
 
 abbrev pub invariant-loop-column : goal.invariant-loop-column

@@ -2,8 +2,7 @@
 use Rattle.std.proofs.Common.{◌≡◌, ℕ, ◌<◌, ◌≤◌, ◌++◌, ◌∷◌, [], sym, subst, arith, append_assoc}
 use Rattle.rq_standard.specs.BitTableSteps.{AreOnesOf, ones_at}
 use Rattle.rq_standard.proofs.BitTableLaws.{is_next_pair}
-use Rattle.rq_elimination.proofs.Writes.{sets_entry}
-use Rattle.rq_null_vector.proofs.WrittenRows.{writes_again}
+use Rattle.rq_elimination.proofs.Writes.{sets_entry, writes_again}
 use Rattle.rq_null_vector.proofs.octet_rows.copy_leading_bits.Goals as goal
 
 pub loop-column-preserved : goal.loop-column-preserved

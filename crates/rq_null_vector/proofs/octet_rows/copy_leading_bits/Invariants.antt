@@ -1,7 +1,7 @@
 -- What the loops keep in `octet_rows::copy_leading_bits`.
 use Rattle.std.proofs.Common.{◌++◌}
 use Rattle.rq_standard.specs.BitTableSteps.{AreOnesOf, ones_at}
-use Rattle.rq_null_vector.specs.RowWrites.{WritesRow}
+use Rattle.rq_elimination.specs.LeadingRows.{WritesRow}
 use Rattle.rq_null_vector.proofs.octet_rows.copy_leading_bits.Given as goal
 
 abbrev pub invariant-loop-column : goal.invariant-loop-column

@@ -1,5 +1,5 @@
 -- What the loops keep in `octet_rows::copy_octets`.
-use Rattle.rq_null_vector.specs.RowWrites.{WritesRow}
+use Rattle.rq_elimination.specs.LeadingRows.{WritesRow}
 use Rattle.rq_null_vector.proofs.octet_rows.copy_octets.Given as goal
 use Rattle.rq_parts.specs.DenseOctetMatrix.{entry_of}
 

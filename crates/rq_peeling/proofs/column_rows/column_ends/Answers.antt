@@ -5,7 +5,7 @@ use Rattle.std.proofs.lemmas.List.{get_or-replicate}
 use Rattle.std.proofs.lemmas.List.Folds.{sum_by-replicate}
 use Rattle.rq_algebra.specs.Systems.{at}
 use Rattle.rq_peeling.proofs.ColumnPlacing.{written_back}
-use Rattle.rq_peeling.proofs.RowLists.{All-concat, length-concat, sum_by-concat}
+use Rattle.rq_peeling.proofs.Counting.{All-concat, length-concat, sum_by-concat}
 use Rattle.rq_peeling.proofs.column_rows.column_ends.Goals as goal
 
 pub count_columns-requires-clause-columns : goal.count_columns-requires-clause-columns

@@ -1,7 +1,6 @@
 -- What the check leaves to show of `peeling::peel`.
 use Rattle.std.proofs.Common.{◌≤◌}
 use Rattle.rq_peeling.specs.Chosen.{IsPeeledSo}
-use Rattle.rq_peeling.specs.RowDegrees.{TakesColumnsLeft}
 use Rattle.rq_peeling.specs.ColumnState.{IsOrderOf}
 use Rattle.rq_peeling.proofs.PeelingLaws.{peeled_all}
 use Rattle.rq_peeling.proofs.peeling.peel.Goals as goal
@@ -14,9 +13,3 @@ returns-clause-peeled c =
     let order : IsOrderOf s.width columns.order columns.places = rw (c.choose_rows.ensures.system, c.in_ok-peeler.ensures.system) at c.into_columns-order.ensures.columns in
     let few : columns.pivots ≤ s.width = rw (c.choose_rows.ensures.system, c.in_ok-peeler.ensures.system) at c.into_columns-order.ensures.few in
     rw (c.into_columns-order.ensures.order, c.into_columns-order.ensures.places) (peeled_all s.ones c.in_ok-rows.rows.items columns s.width so few order)
-
-pub returns-clause-columns : goal.returns-clause-columns
-returns-clause-columns c =
-    let s = c.args.system.now in
-    let left : TakesColumnsLeft s.ones s.lt_columns c.in_ok-rows.rows.items c.choose_rows.new.self.columns.order = rw c.in_ok-peeler.ensures.system at c.in_ok-rows.ensures.columns in
-    rw c.into_columns-order.ensures.order left

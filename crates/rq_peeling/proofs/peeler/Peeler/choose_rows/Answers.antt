@@ -5,7 +5,7 @@ use Rattle.rq_peeling.specs.RowDegrees.{AllHaveNone, CountsActive, HasFewestLeft
 use Rattle.rq_peeling.specs.ColumnState.{TakesRow}
 use Rattle.rq_peeling.specs.RowOnes.{ones_of}
 use Rattle.rq_peeling.specs.declared.system.System.{System}
-use Rattle.rq_peeling.proofs.ActiveOnes.{all_done, columns_next, fewest_left, left_next, none_left, takes_more}
+use Rattle.rq_peeling.proofs.ActiveOnes.{all_done, columns_next, fewest_left, left_next, none_left, each_taken_more}
 use Rattle.rq_peeling.proofs.PeelingLaws.{columns_below, peeled_next}
 use Rattle.rq_peeling.proofs.peeler.Peeler.choose_rows.Goals as goal
 use Rattle.rq_peeling.proofs.peeler.Peeler.choose_rows.Goals.{else-loop-turn-test, then-loop-turn-test+in_ok-row+in_default}
@@ -35,7 +35,7 @@ loop-turn-preserved c =
         end = omega (arith, takes.ends.fewer, v.chosen.end);
         left = λ k l. left_next s.ones s.lt_columns taken row cur.columns new.columns takes were k (rw width l);
         counts = counted;
-        fewest = takes_more (λ _ rows r. HasFewestLeft s.ones s.lt_columns rows r) taken row v.chosen.fewest pick;
+        fewest = each_taken_more (λ _ rows r. HasFewestLeft s.ones s.lt_columns rows r) taken row v.chosen.fewest pick;
         columns = columns_next s.ones s.lt_columns taken row cur.columns new.columns takes were within in_lists v.chosen.so.count v.chosen.columns;
       };
       turns = omega (arith, grown, v.turns);

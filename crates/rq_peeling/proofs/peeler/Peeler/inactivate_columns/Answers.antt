@@ -4,7 +4,7 @@ use Rattle.rq_algebra.specs.Systems.{at}
 use Rattle.rq_peeling.specs.RowDegrees.{KeepsDegrees}
 use Rattle.rq_peeling.specs.ColumnState.{IsActive}
 use Rattle.rq_peeling.specs.declared.system.System.{System}
-use Rattle.rq_peeling.proofs.ActiveOnes.{not_both}
+use Rattle.std.proofs.lemmas.Bool.{iff_false}
 use Rattle.rq_peeling.proofs.PeelerLaws.{leave_lowered}
 use Rattle.rq_peeling.proofs.PeelingLaws.{inactivates_more, inactivates_same}
 use Rattle.rq_peeling.proofs.peeler.Peeler.inactivate_columns.Goals as goal
@@ -31,7 +31,7 @@ loop-column-preserved c =
             system = w.leave_column.ensures.system ∙ v.system;
           })
       | else-is_active w ↦ rw w.self-is (record {
-        inactive = inactivates_same row t in_row first.columns cur.columns cur.columns below v.inactive (λ a. not_both c.is_active.result (c.is_active.ensures.1 a) w.if-is_active.false);
+        inactive = inactivates_same row t in_row first.columns cur.columns cur.columns below v.inactive (iff_false c.is_active.ensures w.if-is_active.false);
         counted = v.counted;
         system = v.system;
       })

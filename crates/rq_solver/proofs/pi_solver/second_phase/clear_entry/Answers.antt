@@ -1,5 +1,5 @@
 -- What the check leaves to show of `pi_solver::second_phase::clear_entry`.
-use Rattle.std.proofs.Common.{ℕ, ◌<◌, length, sym, ◌∙◌, subst}
+use Rattle.std.proofs.Common.{ℕ, length, sym, ◌∙◌, subst}
 use Rattle.rq_algebra.specs.Steps.{AddsRow}
 use Rattle.rq_standard.specs.OctetField.{octets}
 use Rattle.rq_parts.specs.DenseOctetMatrix.{entry_of}
@@ -12,11 +12,6 @@ returns-then-byte-eq0-clause-steps c = changes_none _ _
 
 pub returns-then-byte-eq0-clause-added : goal.returns-then-byte-eq0-clause-added
 returns-then-byte-eq0-clause-added c = zero_adds _ _ _ _ (sym c.get-scalar.ensures ∙ sym c.byte.ensures ∙ c.if-byte-eq0.true)
-
-pub add_multiple-requires-clause-scalar : goal.add_multiple-requires-clause-scalar
-add_multiple-requires-clause-scalar c =
-    let small : entry_of c.args.recorded.now.table c.args.dest c.args.column < 256 = c.args.recorded.now.octets.elements c.args.dest c.args.column c.requires.dest c.requires.column in
-    rw c.get-scalar.ensures small
 
 pub returns-clause-steps : goal.returns-clause-steps
 returns-clause-steps c = changes_sum c.args.recorded.now c.add_multiple.new.self c.args.dest c.args.src c.get-scalar.result (λ e. c.requires.two (sym e)) c.in_ok-add_multiple.ensures.added

@@ -7,7 +7,7 @@ use Rattle.rq_elimination.specs.OperationCounts.{additions}
 use Rattle.rq_solver.proofs.CountLaws.{triangle-start, forward_more, forward_bound}
 use Rattle.rq_elimination.proofs.Performing.{changes_none, changes_among, changes_more}
 use Rattle.rq_solver.proofs.EchelonRows.{echelon_none, swapped_echelon, echelon_more}
-use Rattle.rq_elimination.proofs.SwappedRows.{swapped_rows}
+use Rattle.rq_elimination.proofs.SwappedRows.{Exchanges, swapped_rows}
 use Rattle.rq_solver.proofs.pi_solver.second_phase.eliminate_rows.Goals as goal
 
 pub loop-done-init : goal.loop-done-init
@@ -25,9 +25,9 @@ returns-in_err-scale_row-clause-permuted c = IsPermutation-trans _ _ _ c.loop-do
 
 pub clear_below-requires-clause-rows : goal.clear_below-requires-clause-rows
 clear_below-requires-clause-rows c =
-    let rows = c.loop-done.rows in
-    rw c.in_ok-scale_row.ensures.steps.performs.height
-    (swapped_rows rows c.swap.new.self c.loop-done.done c.in-Some.pivot c.swap.ensures.by_index c.swap.ensures.len (omega (arith, c.in-Some.ensures.found)) c.in-Some.ensures.found.1 c.loop-done.recorded.table c.loop-done.invariant.are_rows)
+    let found = c.in-Some.ensures.found in
+    let exchanges : Exchanges c.loop-done.rows c.swap.new.self c.loop-done.done c.in-Some.pivot = record { by_index = c.swap.ensures.by_index; len = c.swap.ensures.len; left = omega (arith, found); right = found.1 } in
+    rw c.in_ok-scale_row.ensures.steps.performs.height (swapped_rows exchanges c.loop-done.recorded.table c.loop-done.invariant.are_rows)
 
 pub returns-in_err-clear_below-clause-permuted : goal.returns-in_err-clear_below-clause-permuted
 returns-in_err-clear_below-clause-permuted c = IsPermutation-trans _ _ _ c.loop-done.invariant.rows c.swap.ensures.permutation
@@ -49,8 +49,9 @@ loop-done-preserved c =
     let in_swapped : done < length swapped = omega (arith, c.swap.ensures.len) in
     let permuted = IsPermutation-trans start rows swapped v.rows c.swap.ensures.permutation in
     let back : All (Contains start) swapped = (λ k d l. Contains-permutation swapped start _ (IsPermutation-sym start swapped permuted) (Contains-get_or swapped k d l)) in
-    let are = swapped_rows rows swapped done c.in-Some.pivot c.swap.ensures.by_index c.swap.ensures.len in_rows found.1 a.table v.are_rows in
-    let echelon = swapped_echelon rows swapped done c.in-Some.pivot c.swap.ensures.by_index c.swap.ensures.len in_rows found.1 done a.table (omega arith) found.0 v.echelon in
+    let exchanges : Exchanges rows swapped done c.in-Some.pivot = record { by_index = c.swap.ensures.by_index; len = c.swap.ensures.len; left = in_rows; right = found.1 } in
+    let are = swapped_rows exchanges a.table v.are_rows in
+    let echelon = swapped_echelon exchanges done a.table (omega arith) found.0 v.echelon in
     let scaling = changes_among (at swapped done ∷ []) start (All-cons (Contains start) (at swapped done) [] (back done 0 in_swapped) (All-nil (Contains start))) a b scaled.steps in
     let clearing = changes_among swapped start back b e cleared.steps in
     record {

@@ -1,9 +1,10 @@
 -- What the check leaves to show of `pi_solver::second_phase::scale_row`.
 use Rattle.std.proofs.Common.{◌≡◌, ◌≢◌, ℕ, ◌<◌, length, ◌∙◌, sym, subst}
 use Rattle.rq_algebra.specs.Steps.{ScalesRow}
+use Rattle.rq_algebra.proofs.Sums.{inverse_nonzero}
 use Rattle.rq_standard.specs.OctetField.{octets}
 use Rattle.rq_parts.specs.DenseOctetMatrix.{entry_of}
-use Rattle.rq_elimination.proofs.ChangedEntries.{one_scales, one-div, inverse_nonzero}
+use Rattle.rq_elimination.proofs.ChangedEntries.{one_scales, one-div}
 use Rattle.rq_elimination.proofs.Performing.{changes_none, changes_scaling, scales_of_scaling}
 use Rattle.rq_solver.proofs.pi_solver.second_phase.scale_row.Goals as goal
 use Rattle.rq_solver.proofs.pi_solver.second_phase.scale_row.Goals.{After-div-scalar}
@@ -20,7 +21,7 @@ module _ (c : After-div-scalar) where
   scalar_small = rw is (octets.inverse_below _ small c.requires.nonzero)
 
   scalar_nonzero : c.div-scalar.result ≢ 0
-  scalar_nonzero = rw is (inverse_nonzero _ small c.requires.nonzero)
+  scalar_nonzero = rw is (inverse_nonzero octets _ small c.requires.nonzero)
 
 pub returns-then-byte-eq1-clause-steps : goal.returns-then-byte-eq1-clause-steps
 returns-then-byte-eq1-clause-steps c = changes_none _ _

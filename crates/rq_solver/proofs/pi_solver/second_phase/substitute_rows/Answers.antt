@@ -40,16 +40,3 @@ loop-done-preserved c =
       reduced = rw next (back_more rows count place inside old cur mid new c.requires.rows c.requires.echelon (rw was at v.reduced) taken.taken c.in_ok-give_multiples.ensures.given);
       few = rw next (back_turn entries place done (additions old.operations) (additions cur.operations) (additions mid.operations) (additions new.operations) (rw was at v.few) ones given);
     }
-
-pub returns-clause-reduced : goal.returns-clause-reduced
-returns-clause-reduced c =
-    let all : c.loop-done.done ≡ c.args.count = omega (arith, c.loop-done.auto.done-end) in
-    let none : c.args.count - c.loop-done.done ≡ 0 = omega (arith, all) in
-    rw none at c.loop-done.invariant.reduced
-
-pub returns-clause-few : goal.returns-clause-few
-returns-clause-few c =
-    let all : c.loop-done.done ≡ c.args.count = omega (arith, c.loop-done.auto.done-end) in
-    let none : c.args.count - c.args.count ≡ 0 = omega arith in
-    let few = rw (all, none) at c.loop-done.invariant.few in
-    omega (arith, few)

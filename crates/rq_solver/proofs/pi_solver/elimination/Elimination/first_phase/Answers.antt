@@ -1,12 +1,9 @@
 -- What the check leaves to show of `pi_solver::elimination::Elimination::first_phase`.
-use Rattle.std.proofs.Common.{length, arith}
+use Rattle.std.proofs.Common.{length}
 use Rattle.rq_solver.specs.Phases.{ClearsPivots}
 use Rattle.rq_solver.specs.RowOrder.{ListsRows}
 use Rattle.rq_solver.proofs.UnderWay.{first_under_way, starts_in_order}
 use Rattle.rq_solver.proofs.pi_solver.elimination.Elimination.first_phase.Goals as goal
-
-pub invariant_of-result : goal.invariant_of-result
-invariant_of-result c = record { few_pivots = omega (arith, c.requires.few, c.requires.columns.place_count) }
 
 pub returns-clause-cleared : goal.returns-clause-cleared
 returns-clause-cleared c = rw c.as_slice.ensures.value at c.in_ok-additions.ensures.cleared

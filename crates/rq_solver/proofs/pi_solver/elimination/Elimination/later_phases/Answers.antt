@@ -48,17 +48,6 @@ clear_inactive-requires-clause-many c =
     let echelon : IsEchelon (left_rows forward) (inactive_count first) forward.recorded.table = rw c.if-not-branch.false at c.in_ok-eliminate.ensures.pivots in
     rw (same_count sparse back reduced.kept.pivots, same_count forward sparse made.kept.pivots, same_count first forward c.in_ok-eliminate.ensures.same, same_left sparse back reduced.kept, same_left forward sparse made.kept) echelon.fits
 
-pub clear_inactive-requires-clause-long : goal.clear_inactive-requires-clause-long
-clear_inactive-requires-clause-long c =
-    let made = c.in_ok-sparse.ensures in
-    rw (c.as_slice.ensures.value, c.in_ok-back_substitute.ensures.kept.pivots.peeling, made.kept.pivots.peeling) made.long
-
-pub clear_inactive-requires-clause-short : goal.clear_inactive-requires-clause-short
-clear_inactive-requires-clause-short c =
-    let made = c.in_ok-sparse.ensures in
-    let back = c.in_ok-back_substitute.ensures.kept.pivots in
-    rw (c.as_slice.ensures.value, back.limit, made.kept.pivots.limit, back.additions, made.kept.pivots.additions) made.short
-
 module _ (c : After-clear_inactive) (last : Elimination) (keeps : KeepsRows c.back_substitute.new.self last) (finishes : FinishesPivotRows c.as_slice.result.now c.back_substitute.new.self last.recorded) where
   runs : RunsAll c.args.self.now c.eliminate.new.self c.sparsify.new.self c.back_substitute.new.self last c.in_ok-sparse.sparse.items
   runs =

@@ -3,7 +3,7 @@ use Rattle.std.proofs.Common.{◌≡◌, ℕ, ◌+◌, ◌-◌, ◌*◌, ◌/◌
 use Rattle.std.proofs.Math.Nat.{mul-le-mul_left}
 use Rattle.rq_algebra.specs.Systems.{at}
 use Rattle.rq_elimination.specs.OperationCounts.{additions}
-use Rattle.rq_peeling.proofs.PlaceCounts.{few_places}
+use Rattle.rq_peeling.proofs.Counting.{few_places, few_together}
 use Rattle.rq_elimination.specs.declared.counts.PhaseEnds.{PhaseEnds}
 use Rattle.rq_peeling.specs.Peeling.{IsPeeled, Pivots}
 use Rattle.rq_peeling.specs.declared.system.System.{System}
@@ -11,7 +11,7 @@ use Rattle.rq_solver.specs.Elimination.{inactive_count, AddsLater}
 use Rattle.rq_solver.specs.HdpcOctets.{hdpc_bound}
 use Rattle.rq_solver.specs.RowOrder.{ListsRows}
 use Rattle.rq_solver.specs.declared.pi_solver.elimination.Elimination.{Elimination}
-use Rattle.rq_solver.proofs.CountLaws.{few_in_all, few_together}
+use Rattle.rq_solver.proofs.CountLaws.{few_in_all}
 use Rattle.rq_solver.proofs.LaterPhases.{attempt_of}
 use Rattle.rq_solver.proofs.PivotsCleared.{pivot_of_bits}
 use Rattle.rq_solver.proofs.pi_solver.elimination.Elimination.of_system.Goals as goal

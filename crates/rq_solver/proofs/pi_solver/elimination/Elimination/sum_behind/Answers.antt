@@ -7,7 +7,7 @@ use Rattle.rq_standard.specs.OctetField.{octets}
 use Rattle.rq_standard.specs.Octets.{octet_mul}
 use Rattle.rq_parts.specs.DenseOctetMatrix.{entry_of}
 use Rattle.rq_elimination.proofs.ChangedEntries.{mul_is}
-use Rattle.rq_solver.specs.Elimination.{inactive_count, left_rows, IsUnderWay}
+use Rattle.rq_solver.specs.Elimination.{inactive_count, left_rows}
 use Rattle.rq_solver.specs.HomogeneousColumns.{inactive_dot, inactive_entry}
 use Rattle.rq_solver.specs.declared.pi_solver.elimination.Elimination.{Elimination}
 use Rattle.rq_solver.proofs.pi_solver.elimination.Elimination.sum_behind.Goals as goal
@@ -26,13 +26,10 @@ row_is e place pivots row count inside here =
     here ∙ sym (get_or_default e.row_order.items (pivots + place) 0 row (omega (arith, count, inside, long)))
     ∙ ap (λ (n : ℕ). at e.row_order.items (n + place)) count ∙ sym (get_or-drop (length e.peeling.rows) e.row_order.items place 0)
 
-row_below : (e : Elimination) (place row : ℕ) → IsUnderWay e → place < length (left_rows e) → row ≡ at (left_rows e) place → row < length e.recorded.table.rows
-row_below e place row under inside is = rw is (under.left.below place inside)
-
 pub get-requires-clause-row : goal.get-requires-clause-row
 get-requires-clause-row c =
     let e = c.args.self.now in
-    row_below e c.args.place c.index-row.result.now c.requires.under_way c.requires.row (row_is e c.args.place c.pivots-pivots.result c.index-row.result.now c.pivots-pivots.ensures c.requires.row c.index-row.ensures)
+    rw (row_is e c.args.place c.pivots-pivots.result c.index-row.result.now c.pivots-pivots.ensures c.requires.row c.index-row.ensures) (c.requires.under_way.left.below c.args.place c.requires.row)
 
 pub loop-f-preserved : goal.loop-f-preserved
 loop-f-preserved c =
@@ -42,7 +39,7 @@ loop-f-preserved c =
     let entries = inactive_entry e c.args.column.now in
     let octet_is : c.new-octet.result ≡ entries f = c.new-octet.ensures ∙ ap (at c.args.column.now) (c.column_at.ensures ∙ ap (λ (n : ℕ). at e.peeling.order (n + f)) c.pivots-pivots.ensures) in
     let small : entries f < 256 = omega (arith, c.type_inv.column (at e.peeling.order (length e.peeling.rows + f))) in
-    let below = row_below e c.args.place c.index-row.result.now c.requires.under_way c.requires.row (row_is e c.args.place c.pivots-pivots.result c.index-row.result.now c.pivots-pivots.ensures c.requires.row c.index-row.ensures) in
+    let below : c.index-row.result.now < length e.recorded.table.rows = rw (row_is e c.args.place c.pivots-pivots.result c.index-row.result.now c.pivots-pivots.ensures c.requires.row c.index-row.ensures) (c.requires.under_way.left.below c.args.place c.requires.row) in
     let entry_small : row f < 256 = e.recorded.octets.elements c.index-row.result.now f below (omega (arith, c.loop-f-test.true, c.requires.under_way.wide, c.width.ensures, c.pivots-pivots.ensures)) in
     let next : suc f ≡ f + 1 = omega arith in
     c.add_assign.ensures.after

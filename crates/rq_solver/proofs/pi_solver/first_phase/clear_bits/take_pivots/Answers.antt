@@ -3,16 +3,16 @@ use Rattle.std.proofs.Common.{◌≡◌, ◌≢◌, ◌+◌, ◌<◌, ℕ, [], �
 use Rattle.rq_algebra.specs.Systems.{at}
 use Rattle.rq_elimination.specs.RecordedRows.{Performs}
 use Rattle.rq_elimination.specs.RowSteps.{sum_step}
-use Rattle.rq_peeling.proofs.PlaceCounts.{few_places, twice_counted}
+use Rattle.rq_peeling.proofs.Counting.{few_places, twice_counted}
 use Rattle.rq_solver.proofs.CountLaws.{met_none, met_skipped, met_more}
 use Rattle.rq_elimination.proofs.Performing.{performs_none, performs_more}
-use Rattle.rq_solver.proofs.PivotsTaken.{columns_of_row, takes_none, takes_skipped, takes_more}
+use Rattle.rq_solver.proofs.PivotsTaken.{columns_of_row, takes_no_pivots, takes_skipped, takes_more}
 use Rattle.rq_solver.proofs.pi_solver.first_phase.clear_bits.take_pivots.Goals as goal
 use Rattle.rq_solver.proofs.pi_solver.first_phase.clear_bits.take_pivots.Goals.{then-place-pivots+then-row_of-row+in_ok-add_multiple, else-place-pivots, else-place-pivots-via-then-place-pivots+else-row_of-row, else-place-pivots-via-else-place-pivots}
 
 pub loop-column-init : goal.loop-column-init
 loop-column-init c = record {
-  taken = takes_none Performs c.args.peeling.now.rows c.args.peeling.now.order c.args.row c.row-column-items.result.now c.args.recorded.now (performs_none c.args.recorded.now);
+  taken = takes_no_pivots Performs c.args.peeling.now.rows c.args.peeling.now.order c.args.row c.row-column-items.result.now c.args.recorded.now (performs_none c.args.recorded.now);
   few = (0, met_none (length c.args.peeling.now.rows) (λ q. at c.args.peeling.now.places (at c.row-column-items.result.now q)), (omega arith));
 }
 

@@ -2,11 +2,12 @@
 use Rattle.std.proofs.Common.{◌≡◌, ◌≢◌, ℕ, ◌<◌, ◌≤◌, ◌+◌, length, lit<, refl, sym, ◌∙◌, subst, arith, inl, inr}
 use Rattle.std.proofs.lemmas.Bool.{cases_eq, cases_lt}
 use Rattle.rq_algebra.specs.Steps.{AddsRow, ScalesRow}
+use Rattle.rq_algebra.proofs.Sums.{inverse_nonzero}
 use Rattle.rq_standard.specs.OctetField.{octets}
 use Rattle.rq_parts.specs.DenseOctetMatrix.{HasOctets}
 use Rattle.rq_elimination.specs.HdpcRows.{octet_in}
 use Rattle.rq_solver.specs.HdpcOctets.{octets_from}
-use Rattle.rq_elimination.proofs.ChangedEntries.{one-div, inverse_nonzero}
+use Rattle.rq_elimination.proofs.ChangedEntries.{one-div}
 use Rattle.rq_solver.proofs.OctetSums.{quotient_times, plus_quotient_times}
 use Rattle.rq_elimination.proofs.HdpcFactors.{elements_beside, adds_beside, scales_beside}
 use Rattle.rq_solver.proofs.OctetColumns.{from_elements, from_adds, from_scales}
@@ -15,9 +16,6 @@ use Rattle.rq_solver.proofs.pi_solver.first_phase.clear_hdpc.add_first_row.Goals
 
 pub returns-then-byte-eq0-clause-added : goal.returns-then-byte-eq0-clause-added
 returns-then-byte-eq0-clause-added c = combines_none c.args.first_hdpc (length c.args.hdpc_rows.now.table.rows) c.args.hdpc_rows.now.table.width (octets_from c.args.column (octet_in c.args.hdpc_rows.now)) c.args.recorded.now
-
-pub returns-then-byte-eq0-clause-alone : goal.returns-then-byte-eq0-clause-alone
-returns-then-byte-eq0-clause-alone c = λ some. absurd (some (sym c.get-lead.ensures ∙ sym c.byte.ensures ∙ c.if-byte-eq0.true))
 
 pub loop-row-init : goal.loop-row-init
 loop-row-init c = record {
@@ -89,7 +87,7 @@ multiply_row-requires-clause-nonzero c =
     let lead = c.get-lead.result in
     let small : lead < 256 = rw c.byte.ensures at c.byte.type_inv in
     let nonzero : lead ≢ 0 = (λ e. c.if-byte-eq0.false (c.byte.ensures ∙ e)) in
-    rw (c.div-scalar-then-byte-ne1.ensures, c.one.ensures, one-div lead small nonzero) (inverse_nonzero lead small nonzero)
+    rw (c.div-scalar-then-byte-ne1.ensures, c.one.ensures, one-div lead small nonzero) (inverse_nonzero octets lead small nonzero)
 
 pub returns-in_ok-multiply_row-clause-alone : goal.returns-in_ok-multiply_row-clause-alone
 returns-in_ok-multiply_row-clause-alone c = λ some.
@@ -127,12 +125,6 @@ returns-in_ok-multiply_row-clause-added c =
     0 first scalar (omega arith) (omega arith)
     (from_scales column count width 0 scalar (octet_in was) (octet_in now) (subst (λ (x : ℕ). ScalesRow octets count width 0 x (octet_in was) (octet_in now)) c.byte-factor-then-byte-ne1.ensures (scales_beside start was v.table now 0 c.byte-factor-then-byte-ne1.result c.multiply_first.ensures.multiple))) c.in_ok-multiply_row.ensures.multiplied)
 
-pub returns-in_ok-multiply_row-clause-few : goal.returns-in_ok-multiply_row-clause-few
-returns-in_ok-multiply_row-clause-few c = let so_far = c.loop-row.invariant.few in let more = c.in_ok-multiply_row.ensures.counted in omega (arith, so_far, more, c.loop-row.invariant.within)
-
-pub returns-else-byte-ne1-clause-few : goal.returns-else-byte-ne1-clause-few
-returns-else-byte-ne1-clause-few c = let so_far = c.loop-row.invariant.few in omega (arith, so_far, c.loop-row.invariant.within)
-
 pub returns-else-byte-ne1-clause-alone : goal.returns-else-byte-ne1-clause-alone
 returns-else-byte-ne1-clause-alone c = λ some.
     let v = c.loop-row.invariant in
@@ -140,12 +132,3 @@ returns-else-byte-ne1-clause-alone c = λ some.
       one = v.lead ∙ sym c.byte-2.ensures ∙ c.if-byte-ne1.false;
       zeros = λ i first l. elim (cases_lt i (c.loop-row.last + 1)) [ inl below ↦ v.cleared i first (omega arith) | inr from_on ↦ sym (v.in_column i from_on l) ∙ c.in_default.ensures.next i from_on (rw c.height.ensures.height l) ];
     }
-
-pub returns-in_err-add_multiple-clause-lanes : goal.returns-in_err-add_multiple-clause-lanes
-returns-in_err-add_multiple-clause-lanes c = c.loop-row.invariant.lanes ∙ sym c.add_first.ensures.lanes
-
-pub returns-in_err-multiply_row-clause-lanes : goal.returns-in_err-multiply_row-clause-lanes
-returns-in_err-multiply_row-clause-lanes c = c.loop-row.invariant.lanes ∙ sym c.multiply_first.ensures.lanes
-
-pub returns-in_ok-multiply_row-clause-lanes : goal.returns-in_ok-multiply_row-clause-lanes
-returns-in_ok-multiply_row-clause-lanes c = c.loop-row.invariant.lanes ∙ sym c.multiply_first.ensures.lanes

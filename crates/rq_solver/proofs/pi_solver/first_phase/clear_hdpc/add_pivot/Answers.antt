@@ -4,7 +4,7 @@ use Rattle.rq_algebra.specs.Systems.{at}
 use Rattle.rq_solver.specs.HdpcOctets.{HasPivotsBeside, octets_from, with_zeros}
 use Rattle.rq_elimination.specs.HdpcRows.{octet_in}
 use Rattle.rq_solver.proofs.OctetColumns.{from_column, same_behind}
-use Rattle.rq_solver.proofs.HdpcClearing.{beside_still, changes_none, changes_same, changes_pivot, changes_more, zeros_skipped, column_cleared}
+use Rattle.rq_solver.proofs.HdpcClearing.{beside_still, changes_no_octets, changes_same, changes_pivot, changes_more_octets, zeros_skipped, column_cleared}
 use Rattle.rq_solver.proofs.pi_solver.first_phase.clear_hdpc.add_pivot.Goals as goal
 use Rattle.rq_solver.proofs.pi_solver.first_phase.clear_hdpc.add_pivot.Goals.{then-byte-ne0+in_ok-add_multiple, else-byte-ne0}
 
@@ -18,7 +18,7 @@ loop-row-init c =
       few = omega arith;
       changed = changes_same p.rows p.order p.places c.args.places.now.first (length hdpc_rows.table.rows) hdpc_rows.table.width before before (with_zeros column 0 before) c.args.recorded.now c.args.recorded.now
           (λ i q l n. sym (same_behind column 0 before i (at p.order q) (omega arith)))
-          (changes_none p.rows p.order p.places c.args.places.now.first (length hdpc_rows.table.rows) hdpc_rows.table.width before c.args.recorded.now);
+          (changes_no_octets p.rows p.order p.places c.args.places.now.first (length hdpc_rows.table.rows) hdpc_rows.table.width before c.args.recorded.now);
     }
 
 pub add_multiple-requires-clause-two : goal.add_multiple-requires-clause-two
@@ -52,7 +52,7 @@ loop-row-preserved c =
           let read : w.row_of.result ≡ at p.rows place = w.row_of.ensures in
           rw w.recorded-is (record {
             few = (let more = w.in_ok-add_multiple.ensures.counted in let so_far = v.few in omega (arith, more, so_far));
-            changed = changes_more p.rows p.order p.places first count width before (with_zeros here row before) (with_zeros here (row + 1) before) old cur w.add_multiple.new.self beside v.changed
+            changed = changes_more_octets p.rows p.order p.places first count width before (with_zeros here row before) (with_zeros here (row + 1) before) old cur w.add_multiple.new.self beside v.changed
                 (changes_pivot p.rows p.order p.places first count width before cur w.add_multiple.new.self still row place c.get-scalar.result in_rows c.requires.place small scalar_is (rw read at w.in_ok-add_multiple.ensures.added));
           })
       | else-byte-ne0 w ↦

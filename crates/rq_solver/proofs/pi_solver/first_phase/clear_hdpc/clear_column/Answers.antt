@@ -4,7 +4,7 @@ use Rattle.rq_algebra.specs.Systems.{at}
 use Rattle.rq_parts.specs.DenseOctetMatrix.{OctetTable}
 use Rattle.rq_elimination.specs.HdpcRows.{octet_in}
 use Rattle.rq_solver.specs.HdpcOctets.{octets_from, ChangesOctets}
-use Rattle.rq_solver.proofs.HdpcClearing.{octets_still, beside_still, changes_combined, changes_more, column_skipped}
+use Rattle.rq_solver.proofs.HdpcClearing.{octets_still, beside_still, changes_combined, changes_more_octets, column_skipped}
 use Rattle.rq_solver.proofs.pi_solver.first_phase.clear_hdpc.clear_column.Goals as goal
 use Rattle.rq_solver.proofs.pi_solver.first_phase.clear_hdpc.clear_column.Goals.{After-place_of-place}
 
@@ -45,7 +45,7 @@ returns-in_ok-add_pivot-clause-changed c =
     let pivot : ChangesOctets p.rows p.order first count (octets_from column (octet_in now)) (octets_from (column + 1) (octet_in now)) cur new =
     subst (λ (k : ℕ). ChangesOctets p.rows p.order first count (octets_from k (octet_in now)) (octets_from (k + 1) (octet_in now)) cur new) back
     (subst (λ (n : ℕ). ChangesOctets p.rows p.order first n (octets_from (at p.order c.place_of-place.result) (octet_in now)) (octets_from (at p.order c.place_of-place.result + 1) (octet_in now)) cur new) (ap (λ (t : OctetTable). length t.rows) c.add_first_row.ensures.table) c.in_ok-add_pivot.ensures.changed) in
-    changes_more p.rows p.order p.places first count hdpc_rows.table.width (octets_from column (octet_in hdpc_rows)) (octets_from column (octet_in now)) (octets_from (column + 1) (octet_in now)) c.args.recorded.now cur new c.requires.pivots (combined before) pivot
+    changes_more_octets p.rows p.order p.places first count hdpc_rows.table.width (octets_from column (octet_in hdpc_rows)) (octets_from column (octet_in now)) (octets_from (column + 1) (octet_in now)) c.args.recorded.now cur new c.requires.pivots (combined before) pivot
 
 pub returns-else-place-pivots-clause-changed : goal.returns-else-place-pivots-clause-changed
 returns-else-place-pivots-clause-changed c =

@@ -3,12 +3,12 @@ use Rattle.std.proofs.Common.{◌≡◌, ◌≢◌, ℕ, ◌+◌, ◌-◌, ◌<�
 use Rattle.std.proofs.lemmas.Bool.{cases_lt}
 use Rattle.rq_algebra.specs.Systems.{at}
 use Rattle.rq_solver.proofs.CountLaws.{hdpc_sum, met_none, met_skipped, met_more}
-use Rattle.rq_peeling.proofs.PlaceCounts.{few_places}
+use Rattle.rq_peeling.proofs.Counting.{few_places}
 use Rattle.rq_parts.specs.DenseOctetMatrix.{OctetTable, entry_of}
 use Rattle.rq_solver.specs.HdpcOctets.{HasPivotsBeside, ChangesOctets, CombinesOctets, octets_from}
 use Rattle.rq_elimination.specs.HdpcRows.{octet_in}
 use Rattle.rq_solver.proofs.OctetColumns.{from_column}
-use Rattle.rq_solver.proofs.HdpcClearing.{octets_still, beside_still, in_width, changes_none, changes_same, changes_combined, changes_more, clears_octets, clears_none}
+use Rattle.rq_solver.proofs.HdpcClearing.{octets_still, beside_still, in_width, changes_no_octets, changes_same, changes_combined, changes_more_octets, clears_octets, clears_no_octets}
 use Rattle.rq_solver.proofs.pi_solver.first_phase.clear_hdpc.clear_octets.Goals as goal
 use Rattle.rq_solver.proofs.pi_solver.first_phase.clear_hdpc.clear_octets.Goals.{then-height-eq0-via-then-height-eq0, then-height-eq0-via-else-height-eq0+then-are_zeros_at_pivots}
 
@@ -21,7 +21,7 @@ returns-then-height-eq0-clause-cleared c =
       | then-height-eq0-via-then-height-eq0 w ↦ λ p l i n. absurd (let empty = w.if-height-eq0.true in omega (arith, empty, c.height.ensures, n))
       | then-height-eq0-via-else-height-eq0+then-are_zeros_at_pivots w ↦ let zeros = rw w.if-are_zeros_at_pivots.true at w.are_zeros_at_pivots.ensures in λ p l i n. zeros refl p l i n
     ] in
-    clears_none rows order c.args.peeling.now.places c.args.first_hdpc (length hdpc.rows) hdpc.width (entry_of hdpc) c.args.recorded.now none
+    clears_no_octets rows order c.args.peeling.now.places c.args.first_hdpc (length hdpc.rows) hdpc.width (entry_of hdpc) c.args.recorded.now none
 
 pub loop-column-init : goal.loop-column-init
 loop-column-init c =
@@ -29,7 +29,7 @@ loop-column-init c =
     record {
       table = refl;
       lanes = c.as_mut_slice-column_octets.ensures.len ∙ c.in_ok-octets.ensures.len ∙ c.lanes.ensures;
-      changed = changes_none c.args.peeling.now.rows c.args.peeling.now.order c.args.peeling.now.places c.args.first_hdpc (length hdpc.rows) hdpc.width (octets_from 0 (octet_in c.in_ok-hdpc_rows.hdpc_rows)) c.sum_rows.new.recorded;
+      changed = changes_no_octets c.args.peeling.now.rows c.args.peeling.now.order c.args.peeling.now.places c.args.first_hdpc (length hdpc.rows) hdpc.width (octets_from 0 (octet_in c.in_ok-hdpc_rows.hdpc_rows)) c.sum_rows.new.recorded;
       few = (0, met_none (length c.args.peeling.now.rows) (at c.args.peeling.now.places), (omega arith));
     }
 
@@ -91,7 +91,7 @@ loop-column-preserved c =
             let so_far = v.few.2 in
             (v.few.0, met_skipped (length p.rows) (at p.places) column v.few.0 v.few.1, omega (arith, more, so_far, height))
       ];
-      changed = changes_more p.rows p.order p.places first count width (octets_from 0 (octet_in start)) (octets_from column (octet_in was)) (octets_from (column + 1) (octet_in now)) cur mid new beside v.changed turn;
+      changed = changes_more_octets p.rows p.order p.places first count width (octets_from 0 (octet_in start)) (octets_from column (octet_in was)) (octets_from (column + 1) (octet_in now)) cur mid new beside v.changed turn;
     }
 
 pub returns-clause-cleared : goal.returns-clause-cleared
@@ -116,7 +116,7 @@ returns-clause-cleared c =
     changes_same p.rows p.order p.places first count width (entry_of hdpc) (entry_of sums) (octets_from 0 (octet_in start)) old cur
     (λ i q l n. sym (from_column 0 (octet_in start) i (at p.order q) (omega arith) ∙ c.in_ok-hdpc_rows.ensures.octets i (at p.order q) (rw heights l) (rw widths (in_width p.rows p.order p.places first count width old beside q n))))
     (changes_combined p.rows p.order p.places first count width (entry_of hdpc) (entry_of sums) old cur beside summed) in
-    let changed = changes_more p.rows p.order p.places first count width (entry_of hdpc) (octets_from 0 (octet_in start)) (octets_from c.loop-column.column (octet_in end)) old cur new beside begun c.loop-column.invariant.changed in
+    let changed = changes_more_octets p.rows p.order p.places first count width (entry_of hdpc) (octets_from 0 (octet_in start)) (octets_from c.loop-column.column (octet_in end)) old cur new beside begun c.loop-column.invariant.changed in
     clears_octets p.rows p.order p.places first count width (entry_of hdpc) (octet_in end) old new c.loop-column.column beside changed
     (rw last c.end_of_pivots-column-end.ensures.last)
 

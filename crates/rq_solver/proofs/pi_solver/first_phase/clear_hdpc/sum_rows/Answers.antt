@@ -49,12 +49,3 @@ loop-row-preserved c =
           (combines_sum c.args.first_hdpc (length start.rows) start.width (entry_of was) (entry_of now) c.loop-row.recorded c.add_multiple.new.self (rw (v.height, v.width) at v.are_octets.elements) 0 c.args.first_hdpc c.one-one.result (omega (arith, in_start)) (omega arith) row (c.args.first_hdpc + row) in_start refl
           in_height c.in_ok-add_multiple.ensures.added);
     }
-
-pub returns-clause-sum : goal.returns-clause-sum
-returns-clause-sum c =
-    let all : c.loop-row.row ≡ length c.args.rows.now.rows = omega (arith, c.loop-row.auto.row-end) in
-    let v = c.loop-row.invariant in
-    record { sum = rw (← all) v.sum; others = v.others }
-
-pub returns-clause-few : goal.returns-clause-few
-returns-clause-few c = let so_far = c.loop-row.invariant.few in omega (arith, so_far, c.loop-row.auto.row-end)

@@ -4,11 +4,11 @@ use Rattle.std.specs.Prelude.{bit_and}
 use Rattle.std.specs.Int.{bit_at, trailing_zeros}
 use Rattle.rq_parts.specs.DenseOctetMatrix.{entry_of}
 use Rattle.rq_parts.proofs.LowestOnes.{clears_lowest}
-use Rattle.rq_solver.proofs.ReducedWords.{lowest_inside, reduced_same, takes_all, takes_few, takes_lowest, takes_none}
+use Rattle.rq_solver.proofs.ReducedWords.{lowest_inside, reduced_same, takes_all, takes_few, takes_lowest, takes_no_ones}
 use Rattle.rq_solver.proofs.pi_solver.fourth_phase.clear_inactive.take_word.Goals as goal
 
 pub loop-rest-init : goal.loop-rest-init
-loop-rest-init c = takes_none c.args.inactive_rows.now c.args.row (length c.args.inactive_rows.now) c.in-Some.bits c.args.recorded.now c.requires.few
+loop-rest-init c = takes_no_ones c.args.inactive_rows.now c.args.row (length c.args.inactive_rows.now) c.in-Some.bits c.args.recorded.now c.requires.few
 
 pub bounds-inactive_rows-f : goal.bounds-inactive_rows-f
 bounds-inactive_rows-f c =

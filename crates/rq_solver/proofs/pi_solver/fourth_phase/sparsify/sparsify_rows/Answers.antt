@@ -5,7 +5,7 @@ use Rattle.std.proofs.lemmas.List.{get_or-set_same, get_or-set_other, get_or_rea
 use Rattle.rq_algebra.specs.Systems.{at}
 use Rattle.rq_elimination.specs.RecordedRows.{Performs}
 use Rattle.rq_solver.proofs.CountLaws.{one_turn_more}
-use Rattle.rq_solver.proofs.FinishedPivots.{takes_none, back_skipped, back_taken}
+use Rattle.rq_solver.proofs.FinishedPivots.{sparsifies_none, back_skipped, back_taken}
 use Rattle.rq_solver.proofs.TakenAgain.{sums_between, taken_between, taken_performed}
 use Rattle.rq_solver.proofs.pi_solver.fourth_phase.sparsify.sparsify_rows.Goals as goal
 use Rattle.rq_solver.proofs.pi_solver.fourth_phase.sparsify.sparsify_rows.Goals.{then-saves+in_ok-redo_additions, else-saves}
@@ -14,7 +14,7 @@ pub loop-done-init : goal.loop-done-init
 loop-done-init c =
     let all : length c.args.peeling.now.rows - 0 ≡ length c.args.peeling.now.rows = omega arith in
     record {
-      taken = rw all (takes_none c.args.additions.now.ones c.args.peeling.now.rows c.args.peeling.now.order c.args.peeling.now.places _ c.requires.peeled.bits c.requires.peeled.peeled c.args.sparse.now c.args.recorded.now);
+      taken = rw all (sparsifies_none c.args.additions.now.ones c.args.peeling.now.rows c.args.peeling.now.order c.args.peeling.now.places _ c.requires.peeled.bits c.requires.peeled.peeled c.args.sparse.now c.args.recorded.now);
       short = λ p late l e. absurd (omega arith);
       few = omega arith;
     }
@@ -85,16 +85,3 @@ loop-done-preserved c =
         few = one_turn_more c.args.limit _ _ _ done v.few (omega arith);
       })
     ]
-
-pub returns-clause-taken : goal.returns-clause-taken
-returns-clause-taken c =
-    let none : length c.args.peeling.now.rows - c.loop-done.done ≡ 0 = omega (arith, c.loop-done.auto.done-end, c.loop-done.auto.sparse, c.requires.long, c.loop-done-test.false) in
-    rw none at c.loop-done.invariant.taken
-
-pub returns-clause-short : goal.returns-clause-short
-returns-clause-short c = λ p l e. c.loop-done.invariant.short p (omega (arith, c.loop-done.auto.done-end, c.loop-done.auto.sparse, c.requires.long, c.loop-done-test.false)) (omega (arith, l, c.loop-done.auto.sparse, c.requires.long)) e
-
-pub returns-clause-few : goal.returns-clause-few
-returns-clause-few c =
-    let all : c.loop-done.done ≡ length c.args.peeling.now.rows = omega (arith, c.loop-done.auto.done-end, c.loop-done.auto.sparse, c.requires.long, c.loop-done-test.false) in
-    rw all at c.loop-done.invariant.few
