@@ -1,6 +1,6 @@
 -- The object's bytes in its blocks, one block after another, are the object.
 use Rattle.std.proofs.Common.{◌≡◌, ℕ, zero, suc, ◌+◌, ◌-◌, ◌*◌, ◌<◌, ◌≤◌, List, [], ◌∷◌, ◌++◌, All, length, get_or, take, drop, map, min, Bool, Option, Some, None, refl, sym, ap, ◌∙◌, subst, arith, inl, inr, append-nil, length-append, length-drop}
-use Rattle.std.specs.Prelude.{option_map, vec_items, IsSome, IfSome}
+use Rattle.std.specs.Prelude.{option_map, vec_items, IfSome}
 use Rattle.std.specs.List.{range_with_len}
 use Rattle.std.specs.Option.{ForSome}
 use Rattle.std.specs.declared.vec.Vec.{Vec}
@@ -20,11 +20,12 @@ use Rattle.rq_standard.proofs.PlainCut.{length-block_bytes}
 use Rattle.raptorq.specs.declared.decoder.object.Decoder.{Decoder}
 use Rattle.raptorq.specs.declared.decoder.object.ObjectBlock.{ObjectBlock}
 use Rattle.raptorq.specs.BlockBytes.{bytes_of_block, object_part, answered_part, PartsMakeObject, IsPartAnswer, AnswersPart}
-use Rattle.raptorq.specs.Decoder.{answer_of, state_of}
+use Rattle.raptorq.specs.Decoder.{answer_of, state_of, HoldsBlock}
 use Rattle.raptorq.specs.SourceBlockDecoder.{received_of}
 use Rattle.raptorq.proofs.EncodedBlocks.{bytes_of_block-byte}
 use Rattle.raptorq.proofs.Numbered.{length-numbered, number_at}
-use Rattle.raptorq.proofs.ObjectBlocks.{state, block_number, IsCut, answer_here}
+use Rattle.raptorq.proofs.OptionValues.{is_some-mapped}
+use Rattle.raptorq.proofs.ObjectBlocks.{state, block_number, IsCut}
 
 -- each answer is as long as its block
 abbrev pub AreLong : State → Type 0
@@ -73,10 +74,6 @@ module _ (s : State) (long : AreLong s) where
 
 -- ---- after a list of an object's packets
 
-seen : (f : List ℕ → List ℕ) (o : Option (List ℕ)) → IsSome o → IsSome (option_map f o)
-seen f None some = absurd (cc some)
-seen f (Some xs) some = refl
-
 -- without the zeros a block is the object's bytes in it
 part_is : (c : Configuration) (object : List ℕ) (b : ℕ) → length object ≡ c.transfer_length → object_part c b (block_bytes c object b) ≡ bytes_of_block c object b
 part_is c object b long =
@@ -103,7 +100,7 @@ answers_part s b r is table object packets late st below =
     subst (IsPartAnswer table c object packets b (late b)) (sym is) (record {
       part = answered_is c object packets b (late b) h a st.run.long stands;
       only = λ some. (answered table object packets s (late b) b h a shape stands (some_of (object_part c b) a some)).1;
-      each = λ now determined. seen (object_part c b) a (has_answer table object packets s b h a shape (subst (λ l. BlockStandsFor l (block_bytes c object b) b packets h a) now stands) determined);
+      each = λ now determined. is_some-mapped (object_part c b) a ∙ has_answer table object packets s b h a shape (subst (λ l. BlockStandsFor l (block_bytes c object b) b packets h a) now stands) determined;
     })
 
 -- ---- of blocks in a list
@@ -138,15 +135,12 @@ pub no_part : (c : Configuration) (items : List ObjectBlock) (n : ℕ) → map b
 no_part c items n numbered past =
     ap (option_map (object_part c n)) (sym (get_or_past (map answer_of items) n None (omega (arith, past, length-map items answer_of, length-numbered block_number c.source_blocks items numbered))))
 
-module _ (c : Configuration) (items : List ObjectBlock) (n : ℕ) (x : ObjectBlock) (below : n < length items) (is : x ≡ get_or items n x) where
-  part_here : (a : Option (List ℕ)) → answer_of x ≡ a → option_map (object_part c n) a ≡ answered_part (state c items) n
-  part_here a so = ap (option_map (object_part c n)) (sym so ∙ sym (answer_here items n x below is))
-
-  pub part_unanswered : answer_of x ≡ None → None ≡ answered_part (state c items) n
-  part_unanswered so = part_here None so
+module _ {s : State} {n : ℕ} {x : ObjectBlock} (holds : HoldsBlock s n x) where
+  pub part_here : (a : Option (List ℕ)) → answer_of x ≡ a → option_map (object_part s.configuration n) a ≡ answered_part s n
+  part_here a so = ap (option_map (object_part s.configuration n)) (sym so ∙ sym holds.answer)
 
   -- what is lent of its bytes
-  pub part_lent : (block lent : List ℕ) (rest size : ℕ) → answer_of x ≡ Some block → lent ≡ block → rest ≡ c.transfer_length - symbols_before c n * c.symbol_size → size ≡ min rest (length block)
-      → Some (take size lent) ≡ answered_part (state c items) n
+  pub part_lent : (block lent : List ℕ) (rest size : ℕ) → answer_of x ≡ Some block → lent ≡ block → rest ≡ s.configuration.transfer_length - symbols_before s.configuration n * s.configuration.symbol_size → size ≡ min rest (length block)
+      → Some (take size lent) ≡ answered_part s n
   part_lent block lent rest size so same left long =
       ap (λ xs. Some (take size xs)) same ∙ ap (λ m. Some (take m block)) long ∙ ap (λ xs. Some xs) (take_min rest block) ∙ ap (λ m. Some (take m block)) left ∙ part_here (Some block) so

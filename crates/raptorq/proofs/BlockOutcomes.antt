@@ -2,18 +2,19 @@
 use Rattle.std.proofs.Common.{◌≡◌, ℕ, zero, suc, ◌<◌, ◌≤◌, List, [], get_or, Option, None, Some, length, replicate, sym, ap, ◌+◌, ◌-◌, ◌∙◌, subst, arith, inl, inr}
 use Rattle.std.specs.Prelude.{IfSome, Vec}
 use Rattle.std.specs.Global.{Global}
+use Rattle.std.specs.Option.{MatchOption}
 use Rattle.std.proofs.lemmas.Bool.{cases_lt}
 use Rattle.std.proofs.lemmas.List.{length-map, length-replicate}
 use Rattle.std.proofs.lemmas.Option.{same_Some}
 use Rattle.rq_algebra.specs.Arrangements.{RowsStandIn}
 use Rattle.rq_algebra.specs.Operations.{Operation, Store, run, unordered, found_by, IsUnread, FindsColumn}
 use Rattle.rq_algebra.specs.Symbols.{symbols, IsSymbol, IsSymbolColumn, AreSymbols, SolvesSymbols, symbol_at}
-use Rattle.rq_algebra.specs.Systems.{HasHomogeneousColumn, IsHomogeneousColumn, rows_of}
+use Rattle.rq_algebra.specs.Systems.{IsHomogeneousColumn, rows_of}
 use Rattle.rq_algebra.proofs.Found.{finds_determined, finds_symbols}
 use Rattle.rq_algebra.proofs.Solutions.{determined_stays, homogeneous_not_determined}
 use Rattle.rq_algebra.proofs.Stacks.{stacked_above, stacked_below}
 use Rattle.rq_algebra.proofs.SymbolColumns.{run_keeps_symbols}
-use Rattle.rq_bytes.specs.SymbolSlab.{Slab, HasPlace, after_all, slab_of, store_of, symbol_in, symbols_in, IsZeroUnread}
+use Rattle.rq_bytes.specs.SymbolSlab.{Slab, HasPlace, after_all, slab_of, symbol_in, symbols_in, IsZeroUnread}
 use Rattle.rq_operations.specs.RecordedOperations.{operations_of}
 use Rattle.rq_null_vector.proofs.FreeColumns.{shows_same}
 use Rattle.rq_parts.specs.DenseOctetMatrix.{OctetTable, entry_of}
@@ -25,21 +26,15 @@ use Rattle.rq_standard.specs.TableRows.{intermediate_symbols}
 use Rattle.rq_standard.specs.Equations.{equations, equation_count, precode_equations, ldpc_coefficient, hdpc_coefficient, symbol_coefficient}
 use Rattle.rq_standard.specs.IdLists.{HasDeterminedRows}
 use Rattle.rq_base.specs.HdpcPart.{IsHdpcPart}
-use Rattle.rq_solver.specs.Solving.{AreEquations, AreEquationsWithoutHdpc, SolvesOrShows, solver_of}
+use Rattle.rq_operations.specs.declared.recorded.RecordedOperations.{RecordedOperations}
+use Rattle.rq_solver.specs.Solving.{AreEquations, AreEquationsWithoutHdpc, FindsOperations, Solver, SolvesOrShows, solver_of, solver_without_hdpc}
 use Rattle.rq_solver.specs.declared.pi_solver.solved.Solved.{Solved}
 use Rattle.rq_solver.specs.declared.pi_solver.solved.Solved.TheVariants.{Operations, Undetermined}
 use Rattle.rq_solver.proofs.EquationLaws.{binary_equations, are_equations, equations_same, finds_equations, homogeneous_of_equations}
 use Rattle.rq_elimination.proofs.RowStepLaws.{SameEntries}
-use Rattle.rq_solver.proofs.SolutionLaws.{order-found, finds_same, homogeneous_same, is_solution}
+use Rattle.rq_solver.proofs.SolutionLaws.{store-unordered, order-found, finds_same, homogeneous_same, is_solution}
 use Rattle.raptorq.specs.BlockSolutions.{FindsFrom, IsBlockSolution, IsHomogeneousFor, NeedsNoHdpc, first_equations}
 use Rattle.raptorq.specs.declared.solving.BlockOperations.{BlockOperations}
-
--- the matrices of a block's ids are equations for zeros as their values
-pub handed_equations : (row : TableRow) (ids : List ℕ) (bits : BitTable) (hdpc : OctetTable) (size precode_rows : ℕ) (symbol : List ℕ) (handed : Slab) → IsBinaryPart row ids bits → IsHdpcPart row hdpc
-    → precode_rows ≡ row.ldpc_symbols + row.hdpc_symbols → handed ≡ slab_of size (replicate (precode_rows + length ids) symbol) → intermediate_symbols row ≤ equation_count row ids → AreEquations row bits hdpc handed
-handed_equations row ids bits hdpc size precode_rows symbol handed part octet_part all zeros enough =
-    let count : length handed.values ≡ equation_count row ids = ap (λ (s : Slab). length s.values) zeros ∙ length-replicate (precode_rows + length ids) symbol ∙ ap (λ n. n + length ids) all in
-    are_equations row ids bits hdpc handed part octet_part.shape.tall octet_part.shape.wide count (ap (λ (s : Slab). s.order) zeros) enough
 
 has_count : (values : List (List ℕ)) (size : ℕ) (order : Option (List ℕ)) (n : ℕ) → HasPlace (record { values = values; symbol_size = size; order = order }) n → suc n ≤ length (symbols_in (record { values = values; symbol_size = size; order = order }))
 has_count values size None n here = here
@@ -55,27 +50,43 @@ abbrev pub SolvesAll : TableRow → List ℕ → Solved → Type 0
 SolvesAll row ids (Operations found) = FindsColumn octets (equation_count row ids) (intermediate_symbols row) (equations row ids) (operations_of found)
 SolvesAll row ids (Undetermined column) = (HasDeterminedRows row ids → ⊥) × IfSome column (IsHomogeneousFor row ids)
 
-module _ (row : TableRow) (ids : List ℕ) (bits : BitTable) (hdpc : OctetTable) (handed : Slab) (part : IsBinaryPart row ids bits) (octet_part : IsHdpcPart row hdpc) (are : AreEquations row bits hdpc handed) where
+-- a zero for each equation
+zero_count : (size rows all n : ℕ) (symbol : List ℕ) (handed : Slab) → rows ≡ all → handed ≡ slab_of size (replicate (rows + n) symbol) → length handed.values ≡ all + n
+zero_count size rows all n symbol handed is zeros = ap (λ (s : Slab). length s.values) zeros ∙ length-replicate (rows + n) symbol ∙ ap (λ m. m + n) is
+
+-- the matrices of a block's ids, with zeros as the values
+module _ (row : TableRow) (ids : List ℕ) (bits : BitTable) (hdpc : OctetTable) (size precode_rows : ℕ) (symbol : List ℕ) (handed : Slab) (part : IsBinaryPart row ids bits) (octet_part : IsHdpcPart row hdpc)
+    (all : precode_rows ≡ row.ldpc_symbols + row.hdpc_symbols) (zeros : handed ≡ slab_of size (replicate (precode_rows + length ids) symbol)) (enough : intermediate_symbols row ≤ equation_count row ids) where
+  -- are equations
+  pub handed_equations : AreEquations row bits hdpc handed
+  handed_equations = are_equations row ids bits hdpc handed part octet_part.shape.tall octet_part.shape.wide (zero_count size precode_rows _ (length ids) symbol handed all zeros) (ap (λ (s : Slab). s.order) zeros) enough
+
   shown_outcome : (column : Option (Vec ℕ Global)) → IfSome column (λ shown. IsHomogeneousColumn octets (length handed.values) (intermediate_symbols row) (with_octet_rows row.ldpc_symbols row.hdpc_symbols bits.bit (entry_of hdpc)) shown.items) → IfSome column (IsHomogeneousFor row ids)
   shown_outcome None shown = tt
-  shown_outcome (Some column) shown = shows_same (equation_count row ids) (intermediate_symbols row) _ (equations row ids) (equations_same row ids bits hdpc part octet_part.rows) (Some column) (rw (sym are.binary.height ∙ part.height) at shown)
+  shown_outcome (Some column) shown = shows_same (equation_count row ids) (intermediate_symbols row) _ (equations row ids) (equations_same row ids bits hdpc part octet_part.rows) (Some column) (rw (sym handed_equations.binary.height ∙ part.height) at shown)
 
-  -- what a solver finds solves the block's equations; where there is nothing, the ids don't determine the block
-  pub found_outcome : (solved : Solved) → SolvesOrShows (solver_of row bits hdpc handed) solved → SolvesAll row ids solved
-  found_outcome (Operations found) finds = finds_equations row ids bits hdpc part octet_part.rows handed are (operations_of found) finds
+  found_outcome : (solved : Solved) → SolvesOrShows (solver_of row bits hdpc handed) solved → SolvesAll row ids solved
+  found_outcome (Operations found) finds = finds_equations row ids bits hdpc part octet_part.rows handed handed_equations (operations_of found) finds
   found_outcome (Undetermined column) found = (
-    λ d. homogeneous_not_determined octets (equation_count row ids) (intermediate_symbols row) (equations row ids) (homogeneous_of_equations row ids bits hdpc part octet_part.rows handed are found.0) d,
+    λ d. homogeneous_not_determined octets (equation_count row ids) (intermediate_symbols row) (equations row ids) (homogeneous_of_equations row ids bits hdpc part octet_part.rows handed handed_equations found.0) d,
     shown_outcome column found.1,
   )
 
+  -- what a solver finds solves the block's equations; where there is nothing, the ids don't determine the block
+  pub solver_outcome : (s : Solver) (x solved : Solved) → s ≡ solver_of row bits hdpc handed → x ≡ solved → SolvesOrShows s x → SolvesAll row ids solved
+  solver_outcome s x solved stands is found = found_outcome solved (subst (SolvesOrShows (solver_of row bits hdpc handed)) is (subst (λ t. SolvesOrShows t x) stands found))
+
 -- ---- without HDPC equations
 
--- what a solver asks of the matrix without them
-pub equations_without_hdpc : (row : TableRow) (ids : List ℕ) (bits : BitTable) (handed : Slab) → IsBinaryPartWithoutHdpc row ids bits → length handed.values ≡ row.ldpc_symbols + length ids → handed.order ≡ None → intermediate_symbols row ≤ row.ldpc_symbols + length ids
-    → AreEquationsWithoutHdpc row bits handed
-equations_without_hdpc row ids bits handed part count order enough = binary_equations row bits handed (row.ldpc_symbols + length ids) part.width part.boundary part.indexed part.height count order enough
+module _ (row : TableRow) (ids : List ℕ) (bits : BitTable) (size precode_rows : ℕ) (symbol : List ℕ) (handed : Slab) (part : IsBinaryPartWithoutHdpc row ids bits)
+    (all : precode_rows ≡ row.ldpc_symbols) (zeros : handed ≡ slab_of size (replicate (precode_rows + length ids) symbol)) where
+  zeros_are : length handed.values ≡ row.ldpc_symbols + length ids
+  zeros_are = zero_count size precode_rows row.ldpc_symbols (length ids) symbol handed all zeros
 
-module _ (row : TableRow) (ids : List ℕ) (bits : BitTable) (part : IsBinaryPartWithoutHdpc row ids bits) where
+  -- what a solver asks of the matrix without them
+  pub equations_without_hdpc : intermediate_symbols row ≤ row.ldpc_symbols + length ids → AreEquationsWithoutHdpc row bits handed
+  equations_without_hdpc enough = binary_equations row bits handed (row.ldpc_symbols + length ids) part.width part.boundary part.indexed part.height zeros_are (ap (λ (s : Slab). s.order) zeros) enough
+
   symbol_rows : ℕ → ℕ → ℕ
   symbol_rows = rows_of (symbol_coefficient row) ids
 
@@ -92,17 +103,18 @@ module _ (row : TableRow) (ids : List ℕ) (bits : BitTable) (part : IsBinaryPar
         rw (sym is) (part.symbols j k (omega arith) m ∙ ap (λ (r : ℕ → ℕ). r k) (sym (stacked_below row.ldpc_symbols (precode_equations row) symbol_rows j)))
   ]
 
-  -- what finds the column of the rows handed in finds that of the first equations
-  pub finds_without_hdpc : (height : ℕ) (operations : List Operation) → height ≡ row.ldpc_symbols + length ids → FindsColumn octets height (intermediate_symbols row) bits.bit operations
-      → FindsColumn octets (row.ldpc_symbols + length ids) (intermediate_symbols row) (first_equations row row.ldpc_symbols ids) operations
-  finds_without_hdpc height operations count finds =
-      finds_same octets (row.ldpc_symbols + length ids) (intermediate_symbols row) bits.bit (first_equations row row.ldpc_symbols ids) same_without operations (rw count at finds)
-
-  -- where the rows handed in don't determine the block, it needs those of HDPC
-  pub needs_hdpc : (height : ℕ) → height ≡ row.ldpc_symbols + length ids → HasHomogeneousColumn octets height (intermediate_symbols row) bits.bit → NeedsNoHdpc row ids → ⊥
-  needs_hdpc height count null needs =
+  -- what finds the column of the rows handed in finds that of the first equations; where these don't determine the block, it needs those of HDPC
+  outcome_without : (answer : Option RecordedOperations) → FindsOperations (solver_without_hdpc row bits handed) answer
+      → MatchOption answer (NeedsNoHdpc row ids → ⊥) (λ found. FindsColumn octets (row.ldpc_symbols + length ids) (intermediate_symbols row) (first_equations row row.ldpc_symbols ids) (operations_of found))
+  outcome_without (Some found) finds =
+      finds_same octets (row.ldpc_symbols + length ids) (intermediate_symbols row) bits.bit (first_equations row row.ldpc_symbols ids) same_without (operations_of found) (rw zeros_are at finds)
+  outcome_without None null = λ needs.
       homogeneous_not_determined octets (row.ldpc_symbols + length ids) (intermediate_symbols row) (first_equations row row.ldpc_symbols ids)
-      (homogeneous_same octets (row.ldpc_symbols + length ids) (intermediate_symbols row) bits.bit (first_equations row row.ldpc_symbols ids) same_without (rw count at null)) needs.determined
+      (homogeneous_same octets (row.ldpc_symbols + length ids) (intermediate_symbols row) bits.bit (first_equations row row.ldpc_symbols ids) same_without (rw zeros_are at null)) needs.determined
+
+  pub solver_outcome_without : (s : Solver) (x answer : Option RecordedOperations) → s ≡ solver_without_hdpc row bits handed → x ≡ answer → FindsOperations s x
+      → MatchOption answer (NeedsNoHdpc row ids → ⊥) (λ found. FindsColumn octets (row.ldpc_symbols + length ids) (intermediate_symbols row) (first_equations row row.ldpc_symbols ids) (operations_of found))
+  solver_outcome_without s x answer stands is found = outcome_without answer (subst (FindsOperations (solver_without_hdpc row bits handed)) is (subst (λ t. FindsOperations t x) stands found))
 
 -- ---- of any of the equations
 
@@ -141,9 +153,7 @@ module _ (height width : ℕ) (rows : ℕ → ℕ → ℕ) (operations : List Op
 
   left_is : slab.values ≡ left
   unfolding left
-  left_is =
-      let start : store_of handed ≡ unordered handed.values = ap (λ (o : Option (List ℕ)). let t : Store (List ℕ) = record { values = handed.values; order = o } in t) order in
-      ap (λ (g : Slab). g.values) made ∙ ap (λ (t : Store (List ℕ)). (run (symbols octets) operations t).values) start
+  left_is = ap (λ (g : Slab). g.values) made ∙ ap (λ (t : Store (List ℕ)). (run (symbols octets) operations t).values) (store-unordered handed order)
 
   order_is : slab.order ≡ Some finds.order
   order_is = ap (λ (g : Slab). g.order) made ∙ order-found height width rows operations finds handed

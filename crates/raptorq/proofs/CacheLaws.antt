@@ -3,16 +3,16 @@ use Rattle.std.proofs.Common.{◌≡◌, ℕ, suc, ◌+◌, ◌-◌, ◌<◌, �
 use Rattle.std.specs.Prelude.{is_some, slice_get, position, nat_lt, ◌==◌, Ok}
 use Rattle.std.specs.List.{list_any, position_or_len}
 use Rattle.std.proofs.lemmas.Bool.{cases_lt, lt-ltb, le-ltb, eqb-true}
-use Rattle.std.proofs.lemmas.List.{length-append, length-map, get_or-append_right}
+use Rattle.std.proofs.lemmas.List.{length-append, length-map, get_or-append_right, get_or_default}
 use Rattle.std.proofs.lemmas.List.Quantifiers.{position-Some}
 use Rattle.std.proofs.lemmas.Option.{slice_get_read, slice_get_within, get_or_from_slice_get}
 use Rattle.std.proofs.Math.ListN.{get_or-map}
 use Rattle.rq_standard.specs.declared.row.TableRow.{TableRow}
-use Rattle.rq_standard.specs.TableRows.{greatest_size, row_of}
 use Rattle.raptorq.specs.declared.encoder.plan.SourceBlockEncodingPlan.{SourceBlockEncodingPlan}
 use Rattle.raptorq.specs.SourceBlockEncodingPlan.{plan_refusal}
+use Rattle.raptorq.proofs.Numbered.{some_at}
+use Rattle.raptorq.proofs.PlanLaws.{plan_taken}
 use Rattle.raptorq.specs.SourceBlockEncodingPlanCache.{PlanCache, holds_count, counts_after_use, IsPlanOver}
-use Rattle.raptorq.proofs.Encodes.{at_any}
 
 -- ---- whether a count is held
 
@@ -56,34 +56,27 @@ counts_in plans = map (λ p. p.source_symbol_count) plans
 
 pub count_at : (plans : List SourceBlockEncodingPlan) (i : ℕ) (p : SourceBlockEncodingPlan) → i < length plans → p ≡ get_or plans i p → get_or (counts_in plans) i 0 ≡ p.source_symbol_count
 count_at plans i p below is =
-    at_any (counts_in plans) i 0 p.source_symbol_count (omega (arith, length-map plans (λ (q : SourceBlockEncodingPlan). q.source_symbol_count)))
+    get_or_default (counts_in plans) i 0 p.source_symbol_count (omega (arith, length-map plans (λ (q : SourceBlockEncodingPlan). q.source_symbol_count)))
     ∙ get_or-map (λ (q : SourceBlockEncodingPlan). q.source_symbol_count) plans i p ∙ ap (λ (q : SourceBlockEncodingPlan). q.source_symbol_count) (sym is)
 
--- the plan at a place where a count was found
-pub plan_found : (table : List TableRow) (plans : List SourceBlockEncodingPlan) (counts : List ℕ) (count place : ℕ) (p : SourceBlockEncodingPlan) → counts_in plans ≡ counts → All (IsPlanOver table) plans → position (λ n. n == count) counts ≡ Some place
-    → p ≡ get_or plans place p → (p.source_symbol_count ≡ count) × (p.row.numbers ≡ row_of table count)
-plan_found table plans counts count place p shown over found is =
-    let at : slice_get (counts_in plans) place ≡ Some count = ap (λ xs. slice_get xs place) shown ∙ count_found counts count place found in
-    let below = slice_get_within (counts_in plans) place count at in
-    let here : place < length plans = omega (arith, length-map plans (λ (q : SourceBlockEncodingPlan). q.source_symbol_count)) in
-    let same : p.source_symbol_count ≡ count = sym (count_at plans place p here is) ∙ get_or_from_slice_get (counts_in plans) place count 0 at in
-    (same, (subst (IsPlanOver table) (sym is) (over place p here)).row ∙ ap (row_of table) same)
+-- where a count was found
+module _ (table : List TableRow) (plans : List SourceBlockEncodingPlan) (counts : List ℕ) (count place : ℕ) (shown : counts_in plans ≡ counts) (over : All (IsPlanOver table) plans) (found : position (λ n. n == count) counts ≡ Some place) where
+  stands_there : slice_get (counts_in plans) place ≡ Some count
+  stands_there = ap (λ xs. slice_get xs place) shown ∙ count_found counts count place found
 
--- a count that is held is one that the table has a row for
-pub held_known : (table : List TableRow) (plans : List SourceBlockEncodingPlan) (counts : List ℕ) (count place : ℕ) → counts_in plans ≡ counts → All (IsPlanOver table) plans → position (λ n. n == count) counts ≡ Some place → plan_refusal table count ≡ Ok tt
-held_known table plans counts count place shown over found =
-    let at : slice_get (counts_in plans) place ≡ Some count = ap (λ xs. slice_get xs place) shown ∙ count_found counts count place found in
-    let below = slice_get_within (counts_in plans) place count at in
-    let here : place < length plans = omega (arith, length-map plans (λ (q : SourceBlockEncodingPlan). q.source_symbol_count)) in
-    go plans over here at
-  where
-    go : (ps : List SourceBlockEncodingPlan) → All (IsPlanOver table) ps → place < length ps → slice_get (counts_in ps) place ≡ Some count → plan_refusal table count ≡ Ok tt
-    go [] over here at = absurd (omega arith)
-    go (p ∷ ps) over here at =
-        let held = get_or (p ∷ ps) place p in
-        let same : held.source_symbol_count ≡ count = sym (count_at (p ∷ ps) place held here (at_any (p ∷ ps) place p held here)) ∙ get_or_from_slice_get (counts_in (p ∷ ps)) place count 0 at in
-        let known : count ≤ greatest_size table = omega (arith, same, (over place p here).known) in
-        rw (le-ltb (greatest_size table) count known) refl
+  place_below : place < length plans
+  place_below = omega (arith, slice_get_within (counts_in plans) place count stands_there, length-map plans (λ (q : SourceBlockEncodingPlan). q.source_symbol_count))
+
+  -- the plan there is of that count, over the table
+  pub plan_found : (p : SourceBlockEncodingPlan) → p ≡ get_or plans place p → (p.source_symbol_count ≡ count) × IsPlanOver table p
+  plan_found p is = (sym (count_at plans place p place_below is) ∙ get_or_from_slice_get (counts_in plans) place count 0 stands_there, subst (IsPlanOver table) (sym is) (over place p place_below))
+
+  -- which has a row for it
+  pub held_known : plan_refusal table count ≡ Ok tt
+  held_known =
+      let there = some_at plans place place_below in
+      let plan = plan_found there.0 there.1 in
+      plan_taken table count (omega (arith, plan.0, plan.1.known))
 
 -- ---- a use of a count
 

@@ -2,7 +2,7 @@
 use Rattle.std.proofs.Common.{◌≡◌, ℕ, ◌+◌, ◌*◌, ◌^◌, ◌<◌, ◌≤◌, min, List, [], ◌∷◌, ◌++◌, length, take, drop, get_or, map, Ok, Err, refl, sym, ap, ◌∙◌, subst, arith, ◌⊎◌, inl, inr, eq-eqb}
 use Rattle.std.specs.List.{range_with_len, flat_map, AllByRecursion}
 use Rattle.std.proofs.lemmas.Bool.{cases_lt, lt-ltb}
-use Rattle.std.proofs.lemmas.List.{ext_get_or, get_or-map, get_or-take, get_or-drop, get_or_past, length-take, take_min, drop_min, drop-drop, map-append}
+use Rattle.std.proofs.lemmas.List.{ext_get_or, get_or-map, get_or-take, get_or-drop, get_or_past, length-take, take_min, drop_min, drop-drop, map-append, get_or_default}
 use Rattle.std.proofs.lemmas.List.FromFn.{length-map-range_with_len, get_or-map-range_with_len}
 use Rattle.rq_bytes.specs.declared.error.Error.{Error}
 use Rattle.rq_bytes.specs.declared.error.Error.TheVariants.{EsiTooLarge, OutOfMemory, Singular}
@@ -21,7 +21,6 @@ use Rattle.raptorq.specs.SourceBlockEncodingPlan.{RefusesPlan}
 use Rattle.raptorq.specs.BlockBytes.{bytes_of_block}
 use Rattle.raptorq.specs.BlockCutting.{from_block}
 use Rattle.raptorq.specs.Encoder.{Encoded, IsEncoderOf, IsPacketIn, no_block, packets_refusal}
-use Rattle.raptorq.proofs.Encodes.{at_any}
 use Rattle.raptorq.proofs.Numbered.{mapped_through}
 use Rattle.raptorq.proofs.PlanLaws.{plan_refused}
 use Rattle.raptorq.proofs.NumberRanges.{flat_map-push}
@@ -173,7 +172,7 @@ block_at c items i x below is = ap block_encoded_of is ∙ sym (get_or-map block
 -- a list by its places
 pub by_places : {X : Type 0} (xs : List X) (d : ℕ → X) (n : ℕ) → length xs ≡ n → xs ≡ map (λ i. get_or xs i (d i)) (range_with_len 0 n)
 by_places xs d n long = ext_get_or (d 0) xs (map (λ i. get_or xs i (d i)) (range_with_len 0 n)) (long ∙ sym (length-map-range_with_len (λ i. get_or xs i (d i)) 0 n))
-    (λ i below. at_any xs i (d 0) (d i) below ∙ sym (get_or-map-range_with_len (λ j. get_or xs j (d j)) 0 n i i (d 0) (omega (arith, long)) (omega arith)))
+    (λ i below. get_or_default xs i (d 0) (d i) below ∙ sym (get_or-map-range_with_len (λ j. get_or xs j (d j)) 0 n i i (d 0) (omega (arith, long)) (omega arith)))
 
 -- where packets have ids, there are enough
 pub enough_ids : (c : Configuration) (repair : ℕ) → packets_refusal c repair ≡ Ok tt → block_symbols c 0 + repair ≤ 2 ^ 24

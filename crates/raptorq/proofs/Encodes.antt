@@ -1,11 +1,13 @@
 -- An object of one block and its source packets.
-use Rattle.std.proofs.Common.{◌≡◌, ℕ, zero, suc, ◌+◌, ◌-◌, ◌<◌, ◌≤◌, ◌^◌, List, [], ◌∷◌, ◌++◌, All, length, get_or, map, Result, Ok, refl, sym, ap, ◌∙◌, subst, arith, inl, inr}
+use Rattle.std.proofs.Common.{◌≡◌, ℕ, ◌+◌, ◌-◌, ◌<◌, ◌≤◌, ◌^◌, List, [], ◌∷◌, ◌++◌, All, length, get_or, map, Option, Result, Ok, refl, sym, ap, ◌∙◌, subst, arith, inl, inr}
 use Rattle.std.specs.List.{range_with_len}
 use Rattle.std.proofs.lemmas.Bool.{cases_lt, lt-ltb}
-use Rattle.std.proofs.lemmas.List.{get_or_past, length-replicate, map-append}
+use Rattle.std.proofs.lemmas.List.{get_or_past, length-replicate, map-append, get_or_default}
 use Rattle.std.proofs.lemmas.List.Elements.{All-get_or}
 use Rattle.std.proofs.lemmas.List.FromFn.{map-range_with_len_more}
+use Rattle.rq_algebra.specs.Operations.{meant_at}
 use Rattle.rq_bytes.specs.declared.error.Error.{Error}
+use Rattle.rq_bytes.specs.SymbolSlab.{symbol_in}
 use Rattle.rq_standard.specs.Packet.{SymbolId, Packet}
 use Rattle.rq_base.specs.RefusedInput.{new_id}
 use Rattle.rq_standard.specs.Configuration.{Configuration}
@@ -15,6 +17,7 @@ use Rattle.rq_standard.specs.Equations.{zero_symbol, tuple_sum}
 use Rattle.rq_standard.proofs.Columns.{source_sum}
 use Rattle.rq_standard.proofs.StandingSteps.{push-all}
 use Rattle.raptorq.specs.Encoder.{id_in}
+use Rattle.raptorq.specs.declared.encoder.block.SourceBlockEncoder.{SourceBlockEncoder}
 use Rattle.raptorq.specs.SourceBlockEncoder.{BlockEncoded, IsBlockPacket, AreBlockPackets}
 use Rattle.raptorq.proofs.ReceivedEquations.{internal_below}
 use Rattle.rq_standard.specs.Headline.{IsOnlyIntermediateColumn, IsEncodingSymbol}
@@ -39,11 +42,6 @@ new_id-in c n e i below small number esi =
 
 -- ---- packets of a block
 
-pub at_any : {X : Type 0} → (xs : List X) (i : ℕ) (d e : X) → i < length xs → get_or xs i d ≡ get_or xs i e
-at_any [] i d e below = absurd (omega arith)
-at_any (x ∷ xs) zero d e below = refl
-at_any (x ∷ xs) (suc i) d e below = at_any xs i d e (omega arith)
-
 all_sized : (size : ℕ) (source : List (List ℕ)) → All (λ s. length s ≡ size) source → (e : ℕ) → length (get_or source e (zero_symbol size)) ≡ size
 all_sized size source sized e = elim (cases_lt e (length source)) [
   | inl below ↦ All-get_or (λ s. length s ≡ size) source e (zero_symbol size) below sized
@@ -51,13 +49,19 @@ all_sized size source sized e = elim (cases_lt e (length source)) [
 ]
 
 -- a source symbol is an encoding symbol
-pub source_encodes : (row : TableRow) (size esi : ℕ) (source : List (List ℕ)) (column : ℕ → List ℕ) (payload : List ℕ) → IsChecked row → IsOnlyIntermediateColumn row size source column → length source ≤ row.extended_symbols → All (λ s. length s ≡ size) source → esi < length source
+source_encodes : (row : TableRow) (size esi : ℕ) (source : List (List ℕ)) (column : ℕ → List ℕ) (payload : List ℕ) → IsChecked row → IsOnlyIntermediateColumn row size source column → length source ≤ row.extended_symbols → All (λ s. length s ≡ size) source → esi < length source
     → payload ≡ get_or source esi payload → IsEncodingSymbol row size source esi payload
 source_encodes row size esi source column payload checked is few sized below read = record {
   column = column;
   is_only = is;
-  is_sum = read ∙ at_any source esi payload (zero_symbol size) below ∙ sym (source_sum row size esi source column checked is.is (all_sized size source sized) (omega (arith, few))) ∙ ap (tuple_sum row column) (sym (internal_below row (length source) esi below));
+  is_sum = read ∙ get_or_default source esi payload (zero_symbol size) below ∙ sym (source_sum row size esi source column checked is.is (all_sized size source sized) (omega (arith, few))) ∙ ap (tuple_sum row column) (sym (internal_below row (length source) esi below));
 }
+
+-- what an encoder reads at a source symbol's place is that id's symbol
+pub encodes_source : (b : SourceBlockEncoder) (esi : ℕ) (payload : List ℕ) → esi < length b.source.values → payload ≡ symbol_in b.source esi → IsEncodingSymbol b.row.numbers b.intermediate.symbol_size b.source.values esi payload
+encodes_source b esi payload below read =
+    source_encodes b.row.numbers b.intermediate.symbol_size esi b.source.values (symbol_in b.intermediate) payload b.row.checked b.solved b.few b.sized below
+    (read ∙ ap (λ (o : Option (List ℕ)). get_or b.source.values (meant_at o esi) []) b.unordered ∙ get_or_default b.source.values esi [] payload below)
 
 -- no packet yet
 pub block_packets-none : (b : BlockEncoded) (start : ℕ) (packets : List Packet) → packets ≡ [] → AreBlockPackets b start (start - start) packets

@@ -50,27 +50,28 @@ module _ (table : List TableRow) (c : Configuration) (earlier : List Packet) (p 
   abbrev b : ℕ
   b = p.id.block
 
-  answered_here : (before : Option (List ℕ)) → AddsToBlock old before p new after → (before ≡ None → old ≡ received_after table c b earlier) → (IsSome before ↔ CanAnswer (received_after table c b earlier)) → IsSome after ↔ CanAnswer (received_after table c b (earlier ++ p ∷ []))
-  answered_here None add holds answers =
-      let is : with_received old p.id.esi p.payload ≡ received_after table c b (earlier ++ p ∷ []) = ap (λ h. with_received h p.id.esi p.payload) (holds refl) ∙ received_later table c earlier p in
-      subst (λ h. IsSome after ↔ CanAnswer h) is (add.answers.some, add.answers.none)
-  answered_here (Some bytes) add holds answers = (λ some. can_more table c b earlier p (answers.0 refl), λ can. ap is_some add.1)
-
-  -- which doesn't contradict it
-  fits_here : (before : Option (List ℕ)) → AddsToBlock old before p new after → (before ≡ None → old ≡ received_after table c b earlier) → (IsSome before ↔ CanAnswer (received_after table c b earlier)) → ContradictsReceived table c earlier p → ⊥
-  fits_here None add holds answers x =
-      let is : with_received old p.id.esi p.payload ≡ received_after table c b (earlier ++ p ∷ []) = ap (λ h. with_received h p.id.esi p.payload) (holds refl) ∙ received_later table c earlier p in
-      contradictory-no_answer (with_received old p.id.esi p.payload) after add.answers (subst IsContradictory (sym is) x.contradictory)
-  fits_here (Some bytes) add holds answers x = x.unanswered (answers.0 refl)
+  -- it is answered then exactly where it can be, and isn't contradicted
+  added_here : (before : Option (List ℕ)) → AddsToBlock old before p new after → (before ≡ None → old ≡ received_after table c b earlier) → (IsSome before ↔ CanAnswer (received_after table c b earlier))
+      → (IsSome after ↔ CanAnswer (received_after table c b (earlier ++ p ∷ []))) × (ContradictsReceived table c earlier p → ⊥)
+  added_here None add holds answers =
+      let is : with_received old p.id.esi p.payload ≡ received_after table c b (earlier ++ p ∷ []) = ap (λ h. with_received h p.id.esi p.payload) (holds refl) ∙ received_later table c earlier p in (
+        subst (λ h. IsSome after ↔ CanAnswer h) is (add.answers.some, add.answers.none),
+        λ x. contradictory-no_answer (with_received old p.id.esi p.payload) after add.answers (subst IsContradictory (sym is) x.contradictory),
+      )
+  added_here (Some bytes) add holds answers = ((λ some. can_more table c b earlier p (answers.0 refl), λ can. ap is_some add.1), λ x. x.unanswered (answers.0 refl))
 
 -- ---- all blocks
 
 module _ (table : List TableRow) (earlier : List Packet) (p : Packet) (old new : State) (follows : FollowsRun table earlier old) where
+  -- what it makes of its block
+  added : p.id.block < old.configuration.source_blocks → Adds old p new → (IsSome (new.answer p.id.block) ↔ CanAnswer (received_after table old.configuration p.id.block (earlier ++ p ∷ []))) × (ContradictsReceived table old.configuration earlier p → ⊥)
+  added within add =
+      let b = p.id.block in
+      added_here table old.configuration earlier p (old.received b) (new.received b) (new.answer b) (old.answer b) add.here (follows.received b within) (follows.answers b within)
+
   -- a packet that is taken doesn't contradict what was received,
   pub taken_fits : p.id.block < old.configuration.source_blocks → Adds old p new → ContradictsReceived table old.configuration earlier p → ⊥
-  taken_fits within add =
-      let b = p.id.block in
-      fits_here table old.configuration earlier p (old.received b) (new.received b) (new.answer b) (old.answer b) add.here (follows.received b within) (follows.answers b within)
+  taken_fits within add = (added within add).1
 
   -- and is followed
   pub follows_more : p.id.block < old.configuration.source_blocks → Adds old p new → FollowsRun table (earlier ++ p ∷ []) new
@@ -78,13 +79,10 @@ module _ (table : List TableRow) (earlier : List Packet) (p : Packet) (old new :
     received = received_more old p new within add table earlier follows.received;
     answers = λ b below.
         let c = old.configuration in
-        let here = p.id.block in
         let in_old : b < c.source_blocks = subst (λ (k : Configuration). b < k.source_blocks) add.elsewhere.configuration below in
         subst (λ (k : Configuration). IsSome (new.answer b) ↔ CanAnswer (received_after table k b (earlier ++ p ∷ []))) (sym add.elsewhere.configuration)
-        (elim (cases_eq here b) [
-          | inl e ↦
-              subst (λ n. IsSome (new.answer n) ↔ CanAnswer (received_after table c n (earlier ++ p ∷ []))) e
-              (answered_here table c earlier p (old.received here) (new.received here) (new.answer here) (old.answer here) add.here (follows.received here within) (follows.answers here within))
+        (elim (cases_eq p.id.block b) [
+          | inl e ↦ subst (λ n. IsSome (new.answer n) ↔ CanAnswer (received_after table c n (earlier ++ p ∷ []))) e (added within add).0
           | inr ne ↦
               let q = add.elsewhere.other b in_old (λ e. ne (sym e)) in
               subst (λ h. IsSome (new.answer b) ↔ CanAnswer h) (received_meanwhile table c b earlier p ne)

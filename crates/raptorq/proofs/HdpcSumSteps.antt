@@ -10,13 +10,13 @@ use Rattle.std.specs.Iterator.{DrainsIf}
 use Rattle.std.specs.List.{range_with_len}
 use Rattle.rq_algebra.specs.Field.{Field}
 use Rattle.rq_algebra.specs.FromLaws.{field_mul_is}
-use Rattle.rq_algebra.specs.Operations.{AddAssign, Fma, IsAllowed, IsPlace, step, meant_at}
+use Rattle.rq_algebra.specs.Operations.{AddAssign, Fma, IsAllowed, step, meant_at}
 use Rattle.rq_algebra.specs.Symbols.{IsSymbolColumn, add_symbols, slice_at}
 use Rattle.rq_algebra.specs.Systems.{sum_below, dot, at}
 use Rattle.rq_algebra.proofs.Placewise.{at-zeros, add_symbols_at, scale_at}
 use Rattle.rq_algebra.proofs.Sums.{add_mul, add_zero, zero_mul, dot-suc, dot_one, dot_split}
 use Rattle.rq_algebra.proofs.SymbolSums.{symbol_elements}
-use Rattle.rq_bytes.specs.SymbolSlab.{Slab, Allows, HasPlace, after, slab_of, symbol_in}
+use Rattle.rq_bytes.specs.SymbolSlab.{Slab, Allows, after, slab_of, symbol_in}
 use Rattle.rq_bytes.specs.Refusals.{IsAnswer}
 use Rattle.rq_bytes.specs.declared.error.Error.{Error}
 use Rattle.rq_standard.specs.declared.row.TableRow.{TableRow}
@@ -52,6 +52,13 @@ pub record WritesSymbol (old new : Slab) (place : ℕ) (symbol : List ℕ) : Typ
   pub here : symbol_in new place ≡ symbol
   pub elsewhere : (k : ℕ) → k ≢ place → symbol_in new k ≡ symbol_in old k
 
+-- that one and another one are added, or a multiple of another one
+abbrev pub AddsSymbol : Slab → Slab → ℕ → ℕ → Type 0
+AddsSymbol old new dest src = WritesSymbol old new dest (add_symbols octets (symbol_in old dest) (symbol_in old src))
+
+abbrev pub AddsMultiple : Slab → Slab → ℕ → ℕ → ℕ → Type 0
+AddsMultiple old new dest src scalar = WritesSymbol old new dest (add_symbols octets (symbol_in old dest) (map (octets.mul scalar) (symbol_in old src)))
+
 pub written : (old new : Slab) (place : ℕ) (symbol : List ℕ) → old.order ≡ None → place < length old.values → new ≡ record old { values = set old.values (meant_at old.order place) symbol } → WritesSymbol old new place symbol
 written old new place symbol plain below is =
     let values : new.values ≡ set old.values place symbol = ap (λ (s : Slab). s.values) is ∙ ap (λ o. set old.values (meant_at o place) symbol) plain in
@@ -65,22 +72,19 @@ written old new place symbol plain below is =
       elsewhere = λ k other. reads k ∙ get_or-set_other old.values place k symbol [] other ∙ ap (λ o. get_or old.values (meant_at o k) []) (sym plain);
     }
 
-pub added : (old new : Slab) (dest src : ℕ) → old.order ≡ None → dest < length old.values → new ≡ after (AddAssign dest src) old → WritesSymbol old new dest (add_symbols octets (symbol_in old dest) (symbol_in old src))
+pub added : (old new : Slab) (dest src : ℕ) → old.order ≡ None → dest < length old.values → new ≡ after (AddAssign dest src) old → AddsSymbol old new dest src
 unfolding step
 added old new dest src plain below is = written old new dest _ plain below is
 
-pub multiple_added : (old new : Slab) (dest src scalar : ℕ) → old.order ≡ None → dest < length old.values → new ≡ after (Fma dest src scalar) old → WritesSymbol old new dest (add_symbols octets (symbol_in old dest) (map (octets.mul scalar) (symbol_in old src)))
+pub multiple_added : (old new : Slab) (dest src scalar : ℕ) → old.order ≡ None → dest < length old.values → new ≡ after (Fma dest src scalar) old → AddsMultiple old new dest src scalar
 unfolding step
 multiple_added old new dest src scalar plain below is = written old new dest _ plain below is
-
-pub place_of_plain : (slab : Slab) (k : ℕ) → slab.order ≡ None → k < length slab.values → HasPlace slab k
-place_of_plain slab k plain below = subst (λ o. IsPlace (length slab.values) o k) (sym plain) below
 
 pub allowed : (slab : Slab) (dest src : ℕ) → slab.order ≡ None → dest < length slab.values → src < length slab.values → src ≢ dest → Allows slab (AddAssign dest src)
 allowed slab dest src plain dest_below src_below apart = subst (λ o. IsAllowed (length slab.values) o (AddAssign dest src)) (sym plain) (dest_below, src_below, apart)
 
 -- an octet of a symbol to which a multiple of another one was added, both as they were in a first slab
-pub multiple_at : (first old new : Slab) (dest src scalar : ℕ) → WritesSymbol old new dest (add_symbols octets (symbol_in old dest) (map (octets.mul scalar) (symbol_in old src))) → symbol_in old dest ≡ symbol_in first dest → symbol_in old src ≡ symbol_in first src
+pub multiple_at : (first old new : Slab) (dest src scalar : ℕ) → AddsMultiple old new dest src scalar → symbol_in old dest ≡ symbol_in first dest → symbol_in old src ≡ symbol_in first src
     → (p : ℕ) → at (symbol_in new dest) p ≡ octets.add (at (symbol_in first dest) p) (octets.mul scalar (at (symbol_in first src) p))
 multiple_at first old new dest src scalar write same_dest same_src p =
     ap (λ xs. at xs p) write.here ∙ add_symbols_at octets p (symbol_in old dest) (map (octets.mul scalar) (symbol_in old src))
@@ -155,7 +159,7 @@ module _ (row : TableRow) (column : ℕ → List ℕ) (size : ℕ) where
       (reading row.hdpc_symbols 0 (omega arith) (ap (λ k. get_or places k 0) (sym few) ∙ get_or-append_seam numbers 0 [] 0)) below
 
   module _ (n first second : ℕ) (more : n + 1 < before_hdpc row) (first_below : first < row.hdpc_symbols) (second_below : second < row.hdpc_symbols) (apart : first ≢ second) (ones : (i : ℕ) → mt row i n ≡ one_if (eqb i first || eqb i second)) (s0 s1 s2 s3 : Slab) (new : List ℕ)
-      (so : AreHdpcSums row column size n s0) (w1 : WritesSymbol s0 s1 first (add_symbols octets (symbol_in s0 first) (symbol_in s0 row.hdpc_symbols))) (w2 : WritesSymbol s1 s2 second (add_symbols octets (symbol_in s1 second) (symbol_in s1 row.hdpc_symbols))) (w3 : WritesSymbol s2 s3 row.hdpc_symbols new)
+      (so : AreHdpcSums row column size n s0) (w1 : AddsSymbol s0 s1 first row.hdpc_symbols) (w2 : AddsSymbol s1 s2 second row.hdpc_symbols) (w3 : WritesSymbol s2 s3 row.hdpc_symbols new)
       (doubled : (p : ℕ) → at new p ≡ octets.add (octets.mul 2 (at (symbol_in s2 row.hdpc_symbols) p)) (at (column (n + 1)) p)) (below : (p : ℕ) → at (column (n + 1)) p < octets.size) where
     abbrev height : ℕ
     height = row.hdpc_symbols
@@ -210,11 +214,12 @@ module _ (row : TableRow) (column : ℕ → List ℕ) (size : ℕ) where
           let coefficient = hdpc_coefficient row h in
           let x = at (column (n + 1)) p in
           let total = octets.add (at (column (before_hdpc row + h)) p) (dot octets (n + 1) coefficient (slice_at p column)) in
-          let here : octets.add (octets.add (at (symbol_in s0 h) p) (octets.mul (mt row h n) (last_at p))) (octets.mul (coefficient (n + 1)) (octets.add (octets.mul 2 (last_at p)) x)) ≡ octets.add total (octets.mul (coefficient (n + 1)) x) =
+          let taken = octets.add (at (symbol_in s0 h) p) (octets.mul (mt row h n) (last_at p)) in
+          let here : octets.add taken (octets.mul (coefficient (n + 1)) (octets.add (octets.mul 2 (last_at p)) x)) ≡ octets.add total (octets.mul (coefficient (n + 1)) x) =
           horner octets 2 (coefficient n) (coefficient (n + 1)) (mt row h n) (at (symbol_in s0 h) p) (last_at p) x total (parts h) (so.sum h p lt) in
           let next : suc (n + 1) ≡ n + 1 + 1 = omega arith in
           ap (λ y. octets.add y (octets.mul (coefficient (n + 1)) (at (symbol_in s3 height) p))) (takes h p lt)
-          ∙ ap (λ y. octets.add (octets.add (at (symbol_in s0 h) p) (octets.mul (mt row h n) (last_at p))) (octets.mul (coefficient (n + 1)) y)) (becomes p)
+          ∙ ap (λ y. octets.add taken (octets.mul (coefficient (n + 1)) y)) (becomes p)
           ∙ here ∙ octets.add_assoc (at (column (before_hdpc row + h)) p) (dot octets (n + 1) coefficient (slice_at p column)) (octets.mul (coefficient (n + 1)) x)
           ∙ ap (octets.add (at (column (before_hdpc row + h)) p)) (sym (dot-suc octets (n + 1) coefficient (slice_at p column)) ∙ ap (λ m. dot octets m coefficient (slice_at p column)) next);
     }

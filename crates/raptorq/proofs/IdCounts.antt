@@ -10,7 +10,7 @@ use Rattle.std.proofs.lemmas.List.Elements.{All-head, All-tail}
 use Rattle.std.proofs.lemmas.Map.Keys.{IsDistinct-from_sorted, IsDistinct-head, IsDistinct-tail}
 use Rattle.std.proofs.lemmas.Map.Made.{Contains-tail}
 use Rattle.raptorq.specs.Missing.{Payloads, has_payload, missing_count}
-use Rattle.raptorq.proofs.Listing.{each_entry}
+use Rattle.raptorq.proofs.Listing.{entries_below}
 use Rattle.raptorq.proofs.MissingCounts.{missing_count-all, missing_count-one}
 use Rattle.raptorq.proofs.Payloads.{is_eq-nat_cmp}
 
@@ -91,4 +91,4 @@ entries_counted n (e ∷ es) distinct few =
 
 -- of n ids, all but those of the entries are missing
 pub ids_counted : (m : Payloads) (n : ℕ) → IsOrdered nat_cmp m → ((e : ℕ) → has_payload m e ≡ true → e < n) → missing_count n (has_payload m) + length m.entries ≡ n
-ids_counted m n ordered few = entries_counted n m.entries (IsDistinct-from_sorted nat_cmp (keys_of m.entries) ordered) (each_entry m (λ e. e.0 < n) ordered (λ e v came. few e (ap is_some came)) m.entries [] refl)
+ids_counted m n ordered few = entries_counted n m.entries (IsDistinct-from_sorted nat_cmp (keys_of m.entries) ordered) (entries_below m n ordered few)

@@ -1,5 +1,5 @@
 -- A block, sub-block by sub-block.
-use Rattle.std.proofs.Common.{◌≡◌, ℕ, zero, suc, ◌+◌, ◌-◌, ◌*◌, ◌/◌, ◌<◌, ◌≤◌, min, max, List, [], ◌++◌, length, get_or, take, drop, map, replicate, inl, inr, cond, sym, ap, ◌∙◌, subst, arith, append_assoc, length-append}
+use Rattle.std.proofs.Common.{◌≡◌, ℕ, zero, suc, ◌+◌, ◌-◌, ◌*◌, ◌/◌, ◌<◌, ◌≤◌, min, max, List, [], ◌++◌, length, get_or, take, drop, map, replicate, inl, inr, cond, refl, sym, ap, ◌∙◌, subst, arith, append_assoc, length-append}
 use Rattle.std.specs.Prelude.{Result, Ok, Err, OnOk, is_ok}
 use Rattle.std.specs.Int.{div_ceil}
 use Rattle.std.specs.List.{flat_map, range_with_len}
@@ -108,17 +108,18 @@ pub record Reaches (c : Configuration) (o : ℕ) : Type 0 where
 pub reaches_none : (c : Configuration) → IsAligned c → Reaches c 0
 reaches_none c aligned = record { within = omega arith; starts = λ some. omega (arith, (at_byte c 0 aligned some).low) }
 
-pub part_from : (c : Configuration) (o : ℕ) → IsAligned c → Reaches c o → o < c.symbol_size → IsSubBlock c o (sub_block_size c o)
-part_from c o aligned at below = subst (λ s. IsSubBlock c s (sub_block_size c o)) (at.starts below) (at_byte c o aligned below).part
+pub part_from : (c : Configuration) (o z : ℕ) → IsAligned c → Reaches c o → o < c.symbol_size → z ≡ sub_block_size c o → IsSubBlock c o z
+part_from c o z aligned at below is =
+    subst (IsSubBlock c o) (sym is) (subst (λ s. IsSubBlock c s (sub_block_size c o)) (at.starts below) (at_byte c o aligned below).part)
 
 pub reaches_more : (c : Configuration) (o z : ℕ) → IsAligned c → Reaches c o → o < c.symbol_size → z ≡ sub_block_size c o → Reaches c (o + z)
 reaches_more c o z aligned at below is =
-    subst (λ w. Reaches c (o + w)) (sym is) (record { within = (part_from c o aligned at below).room; starts = λ more. next_start c o aligned below (at.starts below) more })
+    subst (λ w. Reaches c (o + w)) (sym is) (record { within = (part_from c o (sub_block_size c o) aligned at below refl).room; starts = λ more. next_start c o aligned below (at.starts below) more })
 
 -- a sub-block has bytes, and ends within the symbol
 pub width_within : (c : Configuration) (o z size : ℕ) → IsAligned c → Reaches c o → o < size → size ≡ c.symbol_size → z ≡ sub_block_size c o → (0 < z) × (o + z ≤ size)
 width_within c o z size aligned at below same is =
-    let part = part_from c o aligned at (omega arith) in
+    let part = part_from c o z aligned at (omega arith) is in
     (omega (arith, part.positive), omega (arith, part.room))
 
 -- places in a block fit
@@ -129,7 +130,7 @@ place_fits o z k e size room small few below = omega (arith, mul-le o k 65535 42
 pub symbol_more : (c : Configuration) (k e o z place : ℕ) (block xs ys : List ℕ) → IsAligned c → Reaches c o → o < c.symbol_size → z ≡ sub_block_size c o → place ≡ o * k + z * e
     → xs ≡ map (λ t. get_or block (place_in_block c k e t) 0) (range_with_len 0 o) → ys ≡ xs ++ map (λ i. get_or block (place + i) 0) (range_with_len 0 z) → ys ≡ map (λ t. get_or block (place_in_block c k e t) 0) (range_with_len 0 (o + z))
 symbol_more c k e o z place block xs ys aligned at below is so front grown =
-    let part : IsSubBlock c o z = subst (λ w. IsSubBlock c o w) (sym is) (part_from c o aligned at below) in
+    let part = part_from c o z aligned at below is in
     grown ∙ ap (λ l. l ++ map (λ i. get_or block (place + i) 0) (range_with_len 0 z)) front
     ∙ map-range-append (λ t. get_or block (place_in_block c k e t) 0) (λ i. get_or block (place + i) 0) o z
     (λ i lt. let there : place_in_block c k e (o + i) ≡ o * k + z * e + (o + i - o) = place_in c k e o z (o + i) part (omega arith) (omega arith) in
@@ -223,7 +224,7 @@ pub parts_more : (c : Configuration) (k o z size : ℕ) (symbol_bytes shown xs y
     → ys ≡ xs ++ flat_map (λ e. take (e * size + o + z - (e * size + o)) (drop (e * size + o) shown)) (range_with_len 0 k) → HasParts c k symbol_bytes ys (o + z)
 unfolding symbol_part
 parts_more c k o z size symbol_bytes shown xs ys aligned at below is same seen whole h grown =
-    let part : IsSubBlock c o z = subst (λ w. IsSubBlock c o w) (sym is) (part_from c o aligned at below) in
+    let part = part_from c o z aligned at below is in
     subst (λ l. HasParts c k symbol_bytes l (o + z)) (sym (grown ∙ ap (λ p. xs ++ flat_map (symbol_part size o z p) (range_with_len 0 k)) seen ∙ ap (λ s. xs ++ flat_map (symbol_part s o z symbol_bytes) (range_with_len 0 k)) same)) (parts_step c k o z symbol_bytes xs part whole h)
 
 -- all sub-blocks

@@ -2,7 +2,7 @@
 use Rattle.std.proofs.Common.{◌≡◌, ℕ, ◌+◌, ◌-◌, ◌<◌, ◌≤◌, List, [], ◌++◌, length, get_or, replicate, None, refl, sym, ap, ◌∙◌, subst, arith, inl, inr}
 use Rattle.std.specs.List.{range_with_len}
 use Rattle.std.proofs.lemmas.Bool.{cases_lt}
-use Rattle.std.proofs.lemmas.List.{get_or_append_left, get_or-append_right, get_or-replicate, get_or_past, length-append, length-replicate}
+use Rattle.std.proofs.lemmas.List.{get_or_append_left, get_or-append_right, get_or-replicate, get_or_past, length-append, length-replicate, get_or_default}
 use Rattle.std.proofs.lemmas.List.FromFn.{length-range_with_len}
 use Rattle.rq_algebra.specs.Systems.{at}
 use Rattle.rq_algebra.specs.Operations.{Operation, AreAllowed, FindsColumn}
@@ -23,7 +23,6 @@ use Rattle.rq_standard.proofs.KnownIds.{rows_nonsingular}
 use Rattle.raptorq.specs.BlockSolutions.{FindsFrom, first_equations}
 use Rattle.raptorq.specs.declared.solving.BlockOperations.{BlockOperations}
 use Rattle.raptorq.specs.Planned.{source_values, planned_slab, IsPlanOf}
-use Rattle.raptorq.proofs.Encodes.{at_any}
 use Rattle.raptorq.proofs.BlockOutcomes.{places_count}
 use Rattle.rq_standard.specs.Headline.{IsIntermediateColumn, IsNonsingular}
 
@@ -42,7 +41,7 @@ extended_ids_are row ids is = is ∙ ap (range_with_len 0) (let e : row.extended
 -- past the source symbols there are zeros
 padded_at : (size n j : ℕ) (source : List (List ℕ)) → j < length source + n → get_or (source ++ replicate n (zero_symbol size)) j [] ≡ get_or source j (zero_symbol size)
 padded_at size n j source below = elim (cases_lt j (length source)) [
-  | inl lt ↦ get_or_append_left source (replicate n (zero_symbol size)) [] j lt ∙ at_any source j [] (zero_symbol size) lt
+  | inl lt ↦ get_or_append_left source (replicate n (zero_symbol size)) [] j lt ∙ get_or_default source j [] (zero_symbol size) lt
   | inr past ↦ get_or-append_right source (replicate n (zero_symbol size)) (length source) j [] refl past ∙ get_or-replicate n (j - length source) (zero_symbol size) [] (omega arith) ∙ sym (get_or_past source j (zero_symbol size) past)
 ]
 
@@ -75,7 +74,7 @@ module _ (row : TableRow) (size : ℕ) (source : List (List ℕ)) (fits : length
         let e : f + j ≡ i = omega arith in
         let read : get_or source j (zero_symbol size) ≡ equation_values row size source i = sym (stacked_below f (λ _. zero_symbol size) (λ k. get_or source k (zero_symbol size)) j) ∙ ap (equation_values row size source) e in
         subst (IsSymbol octets size) read (elim (cases_lt j (length source)) [
-          | inl here ↦ subst (IsSymbol octets size) (at_any source j [] (zero_symbol size) here) (are.each j here)
+          | inl here ↦ subst (IsSymbol octets size) (get_or_default source j [] (zero_symbol size) here) (are.each j here)
           | inr none ↦ subst (IsSymbol octets size) (sym (get_or_past source j (zero_symbol size) none)) (zeros_are_symbol octets size)
         ])
   ]

@@ -37,20 +37,25 @@ each_entry m P ordered holds [] front whole = All-nil P
 each_entry m P ordered holds (e ∷ es) front whole =
     All-cons P e es (holds e.0 e.1 (next_payload m front es e.0 e.1 ordered whole)) (each_entry m P ordered holds es (front ++ e ∷ []) (append_assoc front (e ∷ []) es ∙ whole))
 
--- there are few, since their ids are small
+-- where the ids are small, those of the entries are
+pub entries_below : (m : Payloads) (n : ℕ) → IsOrdered nat_cmp m → ((e : ℕ) → has_payload m e ≡ true → e < n) → All (λ e. e.0 < n) m.entries
+entries_below m n ordered few = each_entry m (λ e. e.0 < n) ordered (λ e v came. few e (ap is_some came)) m.entries [] refl
+
+-- so there are few
 pub few_entries : (m : Payloads) (n : ℕ) → IsOrdered nat_cmp m → ((e : ℕ) → has_payload m e ≡ true → e < n) → length m.entries ≤ n
 few_entries m n ordered few =
-    let below = each_entry m (λ e. e.0 < n) ordered (λ e v came. few e (ap is_some came)) m.entries [] refl in
-    omega (arith, length-map m.entries (λ e. e.0), length-le_from_below n (keys_of m.entries) ordered (All-map (λ x. x < n) (λ e. e.0) m.entries below))
+    omega (arith, length-map m.entries (λ e. e.0), length-le_from_below n (keys_of m.entries) ordered (All-map (λ x. x < n) (λ e. e.0) m.entries (entries_below m n ordered few)))
 
 -- ---- how many
 
 pub length-known_list : (row : TableRow) (k : ℕ) (done : List (ℕ × Vec ℕ Global)) → length (known_list row k done) ≡ row.extended_symbols - k + length done
 length-known_list row k done = length-append (range_with_len k (row.extended_symbols - k)) (map (λ e. internal_id row k e.0) done) ∙ omega (arith, length-range_with_len k (row.extended_symbols - k), length-map done (λ e. internal_id row k e.0))
 
-pub length-known_values : (row : TableRow) (k precode_rows size : ℕ) (done : List (ℕ × Vec ℕ Global)) → length (known_values row k precode_rows size done) ≡ precode_rows + (row.extended_symbols - k) + length done
+-- a value for each of the first equations and each id
+pub length-known_values : (row : TableRow) (k precode_rows size : ℕ) (done : List (ℕ × Vec ℕ Global)) → length (known_values row k precode_rows size done) ≡ precode_rows + length (known_list row k done)
 length-known_values row k precode_rows size done =
-    length-append (replicate (precode_rows + (row.extended_symbols - k)) (zero_symbol size)) (map (λ e. e.1.items) done) ∙ omega (arith, length-replicate (precode_rows + (row.extended_symbols - k)) (zero_symbol size), length-map done (λ e. e.1.items))
+    let zeros : ℕ = precode_rows + (row.extended_symbols - k) in
+    length-append (replicate zeros (zero_symbol size)) (map (λ e. e.1.items) done) ∙ omega (arith, length-replicate zeros (zero_symbol size), length-map done (λ e. e.1.items), length-known_list row k done)
 
 abbrev slab_made : Slab → Result Slab Error
 slab_made s = Ok s

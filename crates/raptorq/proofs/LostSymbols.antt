@@ -1,11 +1,11 @@
 -- The source symbols of a block that didn't come, one after another.
-use Rattle.std.proofs.Common.{◌≡◌, ℕ, ◌+◌, ◌<◌, Bool, true, false, cond, eqb, List, Option, Some, None, refl, sym, ap, ◌∙◌, inl, inr, vec_items, arith}
-use Rattle.std.specs.Prelude.{is_some, option_map, IsSome, unwrap_or}
+use Rattle.std.proofs.Common.{◌≡◌, ℕ, ◌+◌, ◌<◌, Bool, true, false, cond, eqb, List, Option, Some, None, refl, sym, ap, ◌∙◌, inl, inr, arith}
+use Rattle.std.specs.Prelude.{is_some, unwrap_or}
 use Rattle.std.specs.Option.{ForSome}
-use Rattle.std.specs.declared.vec.Vec.{Vec}
-use Rattle.std.specs.declared.alloc.Global.{Global}
-use Rattle.std.proofs.lemmas.Bool.{cases_lt, eq-eqb, eqb-true}
+use Rattle.std.proofs.lemmas.Bool.{cases_lt, eq-eqb}
 use Rattle.rq_standard.specs.Received.{or_later}
+use Rattle.raptorq.specs.Missing.{AddsUnlessThere}
+use Rattle.raptorq.proofs.Payloads.{all-more}
 
 -- each of these is the sum for its id
 abbrev pub AreSums : (ℕ → List ℕ) → (ℕ → Option (List ℕ)) → Type 0
@@ -14,11 +14,6 @@ AreSums sum f = (k : ℕ) → ForSome (f k) (λ x. x ≡ sum k)
 -- with these besides what was received the first symbols are there
 abbrev pub AreThere : (ℕ → Option (List ℕ)) → (ℕ → Option (List ℕ)) → (ℕ → List ℕ) → ℕ → Type 0
 AreThere received f sum n = (k : ℕ) → k < n → or_later (received k) (f k) ≡ Some (unwrap_or (received k) (sum k))
-
-sum_of : (o : Option (List ℕ)) (b : Bool) (x y s : List ℕ) → ForSome o (λ z. z ≡ s) → (b ≡ true → x ≡ s) → or_later o (cond b (Some x) None) ≡ Some y → y ≡ s
-sum_of (Some z) b x y s all here is = all y is
-sum_of None true x y s all here is = let same : x ≡ y = cc in sym same ∙ here refl
-sum_of None false x y s all here is = absurd (cc is)
 
 still : (r o : Option (List ℕ)) (b : Bool) (x s : List ℕ) → or_later r o ≡ Some (unwrap_or r s) → or_later r (or_later o (cond b (Some x) None)) ≡ Some (unwrap_or r s)
 still (Some y) o b x s h = h
@@ -35,10 +30,6 @@ came : (r o : Option (List ℕ)) (s : List ℕ) → is_some r ≡ true → or_la
 came (Some y) o s h = refl
 came None o s h = absurd (cc h)
 
-pub is_some-items : (o : Option (Vec ℕ Global)) → is_some (option_map vec_items o) ≡ is_some o
-is_some-items (Some v) = refl
-is_some-items None = refl
-
 module _ (received f : ℕ → Option (List ℕ)) (sum : ℕ → List ℕ) (e : ℕ) where
   -- the next one was received
   pub there-came : is_some (received e) ≡ true → AreThere received f sum e → AreThere received f sum (e + 1)
@@ -50,10 +41,10 @@ module _ (received f : ℕ → Option (List ℕ)) (sum : ℕ → List ℕ) (e : 
             came (received k) (f k) (sum k) (ap (λ n. is_some (received n)) (sym here) ∙ has)
       ]
 
-  module _ (g : ℕ → Option (List ℕ)) (x : List ℕ) (all : AreSums sum f) (is : x ≡ sum e) (grown : (k : ℕ) → g k ≡ or_later (f k) (cond (eqb e k) (Some x) None)) where
+  module _ (g : ℕ → Option (List ℕ)) (x : List ℕ) (all : AreSums sum f) (is : x ≡ sum e) (grown : AddsUnlessThere e x f g) where
     -- the next one is put in
     pub sums-more : AreSums sum g
-    sums-more k y here = sum_of (f k) (eqb e k) x y (sum k) (all k) (λ t. is ∙ ap sum (eqb-true e k t)) (sym (grown k) ∙ here)
+    sums-more = all-more (λ k y. y ≡ sum k) f g e x all is grown
 
     pub there-more : AreThere received f sum e → AreThere received g sum (e + 1)
     there-more before k below =
@@ -64,12 +55,3 @@ module _ (received f : ℕ → Option (List ℕ)) (sum : ℕ → List ℕ) (e : 
               let here : e ≡ k = omega arith in
               added (received k) (f k) (eqb e k) x (sum k) (all k) (is ∙ ap sum here) (eq-eqb e k here)
         ]
-
--- a symbol that is there
-pub is_there : (o : Option (List ℕ)) (x : List ℕ) → o ≡ Some x → IsSome o
-is_there (Some y) x is = refl
-is_there None x is = absurd (cc is)
-
-pub there_is : (o : Option (List ℕ)) (x d : List ℕ) → o ≡ Some x → unwrap_or o d ≡ x
-there_is (Some y) x d is = cc
-there_is None x d is = absurd (cc is)

@@ -2,11 +2,11 @@
 use Rattle.std.proofs.Common.{◌≡◌, ◌≢◌, ℕ, zero, suc, ◌+◌, ◌<◌, ◌≤◌, Bool, true, false, cond, eqb, List, Option, Some, None, refl, sym, ap, ◌∙◌, inl, inr, arith}
 use mir.Val.{bool_byte}
 use Rattle.std.specs.Prelude.{is_some, not, ◌&&◌, ltb, ◌-◌}
-use Rattle.std.proofs.lemmas.Bool.{cases_eq, cases_lt, eq-eqb, ne_eqb, lt-ltb, le-ltb}
+use Rattle.std.proofs.lemmas.Bool.{cases_eq, cases_lt, eq-eqb, lt-ltb, le-ltb}
 use Rattle.rq_standard.specs.Received.{or_later}
-use Rattle.rq_standard.proofs.Firsts.{or_later-none}
-use Rattle.raptorq.specs.Missing.{missing_count}
-use Rattle.raptorq.proofs.Payloads.{or_later-again}
+use Rattle.raptorq.specs.Missing.{missing_count, AddsUnlessThere}
+use Rattle.raptorq.proofs.OptionValues.{none_is}
+use Rattle.raptorq.proofs.Payloads.{added_elsewhere, or_later-again}
 
 pub missing_count-same : (n : ℕ) (f g : ℕ → Bool) → ((e : ℕ) → e < n → f e ≡ g e) → missing_count n f ≡ missing_count n g
 unfolding missing_count
@@ -56,20 +56,16 @@ unfolding missing_count
 missing_count-none zero f all = refl
 missing_count-none (suc n) f all = ap (λ m. m + cond (f n) 0 1) (missing_count-none n f (λ e h. all e (omega arith))) ∙ ap (λ b. 0 + cond b 0 1) (all n (omega arith))
 
-pub none_is : (o : Option (List ℕ)) → is_some o ≡ false → o ≡ None
-none_is None h = refl
-none_is (Some x) h = absurd (cc h)
-
 -- another id is as before
-others_stay : (f g : ℕ → Option (List ℕ)) (k : ℕ) (x : List ℕ) → ((e : ℕ) → g e ≡ or_later (f e) (cond (eqb k e) (Some x) None)) → (e : ℕ) → e ≢ k → is_some (f e) ≡ is_some (g e)
-others_stay f g k x grown e ne = sym (ap is_some (grown e ∙ ap (λ b. or_later (f e) (cond b (Some x) None)) (ne_eqb k e (λ h. ne (sym h))) ∙ or_later-none (f e)))
+others_stay : (f g : ℕ → Option (List ℕ)) (k : ℕ) (x : List ℕ) → AddsUnlessThere k x f g → (e : ℕ) → e ≢ k → is_some (f e) ≡ is_some (g e)
+others_stay f g k x grown e ne = sym (ap is_some (added_elsewhere f g k x grown e (λ h. ne (sym h))))
 
 -- a payload that was kept is there
-here_now : (f g : ℕ → Option (List ℕ)) (k : ℕ) (x : List ℕ) → is_some (f k) ≡ false → ((e : ℕ) → g e ≡ or_later (f e) (cond (eqb k e) (Some x) None)) → is_some (g k) ≡ true
+here_now : (f g : ℕ → Option (List ℕ)) (k : ℕ) (x : List ℕ) → is_some (f k) ≡ false → AddsUnlessThere k x f g → is_some (g k) ≡ true
 here_now f g k x was grown = ap is_some (grown k ∙ ap (λ o. or_later o (cond (eqb k k) (Some x) None)) (none_is (f k) was) ∙ ap (λ b. cond b (Some x) None) (eq-eqb k k refl))
 
 -- A payload was handed in: what is missing then.
-pub missing_count-step : (n k : ℕ) (f g : ℕ → Option (List ℕ)) (kept : Bool) (x : List ℕ) → is_some (f k) ≡ not kept → ((e : ℕ) → g e ≡ or_later (f e) (cond (eqb k e) (Some x) None))
+pub missing_count-step : (n k : ℕ) (f g : ℕ → Option (List ℕ)) (kept : Bool) (x : List ℕ) → is_some (f k) ≡ not kept → AddsUnlessThere k x f g
     → missing_count n (λ e. is_some (f e)) ≡ missing_count n (λ e. is_some (g e)) + cond (kept && ltb k n) 1 0
 missing_count-step n k f g false x was grown = missing_count-same n _ _ (λ e h. sym (ap is_some (grown e ∙ sym (or_later-again f k x was e)))) ∙ omega arith
 missing_count-step n k f g true x was grown =

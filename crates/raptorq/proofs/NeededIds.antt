@@ -3,7 +3,6 @@ use Rattle.std.proofs.Common.{◌≡◌, ◌⊎◌, inl, inr, ℕ, ◌+◌, ◌-
 use Rattle.std.specs.BTreeMap.{IsOrdered}
 use Rattle.std.specs.Ordering.{nat_cmp}
 use Rattle.std.specs.Set.{is_member}
-use Rattle.std.proofs.lemmas.Bool.{cases_lt}
 use Rattle.std.proofs.lemmas.Bool.Decides.{Decides-eqb}
 use Rattle.std.proofs.lemmas.Grind.{get_or_default_zero}
 use Rattle.std.proofs.lemmas.List.{get_or-map, length-append, length-map}
@@ -16,14 +15,14 @@ use Rattle.rq_standard.specs.Headline.{known_ids, DetermineBlock}
 use Rattle.rq_standard.specs.IdLists.{IsListOf}
 use Rattle.rq_standard.specs.Received.{HasSourceSymbols}
 use Rattle.rq_standard.specs.ReceivedBlock.{ReceivedBlock, has_received}
-use Rattle.rq_standard.proofs.KnownIds.{block_more, determined_list, determined_more, few_not_determining, known_padding, known_repair, known_source}
+use Rattle.rq_standard.proofs.KnownIds.{block_more, determined_list, determined_more, few_not_determining}
 use Rattle.raptorq.specs.Known.{known_list}
 use Rattle.raptorq.specs.Missing.{Payloads, has_payload}
 use Rattle.raptorq.specs.MissingPackets.{received_count, IsMissing, NeedsMore}
 use Rattle.raptorq.proofs.IdCounts.{ids_counted, missing_count-further, missing_count-more}
 use Rattle.raptorq.proofs.Listing.{length-known_list}
 use Rattle.raptorq.proofs.MissingCounts.{missing_count-none, missing_count-same}
-use Rattle.raptorq.proofs.ReceivedEquations.{internal_above, internal_below, known_listed}
+use Rattle.raptorq.proofs.ReceivedEquations.{known-more, known_listed}
 
 abbrev is_listed : List ℕ → ℕ → Bool
 is_listed = is_member eqb
@@ -62,21 +61,7 @@ module _ (row : TableRow) (k size : ℕ) (m : Payloads) (fits : k ≤ row.extend
 
   -- so the known ids are among these
   is_among : (x : ℕ) → known_ids row k has x ≡ true → Contains all_ids x
-  is_among x known = elim (cases_lt x k) [
-    | inl below ↦ elim (more x (sym (known_source row k x has below) ∙ known)) [
-      | inl was ↦ was_known x (known_source row k x (has_payload m) below ∙ was)
-      | inr added ↦ subst (Contains all_ids) (internal_below row k x below) (is_new x added)
-    ]
-    | inr from ↦ elim (cases_lt x row.extended_symbols) [
-      | inl padding ↦ was_known x (known_padding row k x (has_payload m) from padding)
-      | inr past ↦
-          let e : ℕ = x + k - row.extended_symbols in
-          elim (more e (sym (known_repair row k x has from past) ∙ known)) [
-            | inl was ↦ was_known x (known_repair row k x (has_payload m) from past ∙ was)
-            | inr added ↦ subst (Contains all_ids) (internal_above row k e (omega arith) ∙ omega arith) (is_new e added)
-          ]
-    ]
-  ]
+  is_among x known = elim (known-more row k (has_payload m) has (Contains new) fits more x known) [ inl was ↦ was_known x was | inr added ↦ subst (Contains all_ids) (sym added.2) (is_new added.0 added.1) ]
 
   -- fewer than K' determine nothing
   few_with_new : (row.extended_symbols - k) + length m.entries + length new < row.extended_symbols → DetermineBlock row k has → ⊥

@@ -1,8 +1,9 @@
 -- Lists whose elements a function takes to 0, 1, 2 .., or to what another function makes of these.
-use Rattle.std.proofs.Common.{◌≡◌, ℕ, ◌+◌, ◌<◌, List, [], ◌∷◌, ◌++◌, length, get_or, map, sym, ap, ◌∙◌, arith}
+use Rattle.std.proofs.Common.{◌≡◌, ℕ, ◌+◌, ◌<◌, List, [], ◌∷◌, ◌++◌, length, get_or, map, sym, ap, ◌∙◌, inl, inr, arith}
 use Rattle.std.specs.List.{range_with_len}
 use Rattle.std.proofs.lemmas.List.{length-map, get_or-map, map-id, map_push}
 use Rattle.std.proofs.lemmas.List.FromFn.{length-map-range_with_len, get_or-map-range_with_len, map-range_with_len_more}
+use Rattle.std.proofs.lemmas.Option.{slice_get_cases}
 use Rattle.std.proofs.lemmas.Simd.{map-map}
 
 -- one element more
@@ -30,6 +31,10 @@ module _ {X : Type 0} (number : X → ℕ) (n : ℕ) (xs : List X) (numbered : m
 
   pub number_at : (i : ℕ) (x : X) → i < n → x ≡ get_or xs i x → number x ≡ i
   number_at = mapped_at number (λ i. i) n xs (numbered ∙ sym (map-id (range_with_len 0 n)))
+
+-- there is an element at a place
+pub some_at : {X : Type 0} (xs : List X) (i : ℕ) → i < length xs → (x : X) × (x ≡ get_or xs i x)
+some_at xs i below = elim (slice_get_cases xs i).1 [ inl found ↦ (found.0, sym found.3) | inr past ↦ absurd (omega (arith, past.0)) ]
 
 -- the element that a loop over a list, as it was handed out, is at
 pub record IsTurn {X : Type 0} (xs : List X) (i : ℕ) (x : X) : Type 0 where

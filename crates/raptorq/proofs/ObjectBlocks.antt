@@ -1,14 +1,14 @@
 -- The blocks of an object in a list, in the order of their numbers.
-use Rattle.std.proofs.Common.{◌≡◌, ◌≢◌, ℕ, suc, ◌+◌, ◌<◌, Bool, true, false, List, [], ◌++◌, length, get_or, set, take, drop, map, All, Option, Some, None, Result, Ok, Err, refl, sym, ap, ◌∙◌, subst, arith, eq-eqb, inl, inr, append-nil, length-drop}
-use Rattle.std.specs.Prelude.{is_some, IsSome, option_map, unwrap_or, vec_items}
+use Rattle.std.proofs.Common.{◌≡◌, ◌≢◌, ℕ, suc, ◌+◌, ◌<◌, Bool, true, false, List, [], ◌++◌, length, get_or, set, take, drop, map, All, Option, Some, None, Result, Ok, Err, refl, sym, ap, ◌∙◌, subst, arith, eq-eqb, append-nil, length-drop}
+use Rattle.std.specs.Prelude.{is_some, IsSome, option_map, unwrap_or, ltb, IfSome}
+use denote.Ref.{Bor}
 use Rattle.std.specs.List.{range_with_len}
-use Rattle.std.proofs.lemmas.Bool.{cases_lt}
-use Rattle.std.proofs.lemmas.List.{length-map, get_or-map, get_or_past, get_or-set_same, get_or-set_other, length-set, nil_from_length, take_all}
+use Rattle.std.specs.Option.{option_copied}
+use Rattle.std.proofs.lemmas.List.{length-map, get_or-map, get_or-set_same, get_or-set_other, length-set, map-set, nil_from_length, take_all}
 use Rattle.std.proofs.Math.Seq.{map-set_same}
+use Rattle.std.proofs.lemmas.Bool.{ltb-true, ltb-false}
 use Rattle.std.proofs.lemmas.Simd.{map-map}
 use Rattle.std.proofs.lemmas.List.FromFn.{get_or-map-range_with_len}
-use Rattle.std.specs.declared.vec.Vec.{Vec}
-use Rattle.std.specs.declared.alloc.Global.{Global}
 use Rattle.rq_standard.specs.declared.row.TableRow.{TableRow}
 use Rattle.rq_standard.specs.Packet.{Packet}
 use Rattle.rq_standard.specs.Configuration.{Configuration}
@@ -19,7 +19,7 @@ use Rattle.rq_standard.specs.DecoderState.{State, new_received, new_answer, IsNe
 use Rattle.rq_standard.specs.DecoderSteps.{AddsToBlock, RecordsInBlock, IsSameElsewhere, Adds, RecordsOnly}
 use Rattle.rq_standard.proofs.ObjectAnswers.{joined_some, joined_each, some_of}
 use Rattle.raptorq.specs.SourceBlockDecoder.{received_of}
-use Rattle.raptorq.specs.Decoder.{received_at, answer_at, answer_of}
+use Rattle.raptorq.specs.Decoder.{received_at, answer_at, answer_of, IsBlockAt}
 use Rattle.raptorq.specs.Refused.{block_refusal}
 use Rattle.raptorq.specs.Stopping.{AddsHereOrStops, AddsOrStops}
 use Rattle.raptorq.specs.declared.decoder.packet_stop.PacketStop.{PacketStop}
@@ -45,12 +45,20 @@ pub answer_here : (items : List ObjectBlock) (i : ℕ) (x : ObjectBlock) → i <
 answer_here items i x below is = get_or-map answer_of items i x None below ∙ ap answer_of (sym is)
 
 -- what is said of it is said of the state
-pub said_here : (c : Configuration) (items : List ObjectBlock) (i : ℕ) (x : ObjectBlock) → i < length items → x ≡ get_or items i x → (P : ReceivedBlock → Option (List ℕ) → Type 0) → P (received_of x.decoder) (answer_of x) → P (received_at c items i) (answer_at items i)
+said_here : (c : Configuration) (items : List ObjectBlock) (i : ℕ) (x : ObjectBlock) → i < length items → x ≡ get_or items i x → (P : ReceivedBlock → Option (List ℕ) → Type 0) → P (received_of x.decoder) (answer_of x) → P (received_at c items i) (answer_at items i)
 said_here c items i x below is P so = subst (λ h. P h (answer_at items i)) (sym (received_here c items i x below is)) (subst (P (received_of x.decoder)) (sym (answer_here items i x below is)) so)
 
--- a number of a block that the object has
-pub has_number : (c : Configuration) (items : List ObjectBlock) (n count : ℕ) → map block_number items ≡ range_with_len 0 c.source_blocks → count ≡ c.source_blocks → n < count → n < length items
-has_number c items n count numbered all below = omega (arith, all, below, length-numbered block_number c.source_blocks items numbered)
+-- the block of a number is found, exactly where the object has it
+pub block_found : (c : Configuration) (items : List ObjectBlock) (n : ℕ) (found : Option (Bor ObjectBlock)) → map block_number items ≡ range_with_len 0 c.source_blocks
+    → is_some found ≡ ltb n (length items) → IfSome found (λ x. x.now ≡ get_or items n x.now) → IsBlockAt (state c items) n (option_copied found)
+block_found c items n None numbered none is = omega (arith, ltb-false n (length items) (sym none), length-numbered block_number c.source_blocks items numbered)
+block_found c items n (Some x) numbered some is =
+    let below = ltb-true n (length items) (sym some) in
+    record {
+      known = omega (arith, below, length-numbered block_number c.source_blocks items numbered);
+      received = received_here c items n x.now below is;
+      answer = answer_here items n x.now below is;
+    }
 
 -- a block that is its configuration's and the packet's refuses no packet with a symbol of the size
 pub block_takes : (c : Configuration) (h : ReceivedBlock) (p : Packet) → h.configuration ≡ c → h.number ≡ p.id.block → length p.payload ≡ c.symbol_size → block_refusal h p ≡ Ok tt
@@ -75,22 +83,16 @@ after items i y below = sym (get_or-set_same items i y y below)
 within : (items : List ObjectBlock) (i : ℕ) (y : ObjectBlock) → i < length items → i < length (set items i y)
 within items i y below = omega (arith, length-set items i y)
 
+-- what is seen of another element than the one that is written
+elsewhere_same : {Y : Type 0} (f : ObjectBlock → Y) (items : List ObjectBlock) (i n : ℕ) (y : ObjectBlock) (d : Y) → n ≢ i → get_or (map f (set items i y)) n d ≡ get_or (map f items) n d
+elsewhere_same f items i n y d apart = ap (λ l. get_or l n d) (map-set f items i y) ∙ get_or-set_other (map f items) i n (f y) d apart
+
 -- the others stay
-module _ (c : Configuration) (items : List ObjectBlock) (i : ℕ) (x y : ObjectBlock) where
-  other_received : (n : ℕ) → n ≢ i → received_at c (set items i y) n ≡ received_at c items n
-  other_received n ne = elim (cases_lt n (length items)) [
-    | inl lt ↦ get_or-map (λ b. received_of b.decoder) (set items i y) n x (nothing_received c n no_row 0) (omega (arith, lt, length-set items i y)) ∙ ap (λ b. received_of b.decoder) (get_or-set_other items i n y x ne) ∙ sym (get_or-map (λ b. received_of b.decoder) items n x (nothing_received c n no_row 0) lt)
-    | inr past ↦ get_or_past (map (λ b. received_of b.decoder) (set items i y)) n (nothing_received c n no_row 0) (omega (arith, past, length-set items i y, length-map (set items i y) (λ b. received_of b.decoder))) ∙ sym (get_or_past (map (λ b. received_of b.decoder) items) n (nothing_received c n no_row 0) (omega (arith, past, length-map items (λ b. received_of b.decoder))))
-  ]
-
-  other_answer : (n : ℕ) → n ≢ i → answer_at (set items i y) n ≡ answer_at items n
-  other_answer n ne = elim (cases_lt n (length items)) [
-    | inl lt ↦ get_or-map answer_of (set items i y) n x None (omega (arith, lt, length-set items i y)) ∙ ap answer_of (get_or-set_other items i n y x ne) ∙ sym (get_or-map answer_of items n x None lt)
-    | inr past ↦ get_or_past (map answer_of (set items i y)) n None (omega (arith, past, length-set items i y, length-map (set items i y) answer_of)) ∙ sym (get_or_past (map answer_of items) n None (omega (arith, past, length-map items answer_of)))
-  ]
-
-  elsewhere : IsSameElsewhere (state c items) i (state c (set items i y))
-  elsewhere = record { configuration = refl; other = λ n below ne. (other_received n ne, other_answer n ne) }
+elsewhere : (c : Configuration) (items : List ObjectBlock) (i : ℕ) (y : ObjectBlock) → IsSameElsewhere (state c items) i (state c (set items i y))
+elsewhere c items i y = record {
+  configuration = refl;
+  other = λ n below apart. (elsewhere_same (λ b. received_of b.decoder) items i n y (nothing_received c n no_row 0) apart, elsewhere_same answer_of items i n y None apart);
+}
 
 -- the packet's block is written
 module _ (c : Configuration) (items : List ObjectBlock) (p : Packet) (x y : ObjectBlock) (below : p.id.block < length items) (is : x ≡ get_or items p.id.block x) where
@@ -104,10 +106,10 @@ module _ (c : Configuration) (items : List ObjectBlock) (p : Packet) (x y : Obje
       (said_here c new i y (within items i y below) (after items i y below) (P (received_of x.decoder) (answer_of x) p) so)
 
   adds_at : AddsToBlock (received_of x.decoder) (answer_of x) p (received_of y.decoder) (answer_of y) → Adds (state c items) p (state c (set items p.id.block y))
-  adds_at add = record { here = shown_here AddsToBlock add; elsewhere = elsewhere c items p.id.block x y }
+  adds_at add = record { here = shown_here AddsToBlock add; elsewhere = elsewhere c items p.id.block y }
 
   records_at : RecordsInBlock (received_of x.decoder) (answer_of x) p (received_of y.decoder) (answer_of y) → RecordsOnly (state c items) p (state c (set items p.id.block y))
-  records_at more = record { here = shown_here RecordsInBlock more; elsewhere = elsewhere c items p.id.block x y }
+  records_at more = record { here = shown_here RecordsInBlock more; elsewhere = elsewhere c items p.id.block y }
 
   stays_at : received_of y.decoder ≡ received_of x.decoder → answer_of y ≡ answer_of x → state c (set items p.id.block y) ≡ state c items
   stays_at received answer =
@@ -170,20 +172,6 @@ module _ (table : List TableRow) (c : Configuration) (items : List ObjectBlock) 
     received = λ b below. ap (λ l. get_or l b (nothing_received c b no_row 0)) received ∙ get_or-map-range_with_len (new_received table c) 0 c.source_blocks b b (nothing_received c b no_row 0) below (omega arith);
     answer = λ b below. ap (λ l. get_or l b None) answers ∙ get_or-map-range_with_len (new_answer c) 0 c.source_blocks b b None below (omega arith);
   }
-
--- ---- an answer, seen as a list
-
-pub none_shown : (o : Option (Vec ℕ Global)) → is_some o ≡ false → option_map vec_items o ≡ None
-none_shown None h = refl
-none_shown (Some v) h = absurd (cc h)
-
-pub some_shown : (o : Option (Vec ℕ Global)) → is_some o ≡ true → IsSome (option_map vec_items o)
-some_shown None h = absurd (cc h)
-some_shown (Some v) h = refl
-
-pub none_otherwise : (o : Option (Vec ℕ Global)) → ((v : Vec ℕ Global) → o ≡ Some v → ⊥) → option_map vec_items o ≡ None
-none_otherwise None h = refl
-none_otherwise (Some v) h = absurd (h v refl)
 
 -- ---- blocks that hold what others did
 

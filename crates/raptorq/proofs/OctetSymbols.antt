@@ -2,14 +2,15 @@
 use Rattle.std.proofs.Common.{◌≡◌, ℕ, ◌+◌, ◌<◌, List, [], ◌∷◌, ◌++◌, length, map, drop, refl, sym, ap, ◌∙◌, subst, arith, append-nil}
 use Rattle.std.proofs.lemmas.List.{length-map, get_or-map, nil_from_length, length-drop}
 use Rattle.rq_algebra.specs.Systems.{at, IsColumn}
-use Rattle.rq_algebra.specs.Symbols.{IsSymbol, IsSymbolColumn}
+use Rattle.rq_algebra.specs.Symbols.{IsSymbol}
 use Rattle.rq_bytes.specs.Ranges.{cut, with_range}
-use Rattle.rq_bytes.specs.SymbolSlab.{Slab, slab_of, symbol_in}
+use Rattle.rq_bytes.specs.SymbolSlab.{Slab, slab_of, symbol_in, symbols_in}
 use Rattle.rq_standard.specs.declared.row.TableRow.{TableRow}
 use Rattle.rq_standard.specs.OctetField.{octets}
 use Rattle.rq_standard.specs.TableRows.{IsChecked, intermediate_symbols}
 use Rattle.rq_standard.specs.Equations.{tuple_sum}
 use Rattle.rq_standard.specs.Differences.{plain_sum}
+use Rattle.raptorq.specs.BlockSolutions.{HasIntermediate}
 use Rattle.rq_standard.proofs.Columns.{sum_same}
 use Rattle.rq_standard.proofs.DifferenceColumns.{wide, wide_symbols, wide_sum}
 
@@ -30,8 +31,12 @@ module _ (row : TableRow) (xs : List ℕ) (slab : Slab) (checked : IsChecked row
   symbol_is : (k : ℕ) → k < intermediate_symbols row → symbol_in slab k ≡ wide 1 (at xs) k
   symbol_is k below = ap (λ s. symbol_in s k) is ∙ get_or-map (λ (x : ℕ). x ∷ []) xs k 0 [] (omega (arith, count))
 
-  pub octet_column : IsSymbolColumn octets slab.symbol_size (intermediate_symbols row) (symbol_in slab)
-  octet_column k below = subst (λ s. IsSymbol octets s (symbol_in slab k)) (sym (ap (λ s. s.symbol_size) is)) (subst (IsSymbol octets 1) (sym (symbol_is k below)) (wide_symbols 1 (omega arith) row checked (at xs) elements k below))
+  -- they are intermediate symbols
+  pub octet_column : HasIntermediate row slab
+  octet_column = record {
+    enough = omega (arith, ap (λ s. length (symbols_in s)) is, length-map xs (λ (x : ℕ). x ∷ []), count);
+    symbols = λ k below. subst (λ s. IsSymbol octets s (symbol_in slab k)) (sym (ap (λ s. s.symbol_size) is)) (subst (IsSymbol octets 1) (sym (symbol_is k below)) (wide_symbols 1 (omega arith) row checked (at xs) elements k below));
+  }
 
   -- the octet of an id
   pub octet_sum : (e : ℕ) → tuple_sum row (symbol_in slab) e ≡ plain_sum row (at xs) e ∷ []

@@ -1,5 +1,5 @@
 -- The payloads that a map holds, after one more.
-use Rattle.std.proofs.Common.{◌≡◌, ℕ, ◌<◌, Bool, true, false, cond, eqb, List, [], Option, Some, None, refl, sym, ap, ◌∙◌, subst, inl, inr, vec_items, vec_len, arith}
+use Rattle.std.proofs.Common.{◌≡◌, ◌≢◌, ℕ, ◌<◌, Bool, true, false, cond, eqb, List, [], Option, Some, None, refl, sym, ap, ◌∙◌, subst, inl, inr, vec_items, vec_len, arith}
 use Rattle.std.specs.Prelude.{is_some, option_map, MatchOption, IsSomeAnd}
 use Rattle.std.specs.List.{AllZip}
 use Rattle.std.proofs.lemmas.List.{map-id}
@@ -15,7 +15,8 @@ use Rattle.std.specs.BTreeMap.{get}
 use Rattle.std.specs.Map.{lookup}
 use Rattle.std.proofs.lemmas.Bool.{cases_eq, cases_lt, eq-eqb, ne_eqb, eqb-true}
 use Rattle.rq_standard.specs.Received.{or_later}
-use Rattle.raptorq.specs.Missing.{Payloads, payload_of}
+use Rattle.rq_standard.proofs.Firsts.{or_later-none}
+use Rattle.raptorq.specs.Missing.{Payloads, payload_of, AddsUnlessThere}
 
 -- the keys' order finds the key that is equal
 pub is_eq-nat_cmp : (k q : ℕ) → is_eq (nat_cmp k q) ≡ eqb k q
@@ -34,17 +35,21 @@ kept_by (Some y) r b x has = refl
 kept_by None r false x has = refl
 kept_by None r true x has = absurd (cc (has refl))
 
-pub or_later-again : (f : ℕ → Option (List ℕ)) (k : ℕ) (x : List ℕ) → is_some (f k) ≡ true → (e : ℕ) → f e ≡ or_later (f e) (cond (eqb k e) (Some x) None)
+pub or_later-again : (f : ℕ → Option (List ℕ)) (k : ℕ) (x : List ℕ) → is_some (f k) ≡ true → AddsUnlessThere k x f f
 or_later-again f k x has e = kept_by (f e) (f k) (eqb k e) x (λ t. ap (λ n. is_some (f n)) (sym (eqb-true k e t)) ∙ has)
 
-one_of : (P : List ℕ → Type 0) (o : Option (List ℕ)) (b : Bool) (x y : List ℕ) → ForSome o P → P x → or_later o (cond b (Some x) None) ≡ Some y → P y
+-- a payload of another id is as before
+pub added_elsewhere : (f g : ℕ → Option (List ℕ)) (k : ℕ) (x : List ℕ) → AddsUnlessThere k x f g → (e : ℕ) → k ≢ e → g e ≡ f e
+added_elsewhere f g k x grown e apart = grown e ∙ ap (λ b. or_later (f e) (cond b (Some x) None)) (ne_eqb k e apart) ∙ or_later-none (f e)
+
+one_of : (P : List ℕ → Type 0) (o : Option (List ℕ)) (b : Bool) (x y : List ℕ) → ForSome o P → (b ≡ true → P x) → or_later o (cond b (Some x) None) ≡ Some y → P y
 one_of P (Some z) b x y all here is = all y is
-one_of P None true x y all here is = let same : x ≡ y = cc in subst P same here
+one_of P None true x y all here is = let same : x ≡ y = cc in subst P same (here refl)
 one_of P None false x y all here is = absurd (cc is)
 
--- what holds of all payloads, and of one more
-pub all-more : (P : List ℕ → Type 0) (f g : ℕ → Option (List ℕ)) (k : ℕ) (x : List ℕ) → ((e : ℕ) → ForSome (f e) P) → P x → ((e : ℕ) → g e ≡ or_later (f e) (cond (eqb k e) (Some x) None)) → (e : ℕ) → ForSome (g e) P
-all-more P f g k x all here grown e y is = one_of P (f e) (eqb k e) x y (all e) here (sym (grown e) ∙ is)
+-- what holds of each, and of one more
+pub all-more : (P : ℕ → List ℕ → Type 0) (f g : ℕ → Option (List ℕ)) (k : ℕ) (x : List ℕ) → ((e : ℕ) → ForSome (f e) (P e)) → P k x → AddsUnlessThere k x f g → (e : ℕ) → ForSome (g e) (P e)
+all-more P f g k x all here grown e y is = one_of (P e) (f e) (eqb k e) x y (all e) (λ same. subst (λ n. P n x) (eqb-true k e same) here) (sym (grown e) ∙ is)
 
 -- an empty map holds nothing
 pub payload_of-empty : (m : Payloads) → m.entries ≡ [] → (e : ℕ) → payload_of m e ≡ None
@@ -69,5 +74,5 @@ few_by None true x k e n few below here came = subst (λ m. m < n) (here refl) b
 few_by None false x k e n few below here came = absurd (cc came)
 
 -- all ids stay small
-pub few-more : (f g : ℕ → Option (List ℕ)) (k : ℕ) (x : List ℕ) (n : ℕ) → ((e : ℕ) → is_some (f e) ≡ true → e < n) → k < n → ((e : ℕ) → g e ≡ or_later (f e) (cond (eqb k e) (Some x) None)) → (e : ℕ) → is_some (g e) ≡ true → e < n
+pub few-more : (f g : ℕ → Option (List ℕ)) (k : ℕ) (x : List ℕ) (n : ℕ) → ((e : ℕ) → is_some (f e) ≡ true → e < n) → k < n → AddsUnlessThere k x f g → (e : ℕ) → is_some (g e) ≡ true → e < n
 few-more f g k x n few below grown e came = few_by (f e) (eqb k e) x k e n (few e) below (eqb-true k e) (sym (ap is_some (grown e)) ∙ came)

@@ -1,6 +1,5 @@
 -- What was received, key by key and payload by payload.
-use Rattle.std.proofs.Common.{◌≡◌, ℕ, suc, ◌+◌, ◌-◌, ◌*◌, true, List, [], ◌∷◌, ◌++◌, All, length, map, replicate, Option, Some, None, Vec, Global, refl, sym, ap, ◌∙◌, subst, arith, append-nil, append_assoc, vec_items}
-use Rattle.std.specs.Prelude.{is_some, option_map, IsSome}
+use Rattle.std.proofs.Common.{◌≡◌, ℕ, suc, ◌+◌, ◌-◌, ◌*◌, true, List, [], ◌∷◌, ◌++◌, All, length, map, replicate, Vec, Global, refl, sym, ap, ◌∙◌, subst, arith, append-nil, append_assoc, vec_items}
 use Rattle.std.specs.List.{range_with_len}
 use Rattle.std.specs.Ordering.{nat_cmp}
 use Rattle.std.specs.BTreeMap.{ContainsKey, IsOrdered, keys, values}
@@ -16,18 +15,15 @@ use Rattle.rq_standard.specs.Equations.{internal_id, zero_symbol}
 use Rattle.raptorq.specs.Known.{known_list, values_after}
 use Rattle.raptorq.specs.Missing.{Payloads, has_payload, payload_of}
 use Rattle.raptorq.proofs.Listing.{each_entry}
+use Rattle.raptorq.proofs.OptionValues.{is_some-mapped}
 
 -- ---- keys
-
-has_value : (o : Option (Vec ℕ Global)) → IsSome o → is_some (option_map vec_items o) ≡ true
-has_value None none = none
-has_value (Some v) some = refl
 
 -- a payload came with the key that is next
 pub next_has_payload : (m : Payloads) (done rest : List ℕ) (e : ℕ) → All (ContainsKey nat_cmp m) (keys m) → done ++ e ∷ rest ≡ keys m → has_payload m e ≡ true
 next_has_payload m done rest e found whole =
     let all : All (ContainsKey nat_cmp m) (done ++ e ∷ rest) = subst (All (ContainsKey nat_cmp m)) (sym whole) found in
-    has_value _ (rw (get_or-append_seam done e rest 0) at (all (length done) 0 (omega (arith, length-append done (e ∷ rest)))))
+    is_some-mapped vec_items _ ∙ rw (get_or-append_seam done e rest 0) at (all (length done) 0 (omega (arith, length-append done (e ∷ rest))))
 
 -- the keys are those of what was received
 pub known_by_keys : (row : TableRow) (k : ℕ) (m : Payloads) (done : List ℕ) → done ≡ keys m → range_with_len k (row.extended_symbols - k) ++ map (internal_id row k) done ≡ known_list row k m.entries

@@ -1,30 +1,33 @@
 -- What was received of a block as equations: a list of ids that has the known ones, and their values.
-use Rattle.std.proofs.Common.{◌≡◌, ℕ, zero, suc, ◌+◌, ◌-◌, ◌<◌, ◌≤◌, Bool, true, cond, List, [], ◌∷◌, length, map, get_or, replicate, Option, Some, None, Vec, Global, refl, sym, ap, ◌∙◌, subst, arith, inl, inr, ◌⊎◌, vec_items}
+use Rattle.std.proofs.Common.{◌≡◌, ℕ, ◌+◌, ◌-◌, ◌<◌, ◌≤◌, Bool, true, cond, List, [], length, map, get_or, replicate, Option, Some, Vec, Global, refl, sym, ap, ◌∙◌, subst, arith, inl, inr, ◌⊎◌, vec_items}
 use Rattle.std.specs.Prelude.{is_some, option_map, IfSome}
-use Rattle.std.specs.List.{slice_get, range_with_len}
+use Rattle.std.specs.List.{range_with_len}
 use Rattle.std.specs.Ordering.{nat_cmp}
 use Rattle.std.specs.BTreeMap.{get, is_at, IsOrdered}
 use Rattle.std.proofs.lemmas.Bool.{cases_lt, lt-ltb, le-ltb, eqb-true}
 use Rattle.std.proofs.lemmas.List.{get_or_append_left, get_or-append_right, get_or-map, get_or-replicate, length-replicate}
 use Rattle.std.proofs.lemmas.List.FromFn.{length-range_with_len}
-use Rattle.std.proofs.lemmas.Option.{same_Some, slice_get_within, slice_get_cases}
+use Rattle.std.proofs.lemmas.Option.{same_Some, slice_get_within, slice_get_cases, get_or_from_slice_get}
 use Rattle.std.proofs.lemmas.Map.Entries.{place_from_lookup}
 use Rattle.rq_algebra.specs.Systems.{dot, at, rows_of}
-use Rattle.rq_algebra.specs.Symbols.{SolvesSymbols, symbol_at, slice_at}
+use Rattle.rq_algebra.specs.Symbols.{symbol_at, slice_at}
 use Rattle.rq_algebra.proofs.Stacks.{stacked_above, stacked_below}
 use Rattle.rq_standard.specs.declared.row.TableRow.{TableRow}
 use Rattle.rq_standard.specs.OctetField.{octets}
 use Rattle.rq_standard.specs.TableRows.{intermediate_symbols, IsChecked}
 use Rattle.rq_standard.specs.Equations.{precode_equations, symbol_coefficient, zero_symbol, internal_id, tuple_sum}
 use Rattle.rq_standard.specs.IdLists.{IsListOf, HasDeterminedRows}
-use Rattle.rq_standard.specs.Headline.{known_ids, DetermineBlock}
+use Rattle.rq_standard.specs.Headline.{known_ids}
 use Rattle.rq_standard.specs.ReceivedBlock.{ReceivedBlock, has_received, SolvesReceived, ReceivedDetermine}
 use Rattle.rq_standard.proofs.KnownIds.{known_source, known_padding, known_repair, range_at, determined_by, determined_list, block_same, few_not_determining}
 use Rattle.rq_standard.proofs.Columns.{sum_at}
+use Rattle.raptorq.specs.declared.decoder.block.SourceBlockDecoder.{SourceBlockDecoder}
+use Rattle.raptorq.specs.SourceBlockDecoder.{received_of}
 use Rattle.raptorq.specs.Known.{known_list, known_values}
-use Rattle.raptorq.specs.BlockSolutions.{first_equations}
+use Rattle.raptorq.specs.BlockSolutions.{SolvesFirstEquations}
 use Rattle.raptorq.specs.Missing.{Payloads, payload_of, has_payload}
-use Rattle.raptorq.proofs.Listing.{entry_payload, length-known_list, length-known_values}
+use Rattle.raptorq.proofs.OptionValues.{is_some-mapped, value_of}
+use Rattle.raptorq.proofs.Listing.{entry_payload, length-known_list}
 use Rattle.raptorq.proofs.Payloads.{is_eq-nat_cmp}
 
 -- ---- internal ids
@@ -44,14 +47,24 @@ known_internal row k e has fits = elim (cases_lt e k) [
       ap (known_ids row k has) (internal_above row k e above) ∙ known_repair row k (e + row.extended_symbols - k) has (omega arith) (omega arith) ∙ ap has back
 ]
 
-some_value : (o : Option (Vec ℕ Global)) → is_some (option_map vec_items o) ≡ true → (v : Vec ℕ Global) × (o ≡ Some v)
-some_value None h = absurd (cc h)
-some_value (Some v) h = (v, refl)
-
-read_at : {X : Type 0} → (xs : List X) (i : ℕ) (x : X) → slice_get xs i ≡ Some x → get_or xs i x ≡ x
-read_at [] i x h = refl
-read_at (y ∷ xs) zero x h = same_Some y x h
-read_at (y ∷ xs) (suc i) x h = read_at xs i x h
+-- where more ids are had, an internal id that is known then was known, or is that of one of these
+pub known-more : (row : TableRow) (k : ℕ) (has now : ℕ → Bool) (Added : ℕ → Type 0) → k ≤ row.extended_symbols → ((e : ℕ) → now e ≡ true → (has e ≡ true) ⊎ Added e) → (x : ℕ) → known_ids row k now x ≡ true
+    → (known_ids row k has x ≡ true) ⊎ ((e : ℕ) × Added e × (x ≡ internal_id row k e))
+known-more row k has now Added fits more x known = elim (cases_lt x k) [
+  | inl below ↦ elim (more x (sym (known_source row k x now below) ∙ known)) [
+    | inl was ↦ inl (known_source row k x has below ∙ was)
+    | inr added ↦ inr (x, added, sym (internal_below row k x below))
+  ]
+  | inr from ↦ elim (cases_lt x row.extended_symbols) [
+    | inl padding ↦ inl (known_padding row k x has from padding)
+    | inr past ↦
+        let e : ℕ = x + k - row.extended_symbols in
+        elim (more e (sym (known_repair row k x now from past) ∙ known)) [
+          | inl was ↦ inl (known_repair row k x has from past ∙ was)
+          | inr added ↦ inr (e, added, sym (internal_above row k e (omega arith) ∙ omega arith))
+        ]
+  ]
+]
 
 pub came_sum : (o : Option (List ℕ)) (x y : List ℕ) → o ≡ Some x → IfSome o (λ payload. payload ≡ y) → x ≡ y
 came_sum o x y is h = subst (λ r. IfSome r (λ payload. payload ≡ y)) is h
@@ -125,11 +138,11 @@ module _ (row : TableRow) (k size : ℕ) (m : Payloads) (fits : k ≤ row.extend
   pub place_of : (f e : ℕ) (x : List ℕ) → payload_of m e ≡ Some x
       → (j : ℕ) × (j < length (known_list row k m.entries)) × (at (known_list row k m.entries) j ≡ internal_id row k e) × (symbol_at (known_values row k f size m.entries) (f + j) ≡ x)
   place_of f e x came =
-      let some = some_value (get nat_cmp m e) (ap is_some came) in
+      let some = value_of (get nat_cmp m e) (sym (is_some-mapped vec_items (get nat_cmp m e)) ∙ ap is_some came) in
       let q = place_from_lookup (is_at (nat_cmp e)) m.entries some.0 some.1 in
       let key : e ≡ q.1 = eqb-true e q.1 (sym (is_eq-nat_cmp e q.1) ∙ q.3) in
       let within : q.0 < length m.entries = slice_get_within m.entries q.0 (q.1, some.0) q.2 in
-      let is = read_at m.entries q.0 (q.1, some.0) q.2 in
+      let is = get_or_from_slice_get m.entries q.0 (q.1, some.0) (q.1, some.0) q.2 in
       let received : some.0.items ≡ x = same_Some some.0.items x (sym (ap (option_map vec_items) some.1) ∙ came) in (
         row.extended_symbols - k + q.0,
         (omega (arith, length-known_list row k m.entries, within)),
@@ -140,7 +153,7 @@ module _ (row : TableRow) (k size : ℕ) (m : Payloads) (fits : k ≤ row.extend
   -- an id that was received has one
   place_came : (e : ℕ) → has_payload m e ≡ true → (j : ℕ) × (j < length (known_list row k m.entries)) × (at (known_list row k m.entries) j ≡ internal_id row k e)
   place_came e came =
-      let some = some_value (get nat_cmp m e) came in
+      let some = value_of (get nat_cmp m e) (sym (is_some-mapped vec_items (get nat_cmp m e)) ∙ came) in
       let q = place_of 0 e some.0.items (ap (option_map vec_items) some.1) in
       (q.0, q.1, q.2)
 
@@ -164,59 +177,68 @@ module _ (row : TableRow) (k size : ℕ) (m : Payloads) (fits : k ≤ row.extend
     ];
   }
 
-  -- fewer ids than K' determine nothing
-  pub few_received : (row.extended_symbols - k) + length m.entries < row.extended_symbols → DetermineBlock row k (has_payload m) → ⊥
-  few_received few d =
-      let ids = known_list row k m.entries in
-      few_not_determining row ids (omega (arith, length-known_list row k m.entries)) (determined_list row (known_ids row k (has_payload m)) ids known_listed d)
-
-  pub count_received : (precode_rows : ℕ) → length (known_values row k precode_rows size m.entries) ≡ precode_rows + length (known_list row k m.entries)
-  count_received precode_rows = omega (arith, length-known_values row k precode_rows size m.entries, length-known_list row k m.entries)
-
 -- ---- of a block
 
-module _ (h : ReceivedBlock) (m : Payloads) (fits : h.source_symbols ≤ h.row.extended_symbols) (ordered : IsOrdered nat_cmp m) (checked : IsChecked h.row) (same : (e : ℕ) → h.received e ≡ payload_of m e) where
+-- the ids of the symbol equations of what was received, and the values of all its equations
+abbrev pub received_ids : ReceivedBlock → Payloads → List ℕ
+received_ids h m = known_list h.row h.source_symbols m.entries
+
+abbrev pub received_values : ReceivedBlock → Payloads → ℕ → List (List ℕ)
+received_values h m precode_rows = known_values h.row h.source_symbols precode_rows h.configuration.symbol_size m.entries
+
+-- it is held as payloads in the order of their ids, over a checked row with room for the block
+pub record IsHeldIn (h : ReceivedBlock) (m : Payloads) : Type 0 where
+  pub fits : h.source_symbols ≤ h.row.extended_symbols
+  pub ordered : IsOrdered nat_cmp m
+  pub checked : IsChecked h.row
+  pub same : (e : ℕ) → h.received e ≡ payload_of m e
+
+pub held_by_decoder : (d : SourceBlockDecoder) → IsOrdered nat_cmp d.received → IsHeldIn (received_of d) d.received
+held_by_decoder d ordered = record { fits = d.fits; ordered = ordered; checked = d.row.checked; same = λ e. refl }
+
+module _ (h : ReceivedBlock) (m : Payloads) (held : IsHeldIn h m) where
   -- a column that solves what was received solves the first of the equations with their values
   pub values_solved : (precode_rows : ℕ) → precode_rows ≤ h.row.ldpc_symbols + h.row.hdpc_symbols → (column : ℕ → List ℕ) → SolvesReceived h column
-      → SolvesSymbols octets (precode_rows + length (known_list h.row h.source_symbols m.entries)) (intermediate_symbols h.row) (first_equations h.row precode_rows (known_list h.row h.source_symbols m.entries)) column (symbol_at (known_values h.row h.source_symbols precode_rows h.configuration.symbol_size m.entries))
+      → SolvesFirstEquations h.row precode_rows (received_ids h m) column (received_values h m precode_rows)
   values_solved f few column z =
       let row = h.row in
       let k = h.source_symbols in
       let size = h.configuration.symbol_size in
-      let ids = known_list row k m.entries in
-      let values = known_values row k f size m.entries in
+      let ids = received_ids h m in
+      let values = received_values h m f in
       record {
         at_place = λ p. record {
           at = λ i below. elim (cases_lt i f) [
             | inl lt ↦
                 ap (λ (r : ℕ → ℕ). dot octets (intermediate_symbols row) r (slice_at p column)) (stacked_above f (precode_equations row) (rows_of (symbol_coefficient row) ids) i lt)
                 ∙ (z.precode.at_place p).at i (omega arith)
-                ∙ ap (λ xs. at xs p) (sym (zero_at row k size m fits ordered f i (omega arith)))
+                ∙ ap (λ xs. at xs p) (sym (zero_at row k size m held.fits held.ordered f i (omega arith)))
             | inr past ↦
                 let j : ℕ = i - f in
                 let e : f + j ≡ i = omega arith in
                 rw (← e) (
                 ap (λ (r : ℕ → ℕ). dot octets (intermediate_symbols row) r (slice_at p column)) (stacked_below f (precode_equations row) (rows_of (symbol_coefficient row) ids) j)
-                ∙ sym (sum_at row size (at ids j) column checked z.symbols p)
-                ∙ ap (λ xs. at xs p) (elim (known_at row k size m fits ordered f j (omega arith)) [
+                ∙ sym (sum_at row size (at ids j) column held.checked z.symbols p)
+                ∙ ap (λ xs. at xs p) (elim (known_at row k size m held.fits held.ordered f j (omega arith)) [
                   | inl q ↦ z.padding (at ids j) q.from q.below ∙ sym q.is_zero
-                  | inr q ↦ ap (tuple_sum row column) q.id ∙ sym (came_sum (h.received q.esi) (symbol_at values (f + j)) (tuple_sum row column (internal_id row k q.esi)) (same q.esi ∙ q.came) (z.received q.esi))
+                  | inr q ↦ ap (tuple_sum row column) q.id ∙ sym (came_sum (h.received q.esi) (symbol_at values (f + j)) (tuple_sum row column (internal_id row k q.esi)) (held.same q.esi ∙ q.came) (z.received q.esi))
                 ]))
           ];
         };
       }
 
   -- where it finds something, they do
-  pub is_received : HasDeterminedRows h.row (known_list h.row h.source_symbols m.entries) → ReceivedDetermine h
+  pub is_received : HasDeterminedRows h.row (received_ids h m) → ReceivedDetermine h
   is_received d =
-      block_same h.row h.source_symbols (has_payload m) (has_received h) (λ e. sym (ap is_some (same e)))
-      (determined_by h.row (known_ids h.row h.source_symbols (has_payload m)) (known_list h.row h.source_symbols m.entries) (known_listed h.row h.source_symbols h.configuration.symbol_size m fits ordered).listed d)
+      block_same h.row h.source_symbols (has_payload m) (has_received h) (λ e. sym (ap is_some (held.same e)))
+      (determined_by h.row (known_ids h.row h.source_symbols (has_payload m)) (received_ids h m) (known_listed h.row h.source_symbols h.configuration.symbol_size m held.fits held.ordered).listed d)
 
   -- and where they do, so do the rows
-  pub received_rows : ReceivedDetermine h → HasDeterminedRows h.row (known_list h.row h.source_symbols m.entries)
+  pub received_rows : ReceivedDetermine h → HasDeterminedRows h.row (received_ids h m)
   received_rows d =
-      determined_list h.row (known_ids h.row h.source_symbols (has_payload m)) (known_list h.row h.source_symbols m.entries) (known_listed h.row h.source_symbols h.configuration.symbol_size m fits ordered)
-      (block_same h.row h.source_symbols (has_received h) (has_payload m) (λ e. ap is_some (same e)) d)
+      determined_list h.row (known_ids h.row h.source_symbols (has_payload m)) (received_ids h m) (known_listed h.row h.source_symbols h.configuration.symbol_size m held.fits held.ordered)
+      (block_same h.row h.source_symbols (has_received h) (has_payload m) (λ e. ap is_some (held.same e)) d)
 
+  -- fewer ids than K' determine nothing
   pub too_few : (h.row.extended_symbols - h.source_symbols) + length m.entries < h.row.extended_symbols → ReceivedDetermine h → ⊥
-  too_few few d = few_received h.row h.source_symbols h.configuration.symbol_size m fits ordered few (block_same h.row h.source_symbols (has_received h) (has_payload m) (λ e. ap is_some (same e)) d)
+  too_few few d = few_not_determining h.row (received_ids h m) (omega (arith, length-known_list h.row h.source_symbols m.entries)) (received_rows d)

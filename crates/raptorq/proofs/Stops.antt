@@ -35,104 +35,111 @@ refused_as_tested NotJoined tested is = subst (IsPacketRefusal OutOfMemory) (sym
 
 -- ---- what was received then
 
--- nothing changed, or the packet is recorded
-pub stops_early : (old : State) (p : Packet) (at : PacketStop) (new : State) → AddsOrStops old p (Err at) new → StopsEarly old p new
-stops_early old p (Refused e) new so = inl so
-stops_early old p NotRecorded new so = inl so
-stops_early old p NotSolved new so = inr so
-stops_early old p Contradicted new so = inr so.records
-stops_early old p NotJoined new so = absurd so
+module _ (old : State) (p : Packet) (new : State) where
+  -- nothing changed, or the packet is recorded
+  pub stops_early : (at : PacketStop) → AddsOrStops old p (Err at) new → StopsEarly old p new
+  stops_early (Refused e) so = inl so
+  stops_early NotRecorded so = inl so
+  stops_early NotSolved so = inr so
+  stops_early Contradicted so = inr so.records
+  stops_early NotJoined so = absurd so
 
--- where no blocks are joined, less can stop
-pub not_joined : (old : State) (p : Packet) (at : PacketStop) (new : State) → AddsOrStops old p (Err at) new → AddsAndJoinsOrStops old p (Err at) new
-not_joined old p (Refused e) new so = so
-not_joined old p NotRecorded new so = so
-not_joined old p NotSolved new so = so
-not_joined old p Contradicted new so = so
-not_joined old p NotJoined new so = absurd so
+  -- where no blocks are joined, less can stop
+  pub not_joined : (at : PacketStop) → AddsOrStops old p (Err at) new → AddsAndJoinsOrStops old p (Err at) new
+  not_joined (Refused e) so = so
+  not_joined NotRecorded so = so
+  not_joined NotSolved so = so
+  not_joined Contradicted so = so
+  not_joined NotJoined so = absurd so
 
-pub stops : (old : State) (p : Packet) (at : PacketStop) (new : State) → AddsAndJoinsOrStops old p (Err at) new → Stops old p new
-stops old p (Refused e) new so = inl (inl so)
-stops old p NotRecorded new so = inl (inl so)
-stops old p NotSolved new so = inl (inr so)
-stops old p Contradicted new so = inl (inr so.records)
-stops old p NotJoined new so = inr so
+  pub stops : (at : PacketStop) → AddsAndJoinsOrStops old p (Err at) new → Stops old p new
+  stops (Refused e) so = inl (inl so)
+  stops NotRecorded so = inl (inl so)
+  stops NotSolved so = inl (inr so)
+  stops Contradicted so = inl (inr so.records)
+  stops NotJoined so = inr so
 
--- a refusal by the tests changes nothing
-unchanged : (old : State) (p : Packet) (at : PacketStop) (new : State) → AddsAndJoinsOrStops old p (Err at) new → refusal_of at ≢ OutOfMemory → refusal_of at ≢ Contradiction → new ≡ old
-unchanged old p (Refused e) new so memory contradiction = so
-unchanged old p NotRecorded new so memory contradiction = so
-unchanged old p NotSolved new so memory contradiction = absurd (memory refl)
-unchanged old p Contradicted new so memory contradiction = absurd (contradiction refl)
-unchanged old p NotJoined new so memory contradiction = absurd (memory refl)
+  -- a refusal by the tests changes nothing
+  unchanged : (at : PacketStop) → AddsAndJoinsOrStops old p (Err at) new → refusal_of at ≢ OutOfMemory → refusal_of at ≢ Contradiction → new ≡ old
+  unchanged (Refused e) so memory contradiction = so
+  unchanged NotRecorded so memory contradiction = so
+  unchanged NotSolved so memory contradiction = absurd (memory refl)
+  unchanged Contradicted so memory contradiction = absurd (contradiction refl)
+  unchanged NotJoined so memory contradiction = absurd (memory refl)
 
-contradicts : (old : State) (p : Packet) (at : PacketStop) (new : State) → StopsAsTested {X = Unit {0}} (Err at) (packet_refusal old.configuration p) → AddsAndJoinsOrStops old p (Err at) new → refusal_of at ≡ Contradiction → Contradicts old p new
-contradicts old p (Refused e) new tested so is = absurd (never_contradiction (ltb p.id.block old.configuration.source_blocks) (eqb (length p.payload) old.configuration.symbol_size) (tested ∙ cc is))
-contradicts old p NotRecorded new tested so is = absurd (cc is)
-contradicts old p NotSolved new tested so is = absurd (cc is)
-contradicts old p Contradicted new tested so is = so
-contradicts old p NotJoined new tested so is = absurd (cc is)
+  -- a contradiction stays
+  keeps_stopped : (at : PacketStop) → AddsAndJoinsOrStops old p (Err at) new → KeepsContradictions old new
+  keeps_stopped (Refused e) so = keeps_same old new so
+  keeps_stopped NotRecorded so = keeps_same old new so
+  keeps_stopped NotSolved so = keeps_recorded old p new so
+  keeps_stopped Contradicted so = keeps_recorded old p new so.records
+  keeps_stopped NotJoined so = keeps_added old p new so
 
--- a contradiction stays
-keeps_stopped : (old : State) (p : Packet) (at : PacketStop) (new : State) → AddsAndJoinsOrStops old p (Err at) new → KeepsContradictions old new
-keeps_stopped old p (Refused e) new so = keeps_same old new so
-keeps_stopped old p NotRecorded new so = keeps_same old new so
-keeps_stopped old p NotSolved new so = keeps_recorded old p new so
-keeps_stopped old p Contradicted new so = keeps_recorded old p new so.records
-keeps_stopped old p NotJoined new so = keeps_added old p new so
+  -- where the blocks weren't joined, it stands for the longer list
+  pub late_or_not : (at : PacketStop) → IsAligned old.configuration → AddsAndJoinsOrStops old p (Err at) new → LeavesBlockLate old p new ⊎ AnswersLateBlock old p new
+  late_or_not (Refused e) aligned so = inl (leaves_late p old new (inl so))
+  late_or_not NotRecorded aligned so = inl (leaves_late p old new (inl so))
+  late_or_not NotSolved aligned so = inl (leaves_late p old new (inr so))
+  late_or_not Contradicted aligned so = inl (leaves_late p old new (inr so.records))
+  late_or_not NotJoined aligned so = inr (answers_late p old new aligned so)
 
--- a packet of the object finds no memory, at the worst
-honest_stops : (old : State) (p : Packet) (at : PacketStop) (new : State) → StopsAsTested {X = Unit {0}} (Err at) (packet_refusal old.configuration p) → AddsAndJoinsOrStops old p (Err at) new → IsHonestPacket old p → refusal_of at ≡ OutOfMemory
-honest_stops old p (Refused e) new tested so honest =
-    let shape = honest.stands.shape p.id.block honest.of_object.block in
-    absurd (cc (tested, packet_refusal-packet honest.table old.configuration honest.object p (subst IsChecked shape.row shape.checked) honest.of_object))
-honest_stops old p NotRecorded new tested so honest = refl
-honest_stops old p NotSolved new tested so honest = refl
-honest_stops old p Contradicted new tested so honest = absurd (honest_fits old p new honest so)
-honest_stops old p NotJoined new tested so honest = refl
+  -- what the tests refuse is no contradiction
+  contradicts : (at : PacketStop) → StopsAsTested {X = Unit {0}} (Err at) (packet_refusal old.configuration p) → AddsAndJoinsOrStops old p (Err at) new → refusal_of at ≡ Contradiction → Contradicts old p new
+  contradicts (Refused e) tested so is = absurd (never_contradiction (ltb p.id.block old.configuration.source_blocks) (eqb (length p.payload) old.configuration.symbol_size) (tested ∙ cc is))
+  contradicts NotRecorded tested so is = absurd (cc is)
+  contradicts NotSolved tested so is = absurd (cc is)
+  contradicts Contradicted tested so is = so
+  contradicts NotJoined tested so is = absurd (cc is)
 
--- where the blocks weren't joined, it stands for the longer list
-pub late_or_not : (old : State) (p : Packet) (at : PacketStop) (new : State) → IsAligned old.configuration → AddsAndJoinsOrStops old p (Err at) new → LeavesBlockLate old p new ⊎ AnswersLateBlock old p new
-late_or_not old p (Refused e) new aligned so = inl (leaves_late p old new (inl so))
-late_or_not old p NotRecorded new aligned so = inl (leaves_late p old new (inl so))
-late_or_not old p NotSolved new aligned so = inl (leaves_late p old new (inr so))
-late_or_not old p Contradicted new aligned so = inl (leaves_late p old new (inr so.records))
-late_or_not old p NotJoined new aligned so = inr (answers_late p old new aligned so)
+  -- a packet of the object finds no memory, at the worst
+  honest_stops : (at : PacketStop) → StopsAsTested {X = Unit {0}} (Err at) (packet_refusal old.configuration p) → AddsAndJoinsOrStops old p (Err at) new → IsHonestPacket old p → refusal_of at ≡ OutOfMemory
+  honest_stops (Refused e) tested so honest =
+      let shape = honest.stands.shape p.id.block honest.of_object.block in
+      absurd (cc (tested, packet_refusal-packet honest.table old.configuration honest.object p (subst IsChecked shape.row shape.checked) honest.of_object))
+  honest_stops NotRecorded tested so honest = refl
+  honest_stops NotSolved tested so honest = refl
+  honest_stops Contradicted tested so honest = absurd (honest_fits old p new honest so)
+  honest_stops NotJoined tested so honest = refl
 
 -- ---- what is said of both calls
 
-pub takes_added : {X : Type 0} (old : State) (p : Packet) (x : X) (new : State) → IsAligned old.configuration → packet_refusal old.configuration p ≡ Ok tt → new.configuration ≡ old.configuration → Adds old p new → TakesPacket old p (Ok x) new
-takes_added old p x new aligned passes same adds = record {
-  refused = tt;
-  accepted = passes;
-  unchanged = tt;
-  adds = adds;
-  configuration = same;
-  contradiction = tt;
-  received = received_more old p new (passes_below old.configuration p passes) adds;
-  goes_on = no_more old p new adds;
-  keeps = keeps_added old p new adds;
-  next = λ table earlier follows. (passes, taken_fits table earlier p old new follows (passes_below old.configuration p passes) adds);
-  follows = λ table earlier follows. follows_more table earlier p old new follows (passes_below old.configuration p passes) adds;
-  honest = tt;
-  stands = stands_more p old new aligned adds;
-  answers_late = answers_late p old new aligned adds;
-}
+module _ {X : Type 0} (old : State) (p : Packet) (new : State) (same : new.configuration ≡ old.configuration) where
+  pub takes_added : (x : X) → IsAligned old.configuration → packet_refusal old.configuration p ≡ Ok tt → Adds old p new → TakesPacket old p (Ok x) new
+  takes_added x aligned passes adds =
+      let below = passes_below old.configuration p passes in
+      record {
+        refused = tt;
+        accepted = passes;
+        unchanged = tt;
+        adds = adds;
+        configuration = same;
+        contradiction = tt;
+        received = received_more old p new below adds;
+        goes_on = no_more old p new adds;
+        keeps = keeps_added old p new adds;
+        next = λ table earlier follows. (passes, taken_fits table earlier p old new follows below adds);
+        follows = λ table earlier follows. follows_more table earlier p old new follows below adds;
+        honest = tt;
+        stands = stands_more p old new aligned adds;
+        answers_late = answers_late p old new aligned adds;
+      }
 
-pub takes_stopped : {X : Type 0} (old : State) (p : Packet) (at : PacketStop) (new : State) → StopsAsTested {X = Unit {0}} (Err at) (packet_refusal old.configuration p) → new.configuration ≡ old.configuration → AddsAndJoinsOrStops old p (Err at) new → TakesPacket {X = X} old p (Err (refusal_of at)) new
-takes_stopped old p at new tested same so = record {
-  refused = refused_as_tested at (packet_refusal old.configuration p) tested;
-  accepted = tt;
-  unchanged = unchanged old p at new so;
-  adds = tt;
-  configuration = same;
-  contradiction = contradicts old p at new tested so;
-  received = tt;
-  goes_on = tt;
-  keeps = keeps_stopped old p at new so;
-  next = λ table earlier follows. refused_next table earlier p old new follows (refusal_of at) (refused_as_tested at (packet_refusal old.configuration p) tested) (contradicts old p at new tested so);
-  follows = tt;
-  honest = honest_stops old p at new tested so;
-  stands = tt;
-  answers_late = tt;
-}
+  pub takes_stopped : (at : PacketStop) → StopsAsTested {X = Unit {0}} (Err at) (packet_refusal old.configuration p) → AddsAndJoinsOrStops old p (Err at) new → TakesPacket {X = X} old p (Err (refusal_of at)) new
+  takes_stopped at tested so =
+      let refused = refused_as_tested at (packet_refusal old.configuration p) tested in
+      record {
+        refused = refused;
+        accepted = tt;
+        unchanged = unchanged old p new at so;
+        adds = tt;
+        configuration = same;
+        contradiction = contradicts old p new at tested so;
+        received = tt;
+        goes_on = tt;
+        keeps = keeps_stopped old p new at so;
+        next = λ table earlier follows. refused_next table earlier p old new follows (refusal_of at) refused (contradicts old p new at tested so);
+        follows = tt;
+        honest = honest_stops old p new at tested so;
+        stands = tt;
+        answers_late = tt;
+      }

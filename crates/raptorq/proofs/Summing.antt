@@ -3,6 +3,7 @@ use Rattle.std.proofs.Common.{◌≡◌, ℕ, ◌<◌, ◌≤◌, List, [], ◌�
 use Rattle.std.proofs.Math.Seq.{take-append_seam, drop-append_seam}
 use Rattle.std.proofs.lemmas.List.{length-map}
 use Rattle.std.proofs.lemmas.List.Elements.{All-head, All-tail, All-take, All-drop}
+use Rattle.rq_algebra.specs.Operations.{IsPlace}
 use Rattle.rq_algebra.specs.Symbols.{add_symbols, symbols, IsSymbolColumn}
 use Rattle.rq_algebra.specs.Parities.{sum_listed}
 use Rattle.rq_algebra.proofs.SymbolSums.{add_nothing, add_zeros, add_symbols_assoc, length-add_symbols, sum_listed-push}
@@ -22,6 +23,10 @@ has_place values size (Some order) k n few below = omega (arith, length-map orde
 
 pub place_of_slab : (slab : Slab) (k n : ℕ) → n ≤ length (symbols_in slab) → k < n → HasPlace slab k
 place_of_slab slab = has_place slab.values slab.symbol_size slab.order
+
+-- and where no order is set
+pub place_of_plain : (slab : Slab) (k : ℕ) → slab.order ≡ None → k < length slab.values → HasPlace slab k
+place_of_plain slab k plain below = subst (λ o. IsPlace (length slab.values) o k) (sym plain) below
 
 -- what was summed, from zeros on
 pub record SumsSoFar (size : ℕ) (all left : List ℕ) (column : ℕ → List ℕ) (sum : List ℕ) : Type 0 where

@@ -1,14 +1,14 @@
 -- Packets that a block's decoder takes one after another.
-use Rattle.std.proofs.Common.{◌≡◌, ℕ, Bool, true, false, cond, eqb, List, [], ◌∷◌, ◌++◌, length, Option, Some, None, Result, Ok, Err, refl, sym, ap, ◌∙◌, subst, inl, inr}
+use Rattle.std.proofs.Common.{◌≡◌, ℕ, Bool, true, false, eqb, List, [], ◌∷◌, ◌++◌, length, Option, Some, Result, Ok, Err, refl, sym, ap, ◌∙◌, subst, inl, inr}
 use Rattle.std.specs.Iterator.{Yields}
 use Rattle.std.proofs.lemmas.Bool.{eqb-true}
 use Rattle.rq_bytes.specs.declared.error.Error.{Error}
 use Rattle.rq_bytes.specs.declared.error.Error.TheVariants.{OutOfMemory}
 use Rattle.rq_bytes.specs.Refusals.{IsRefusal}
 use Rattle.rq_standard.specs.Packet.{Packet, SymbolId}
-use Rattle.rq_standard.specs.Received.{or_later}
 use Rattle.rq_standard.specs.ReceivedBlock.{ReceivedBlock, with_received}
 use Rattle.rq_standard.proofs.StandingSteps.{push-all}
+use Rattle.raptorq.specs.Missing.{AddsUnlessThere}
 use Rattle.raptorq.specs.Refused.{block_refusal}
 use Rattle.raptorq.specs.Decoding.{all_recorded, AreTaken, StopsAtLast, Decodes, DecodesUntil}
 use Rattle.raptorq.specs.Stopping.{StopsPacket, refusal_of}
@@ -35,7 +35,7 @@ taken_size h p passed = eqb-true (length p.payload) h.configuration.symbol_size 
 
 -- the payload of an id that is recorded is a packet's
 pub recorded_packet : (h : ReceivedBlock) (p : Packet) (received : ℕ → Option (List ℕ)) (id : SymbolId) (esi : ℕ) (payload : List ℕ) → id ≡ p.id → esi ≡ id.esi → payload ≡ p.payload
-    → ((e : ℕ) → received e ≡ or_later (h.received e) (cond (eqb esi e) (Some payload) None)) → record h { received = received } ≡ with_received h p.id.esi p.payload
+    → AddsUnlessThere esi payload h.received received → record h { received = received } ≡ with_received h p.id.esi p.payload
 recorded_packet h p received id esi payload same is carries kept =
     (λ i. record h { received = λ e. kept e i })
     ∙ ap (λ e. with_received h e payload) (is ∙ ap (λ (k : SymbolId). k.esi) same) ∙ ap (λ x. with_received h p.id.esi x) carries

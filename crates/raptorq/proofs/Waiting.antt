@@ -1,22 +1,21 @@
 -- A block of which was found that what was received doesn't determine it, or is contradictory.
-use Rattle.std.proofs.Common.{◌≡◌, ◌⊎◌, ◌+◌, ◌-◌, ◌≤◌, inl, inr, ℕ, List, Bool, true, false, not, Option, None, Some, Vec, Global, cond, eqb, refl, sym, ap, ◌∙◌, subst, arith}
+use Rattle.std.proofs.Common.{◌≡◌, ◌⊎◌, ◌≤◌, inl, inr, ℕ, List, Bool, true, false, not, Option, None, Some, Vec, Global, refl, sym, ap, ◌∙◌, subst}
 use Rattle.std.specs.Prelude.{is_some, IfSome}
 use Rattle.std.specs.Option.{ForSome}
-use Rattle.std.proofs.lemmas.Bool.{cases_eq, cases_lt, ne_eqb}
+use Rattle.std.proofs.lemmas.Bool.{cases_eq}
 use Rattle.rq_algebra.specs.Systems.{at}
 use Rattle.rq_standard.specs.declared.row.TableRow.{TableRow}
-use Rattle.rq_standard.specs.Equations.{internal_id}
 use Rattle.rq_standard.specs.Headline.{known_ids, DetermineBlock}
 use Rattle.rq_standard.specs.ReceivedBlock.{ReceivedBlock, with_received, CanAnswer, IsContradictory}
 use Rattle.rq_standard.specs.Received.{or_later}
-use Rattle.rq_standard.proofs.KnownIds.{known_padding, known_repair, known_source}
 use Rattle.rq_standard.specs.IdLists.{IsListOf}
+use Rattle.raptorq.specs.Missing.{AddsUnlessThere}
 use Rattle.raptorq.specs.BlockSolutions.{IsHomogeneousFor}
 use Rattle.raptorq.specs.Known.{IsHomogeneousOf, SolvesEsi}
-use Rattle.raptorq.proofs.ReceivedEquations.{internal_above, internal_below}
+use Rattle.raptorq.proofs.Payloads.{added_elsewhere}
+use Rattle.raptorq.proofs.ReceivedEquations.{known-more}
 use Rattle.raptorq.proofs.Undetermined.{shows_known}
 use Rattle.rq_standard.proofs.Contradictions.{contradicts_more}
-use Rattle.rq_standard.proofs.Firsts.{or_later-none}
 
 abbrev Waits : ReceivedBlock → Type 0
 Waits h = CanAnswer h → ⊥
@@ -30,14 +29,14 @@ later-stays : (o later : Option (List ℕ)) → is_some o ≡ true → or_later 
 later-stays None later received = absurd (cc received)
 later-stays (Some x) later received = refl
 
-pub repeat-same : (was now : ℕ → Option (List ℕ)) (esi : ℕ) (payload : List ℕ) (kept : Bool) → is_some (was esi) ≡ not kept → ((e : ℕ) → now e ≡ or_later (was e) (cond (eqb esi e) (Some payload) None)) → kept ≡ false → (e : ℕ) → now e ≡ was e
+pub repeat-same : (was now : ℕ → Option (List ℕ)) (esi : ℕ) (payload : List ℕ) (kept : Bool) → is_some (was esi) ≡ not kept → AddsUnlessThere esi payload was now → kept ≡ false → (e : ℕ) → now e ≡ was e
 repeat-same was now esi payload kept received grown same_ids e = elim (cases_eq esi e) [
   | inl is ↦ grown e ∙ later-stays (was e) _ (subst (λ k. is_some (was k) ≡ true) is (received ∙ ap not same_ids))
-  | inr ne ↦ grown e ∙ ap (λ b. or_later (was e) (cond b (Some payload) None)) (ne_eqb esi e ne) ∙ or_later-none (was e)
+  | inr ne ↦ added_elsewhere was now esi payload grown e ne
 ]
 
 pub waits-repeat : (h : ReceivedBlock) (received : ℕ → Option (List ℕ)) (esi : ℕ) (payload : List ℕ) (kept : Bool) → Waits h → is_some (h.received esi) ≡ not kept
-    → ((e : ℕ) → received e ≡ or_later (h.received e) (cond (eqb esi e) (Some payload) None)) → kept ≡ false → Waits (record h { received = received })
+    → AddsUnlessThere esi payload h.received received → kept ≡ false → Waits (record h { received = received })
 waits-repeat h received esi payload kept waits there grown same_ids = waits-same h received (repeat-same h.received received esi payload kept there grown same_ids) waits
 
 -- ---- a contradiction
@@ -46,7 +45,7 @@ pub contradictory-same : (h : ReceivedBlock) (received : ℕ → Option (List �
 contradictory-same h received same c = subst (λ (f : ℕ → Option (List ℕ)). IsContradictory (record h { received = f })) (λ i e. sym (same e) i) c
 
 -- whatever comes after it
-pub contradictory-later : (h : ReceivedBlock) (received : ℕ → Option (List ℕ)) (esi : ℕ) (payload : List ℕ) → ((e : ℕ) → received e ≡ or_later (h.received e) (cond (eqb esi e) (Some payload) None)) → IsContradictory h → IsContradictory (record h { received = received })
+pub contradictory-later : (h : ReceivedBlock) (received : ℕ → Option (List ℕ)) (esi : ℕ) (payload : List ℕ) → AddsUnlessThere esi payload h.received received → IsContradictory h → IsContradictory (record h { received = received })
 contradictory-later h received esi payload grown c = contradictory-same (with_received h esi payload) received grown (contradicts_more h esi payload c)
 
 -- ---- a column that shows that ids don't determine a block
@@ -60,23 +59,6 @@ shown-same row k has now column same shows = subst (λ (f : ℕ → Bool). Shows
 
 -- one more was received, whose equation the column solves
 module _ (row : TableRow) (k : ℕ) (has now : ℕ → Bool) (esi : ℕ) (fits : k ≤ row.extended_symbols) (more : (e : ℕ) → now e ≡ true → (has e ≡ true) ⊎ (e ≡ esi)) where
-  known-more : (x : ℕ) → known_ids row k now x ≡ true → (known_ids row k has x ≡ true) ⊎ (x ≡ internal_id row k esi)
-  known-more x known = elim (cases_lt x k) [
-    | inl below ↦ elim (more x (sym (known_source row k x now below) ∙ known)) [
-      | inl was ↦ inl (known_source row k x has below ∙ was)
-      | inr is ↦ inr (is ∙ sym (internal_below row k esi (omega (arith, is, below))))
-    ]
-    | inr from ↦ elim (cases_lt x row.extended_symbols) [
-      | inl padding ↦ inl (known_padding row k x has from padding)
-      | inr past ↦ elim (more (x + k - row.extended_symbols) (sym (known_repair row k x now from past) ∙ known)) [
-        | inl was ↦ inl (known_repair row k x has from past ∙ was)
-        | inr is ↦
-            let above : k ≤ esi = omega (arith, is, past) in
-            inr (sym (internal_above row k esi above ∙ omega (arith, is, past, fits)))
-      ]
-    ]
-  ]
-
   pub shown-more : (column : Option (Vec ℕ Global)) → ForSome column (λ octets. SolvesEsi row k esi octets.items) → Shows row k has column → Shows row k now column
   shown-more column solves shows = λ octets is.
       let old = shows octets is in
@@ -85,7 +67,7 @@ module _ (row : TableRow) (k : ℕ) (has now : ℕ → Bool) (esi : ℕ) (fits :
         elements = old.elements;
         solves = record {
           precode = old.solves.precode;
-          each = λ x known. elim (known-more x known) [ inl was ↦ old.solves.each x was | inr same ↦ rw same (solves octets is) ];
+          each = λ x known. elim (known-more row k has now (λ e. e ≡ esi) fits more x known) [ inl was ↦ old.solves.each x was | inr new ↦ rw (new.2, new.1) (solves octets is) ];
         };
         nonzero = old.nonzero;
       }
@@ -107,8 +89,8 @@ shown-undetermined row k has None some shows determined = absurd (cc some)
 shown-undetermined row k has (Some octets) some shows determined = let shown = shows octets refl in shown.nonzero (determined (at octets.items) shown.elements shown.solves)
 
 -- a payload that is kept where none of its id was there
-pub came-more : (was now : ℕ → Option (List ℕ)) (esi : ℕ) (payload : List ℕ) → ((e : ℕ) → now e ≡ or_later (was e) (cond (eqb esi e) (Some payload) None)) → (e : ℕ) → is_some (now e) ≡ true → (is_some (was e) ≡ true) ⊎ (e ≡ esi)
+pub came-more : (was now : ℕ → Option (List ℕ)) (esi : ℕ) (payload : List ℕ) → AddsUnlessThere esi payload was now → (e : ℕ) → is_some (now e) ≡ true → (is_some (was e) ≡ true) ⊎ (e ≡ esi)
 came-more was now esi payload grown e came = elim (cases_eq esi e) [
   | inl is ↦ inr (sym is)
-  | inr apart ↦ inl (ap is_some (sym (grown e ∙ ap (λ b. or_later (was e) (cond b (Some payload) None)) (ne_eqb esi e apart) ∙ or_later-none (was e))) ∙ came)
+  | inr apart ↦ inl (ap is_some (sym (added_elsewhere was now esi payload grown e apart)) ∙ came)
 ]

@@ -1,5 +1,5 @@
 -- The bytes of an object that isn't answered: what each block makes of them.
-use Rattle.std.proofs.Common.{◌≡◌, ℕ, zero, suc, ◌+◌, ◌<◌, ◌≤◌, cond, eqb, Bool, true, false, List, [], ◌∷◌, ◌++◌, length, get_or, take, map, All, Option, Some, None, refl, sym, ap, ◌∙◌, subst, arith, inl, inr}
+use Rattle.std.proofs.Common.{◌≡◌, ℕ, suc, ◌+◌, ◌<◌, ◌≤◌, cond, eqb, Bool, true, false, List, [], ◌++◌, length, take, map, All, Option, Some, None, refl, sym, ap, ◌∙◌, subst, arith, inl, inr}
 use Rattle.std.specs.Prelude.{IsSome, is_some, is_none, unwrap_or, MatchBool, ◌&&◌}
 use Rattle.std.specs.List.{range_with_len}
 use Rattle.std.proofs.lemmas.Bool.{cases_lt, eq-eqb, ne_eqb}
@@ -19,19 +19,23 @@ use Rattle.raptorq.specs.SourceBlockDecoder.{received_of}
 use Rattle.raptorq.specs.Decoder.{received_at, answer_at}
 use Rattle.raptorq.specs.Difference.{ShowsUnanswered, octets_of_column}
 use Rattle.raptorq.specs.declared.decoder.object.ObjectBlock.{ObjectBlock}
-use Rattle.raptorq.proofs.Numbered.{length-numbered, number_at}
+use Rattle.raptorq.proofs.Numbered.{length-numbered, number_at, some_at}
 use Rattle.raptorq.proofs.ObjectBlocks.{state, block_number, received_here}
 
 -- a block's bytes, by what was received of it
 abbrev difference_block : Configuration → List ObjectBlock → (ℕ → Option (List ℕ)) → ℕ → List ℕ
 difference_block c items columns b = first_octets_block c (block_symbols c b) (plain_sum (received_at c items b).row (at (unwrap_or (columns b) [])))
 
+-- whether no column was found of the first n blocks, or one of some block
+abbrev pub TellsFound : Bool → ℕ → (ℕ → Option (List ℕ)) → Type 0
+TellsFound none n columns = MatchBool none ((b : ℕ) → b < n → columns b ≡ None) ((b : ℕ) × (b < n) × IsSome (columns b))
+
 -- the first n blocks: what was found of each of them, and whether nothing was
 pub record DifferenceSoFar (c : Configuration) (items : List ObjectBlock) (n : ℕ) (none : Bool) (bytes : List ℕ) : Type 0 where
   pub columns : ℕ → Option (List ℕ)
   pub shows : (b : ℕ) → b < n → ShowsUnanswered (received_at c items b) (answer_at items b) (columns b)
   pub appended : bytes ≡ pieces (difference_block c items columns) n
-  pub told : MatchBool none ((b : ℕ) → b < n → columns b ≡ None) ((b : ℕ) × (b < n) × IsSome (columns b))
+  pub told : TellsFound none n columns
 
 pub nothing_found : (c : Configuration) (items : List ObjectBlock) (bytes : List ℕ) → bytes ≡ [] → DifferenceSoFar c items 0 true bytes
 nothing_found c items bytes is = record {
@@ -54,8 +58,7 @@ module _ (c : Configuration) (items : List ObjectBlock) (n : ℕ) (none : Bool) 
   unfolding with_one
   before b below = ap (λ t. cond t column (so.columns b)) (ne_eqb b n (λ e. omega (arith, e)))
 
-  told_more : (t : Bool) (o : Option (List ℕ)) → o ≡ column → MatchBool t ((b : ℕ) → b < n → so.columns b ≡ None) ((b : ℕ) × (b < n) × IsSome (so.columns b))
-      → MatchBool (t && is_none o) ((b : ℕ) → b < n + 1 → with_one b ≡ None) ((b : ℕ) × (b < n + 1) × IsSome (with_one b))
+  told_more : (t : Bool) (o : Option (List ℕ)) → o ≡ column → TellsFound t n so.columns → TellsFound (t && is_none o) (n + 1) with_one
   told_more true None is all = λ b below. elim (cases_lt b n) [ inl lt ↦ before b lt ∙ all b lt | inr past ↦ let same : n ≡ b = omega arith in ap with_one (sym same) ∙ here ∙ sym is ]
   told_more true (Some xs) is all = (n, omega arith, subst IsSome (sym (here ∙ sym is)) refl)
   told_more false o is found = (found.0, omega (arith, found.1), subst IsSome (sym (before found.0 found.1)) found.2)
@@ -72,7 +75,7 @@ module _ (c : Configuration) (items : List ObjectBlock) (n : ℕ) (none : Bool) 
           | inr past ↦ let same : n ≡ b = omega arith in subst (λ m. ShowsUnanswered (received_at c items m) (answer_at items m) (with_one m)) same (subst (ShowsUnanswered (received_at c items n) (answer_at items n)) (sym here) shows)
         ];
         appended = grown ∙ ap (λ xs. xs ++ block) (so.appended ∙ pieces_same (difference_block c items so.columns) (difference_block c items with_one) n (λ b below. ap (λ o. first_octets_block c (block_symbols c b) (plain_sum (received_at c items b).row (at (unwrap_or o [])))) (sym (before b below)))) ∙ ap (λ xs. pieces (difference_block c items with_one) n ++ xs) own ∙ ap (pieces (difference_block c items with_one)) (sym next);
-        told = subst (λ u. MatchBool u ((b : ℕ) → b < n + 1 → with_one b ≡ None) ((b : ℕ) × (b < n + 1) × IsSome (with_one b))) (sym flag) (told_more none column refl so.told);
+        told = subst (λ u. TellsFound u (n + 1) with_one) (sym flag) (told_more none column refl so.told);
       }
 
 -- ---- all blocks
@@ -127,27 +130,24 @@ module _ (c : Configuration) (items : List ObjectBlock) where
 -- ---- what was received of the object's blocks
 
 module _ (c : Configuration) (items : List ObjectBlock) (numbered : map block_number items ≡ range_with_len 0 c.source_blocks) (cut : All (λ b. (received_of b.decoder).source_symbols ≡ block_symbols c (received_of b.decoder).number) items) where
-  some_block : (xs : List ObjectBlock) (b : ℕ) → b < length xs → (x : ObjectBlock) × (x ≡ get_or xs b x)
-  some_block [] b below = absurd (omega arith)
-  some_block (x ∷ xs) zero below = (x, refl)
-  some_block (x ∷ xs) (suc b) below = some_block xs b (omega arith)
+  -- what was received of a number is what its block has, which is cut so
+  at_number : (b : ℕ) → b < c.source_blocks → (x : ObjectBlock) × (received_at c items b ≡ received_of x.decoder) × ((received_of x.decoder).source_symbols ≡ block_symbols c b)
+  at_number b below =
+      let inside : b < length items = omega (arith, length-numbered block_number c.source_blocks items numbered) in
+      let found = some_at items b inside in
+      let x = found.0 in (
+        x,
+        received_here c items b x inside found.1,
+        ap (λ y. (received_of y.decoder).source_symbols) found.1 ∙ cut b x inside ∙ ap (λ y. block_symbols c (received_of y.decoder).number) (sym found.1) ∙ ap (block_symbols c) (number_at block_number c.source_blocks items numbered b x below found.1),
+      )
 
   pub block_is_cut : (b : ℕ) → b < c.source_blocks → (received_at c items b).source_symbols ≡ block_symbols c b
-  block_is_cut b below =
-      let long = length-numbered block_number c.source_blocks items numbered in
-      let inside : b < length items = omega (arith, long) in
-      let found = some_block items b inside in
-      let x = found.0 in
-      ap (λ h. h.source_symbols) (received_here c items b x inside found.1) ∙ ap (λ y. (received_of y.decoder).source_symbols) found.1 ∙ cut b x inside ∙ ap (λ y. block_symbols c (received_of y.decoder).number) (sym found.1) ∙ ap (block_symbols c) (number_at block_number c.source_blocks items numbered b x below found.1)
+  block_is_cut b below = let found = at_number b below in ap (λ h. h.source_symbols) found.1 ∙ found.2
 
   pub received_has_row : (b : ℕ) → b < c.source_blocks → HasRow (received_at c items b).row (block_symbols c b)
   received_has_row b below =
-      let long = length-numbered block_number c.source_blocks items numbered in
-      let inside : b < length items = omega (arith, long) in
-      let found = some_block items b inside in
-      let x = found.0 in
-      let here = received_here c items b x inside found.1 in
-      record {
-        checked = subst (λ (h : ReceivedBlock). IsChecked h.row) (sym here) x.decoder.row.checked;
-        fits = subst (λ n. n ≤ (received_at c items b).row.extended_symbols) (block_is_cut b below) (subst (λ (h : ReceivedBlock). h.source_symbols ≤ h.row.extended_symbols) (sym here) x.decoder.fits);
+      let found = at_number b below in
+      let x = found.0 in record {
+        checked = subst (λ (h : ReceivedBlock). IsChecked h.row) (sym found.1) x.decoder.row.checked;
+        fits = subst (λ n. n ≤ (received_at c items b).row.extended_symbols) (block_is_cut b below) (subst (λ (h : ReceivedBlock). h.source_symbols ≤ h.row.extended_symbols) (sym found.1) x.decoder.fits);
       }

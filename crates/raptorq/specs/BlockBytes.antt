@@ -26,7 +26,8 @@ abbrev pub PartsMakeObject : State → Type 0
 PartsMakeObject s = first_blocks s.configuration.source_blocks (answered_part s) ≡ result_of s
 
 -- what is answered of a block after a list of the object's packets: the object's bytes in it, exactly where the list determines it, unless its answer is late
-pub record IsPartAnswer (table : List TableRow) (c : Configuration) (object : List ℕ) (packets : List Packet) (b : ℕ) (late : Bool) (answer : Option (List ℕ)) : Type 0 where
+pub record IsPartAnswer (table : List TableRow) (c : Configuration) (object : List ℕ) (packets : List Packet)
+    (b : ℕ) (late : Bool) (answer : Option (List ℕ)) : Type 0 where
   pub part : IfSome answer (λ bytes. bytes ≡ bytes_of_block c object b)
   pub only : IsSome answer → DetermineBlock (block_row table c b) (block_symbols c b) (has_id b packets)
   pub each : late ≡ false → DetermineBlock (block_row table c b) (block_symbols c b) (has_id b packets) → IsSome answer

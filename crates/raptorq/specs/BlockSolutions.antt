@@ -72,6 +72,11 @@ FindsWithoutHdpc row ids answer = MatchOption answer (NeedsNoHdpc row ids → �
 abbrev pub SparesHdpc : TableRow → List ℕ → Option BlockOperations → Type 0
 SparesHdpc row ids answer = NeedsNoHdpc row ids → IsSomeAnd answer (λ solution. solution.precode_rows ≡ row.ldpc_symbols)
 
+-- a slab has a symbol of its size for each intermediate symbol of a row
+pub record HasIntermediate (row : TableRow) (slab : Slab) : Type 0 where
+  pub enough : intermediate_symbols row ≤ length (symbols_in slab)
+  pub symbols : IsSymbolColumn octets slab.symbol_size (intermediate_symbols row) (symbol_in slab)
+
 -- the intermediate symbols in a slab, from the values of the equations
 pub record IsBlockSolution (row : TableRow) (precode_rows : ℕ) (ids : List ℕ) (size : ℕ) (values : List (List ℕ)) (slab : Slab) : Type 0 where
   pub determined : HasDeterminedRows row ids

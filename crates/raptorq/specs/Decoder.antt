@@ -1,5 +1,5 @@
 -- What the decoder of an object shows.
-use Rattle.std.specs.Prelude.{◌≡◌, ℕ, List, Option, None, option_map, map, vec_items, slice_index_or}
+use Rattle.std.specs.Prelude.{◌≡◌, ◌<◌, ◌≤◌, ℕ, List, Option, None, MatchOption, option_map, map, vec_items, slice_index_or}
 use Rattle.rq_standard.specs.TableRows.{no_row}
 use Rattle.rq_standard.specs.Configuration.{Configuration}
 use Rattle.rq_standard.specs.ReceivedBlock.{ReceivedBlock, nothing_received}
@@ -23,6 +23,16 @@ answer_at blocks n = slice_index_or (map answer_of blocks) n None
 -- what it holds, and what it has answered
 abbrev pub state_of : Decoder → State
 state_of d = record { configuration = d.config; received = received_at d.config d.blocks.items; answer = answer_at d.blocks.items }
+
+-- the block of a number
+pub record HoldsBlock (s : State) (number : ℕ) (block : ObjectBlock) : Type 0 where
+  pub known : number < s.configuration.source_blocks
+  pub received : s.received number ≡ received_of block.decoder
+  pub answer : s.answer number ≡ answer_of block
+
+-- it is found, exactly where the object has one of that number
+abbrev pub IsBlockAt : State → ℕ → Option ObjectBlock → Type 0
+IsBlockAt s number found = MatchOption found (s.configuration.source_blocks ≤ number) (HoldsBlock s number)
 
 -- what a decoder answers: the object, exactly where its packets determine it
 pub record IsAnswerOf (s : State) (answer : Option (List ℕ)) : Type 0 where

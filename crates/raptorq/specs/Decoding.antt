@@ -26,7 +26,8 @@ abbrev pub AreTaken : ReceivedBlock → List Packet → Type 0
 AreTaken h packets = AllByRecursion (λ p. block_refusal h p ≡ Ok tt) packets
 
 -- the packets that an iterator gave end with one that stopped the call; those before it are recorded
-pub record StopsAtLast {T : Type 0} (steps : T → Option Packet → T → Type 0) (iterator : T) (old : ReceivedBlock) (packets : List Packet) (Stops : Result (Unit {0}) Error → Type 0) (new : ReceivedBlock) : Type 0 where
+pub record StopsAtLast {T : Type 0} (steps : T → Option Packet → T → Type 0) (iterator : T)
+    (old : ReceivedBlock) (packets : List Packet) (Stops : Result (Unit {0}) Error → Type 0) (new : ReceivedBlock) : Type 0 where
   pub after : T
   pub gave : Yields steps iterator packets after
   pub front : List Packet
@@ -37,7 +38,8 @@ pub record StopsAtLast {T : Type 0} (steps : T → Option Packet → T → Type 
   pub stopped : Stops (block_refusal old last)
 
 -- all packets that an iterator gives are recorded
-pub record RecordsAll {T : Type 0} (steps : T → Option Packet → T → Type 0) (iterator : T) (old : ReceivedBlock) (packets : List Packet) (new : ReceivedBlock) : Type 0 where
+pub record RecordsAll {T : Type 0} (steps : T → Option Packet → T → Type 0) (iterator : T)
+    (old : ReceivedBlock) (packets : List Packet) (new : ReceivedBlock) : Type 0 where
   pub drained : Drains steps iterator packets
   pub taken : AreTaken old packets
   pub recorded : new ≡ all_recorded old packets
@@ -46,14 +48,16 @@ pub record RecordsAll {T : Type 0} (steps : T → Option Packet → T → Type 0
 abbrev pub IsUnanswered : ReceivedBlock → Error → Type 0
 IsUnanswered h e = (e ≡ OutOfMemory) ⊎ ((e ≡ Contradiction) × IsContradictory h)
 
--- The packets are recorded and the block is answered where it is determined; or they are recorded, and there is no memory for the answer or they are contradictory; or the last one is refused or finds no memory.
+-- The packets are recorded and the block is answered where it is determined; or they are recorded, and there is no memory for the
+-- answer or they are contradictory; or the last one is refused or finds no memory.
 abbrev pub Decodes : {T : Type 0} → (T → Option Packet → T → Type 0) → T → ReceivedBlock → List Packet → Result (Option (List ℕ)) Error → ReceivedBlock → Type 0
 Decodes steps iterator old packets (Ok answer) new = RecordsAll steps iterator old packets new × IsBlockAnswer new answer
 Decodes steps iterator old packets (Err e) new =
     (RecordsAll steps iterator old packets new × IsUnanswered new e) ⊎ StopsAtLast steps iterator old packets (IsRefusal e) new
 
 -- what `Decodes` says, by the place where the call stopped
-abbrev pub DecodesUntil : {T : Type 0} → (T → Option Packet → T → Type 0) → T → ReceivedBlock → List Packet → Result (Option (List ℕ)) PacketStop → ReceivedBlock → Type 0
+abbrev pub DecodesUntil : {T : Type 0} → (T → Option Packet → T → Type 0) → T → ReceivedBlock → List Packet
+    → Result (Option (List ℕ)) PacketStop → ReceivedBlock → Type 0
 DecodesUntil steps iterator old packets (Ok answer) new = RecordsAll steps iterator old packets new × IsBlockAnswer new answer
 DecodesUntil steps iterator old packets (Err NotSolved) new = RecordsAll steps iterator old packets new
 DecodesUntil steps iterator old packets (Err Contradicted) new = RecordsAll steps iterator old packets new × IsContradictory new
@@ -68,8 +72,10 @@ pub record OverPackets {S T : Type 0} (becomes : S → T → Type 0) (source : S
   pub made : becomes source iterator
   pub decodes : P iterator packets
 
-abbrev pub DecodesFrom : {S T : Type 0} → (S → T → Type 0) → (T → Option Packet → T → Type 0) → S → ReceivedBlock → Result (Option (List ℕ)) Error → ReceivedBlock → Type 0
+abbrev pub DecodesFrom : {S T : Type 0} → (S → T → Type 0) → (T → Option Packet → T → Type 0) → S → ReceivedBlock
+    → Result (Option (List ℕ)) Error → ReceivedBlock → Type 0
 DecodesFrom becomes steps source old result new = OverPackets becomes source (λ iterator packets. Decodes steps iterator old packets result new)
 
-abbrev pub DecodesOrStops : {S T : Type 0} → (S → T → Type 0) → (T → Option Packet → T → Type 0) → S → ReceivedBlock → Result (Option (List ℕ)) PacketStop → ReceivedBlock → Type 0
+abbrev pub DecodesOrStops : {S T : Type 0} → (S → T → Type 0) → (T → Option Packet → T → Type 0) → S → ReceivedBlock
+    → Result (Option (List ℕ)) PacketStop → ReceivedBlock → Type 0
 DecodesOrStops becomes steps source old result new = OverPackets becomes source (λ iterator packets. DecodesUntil steps iterator old packets result new)

@@ -8,7 +8,8 @@ use Rattle.rq_standard.specs.ReceivedBlock.{ReceivedBlock, has_received, Receive
 -- a column of octets, of a block without an answer; where there is none, what was received determines a block without an answer
 abbrev pub ShowsUnanswered : ReceivedBlock → Option (List ℕ) → Option (List ℕ) → Type 0
 ShowsUnanswered h answer column =
-    MatchOption column (answer ≡ None → ReceivedDetermine h) (λ xs. (answer ≡ None) × IsHomogeneous h.row (known_ids h.row h.source_symbols (has_received h)) xs)
+    MatchOption column (answer ≡ None → ReceivedDetermine h)
+    (λ xs. (answer ≡ None) × IsHomogeneous h.row (known_ids h.row h.source_symbols (has_received h)) xs)
 
 -- the block whose symbols begin with the octets that a column has for them; no column is one of zeros
 abbrev pub octets_of_column : ReceivedBlock → Option (List ℕ) → List ℕ

@@ -24,9 +24,13 @@ has_payload received e = is_some (payload_of received e)
 abbrev pub received_block : Configuration → ℕ → TableRow → ℕ → Payloads → ReceivedBlock
 received_block c number row k received = record { configuration = c; number = number; row = row; source_symbols = k; received = payload_of received }
 
--- the payload of an id was put there, unless one of it was there
+-- new has what old has at each id, and at this id the value, where old has none
+abbrev pub AddsUnlessThere : ℕ → List ℕ → (ℕ → Option (List ℕ)) → (ℕ → Option (List ℕ)) → Type 0
+AddsUnlessThere id value old new = (e : ℕ) → new e ≡ or_later (old e) (if id == e then Some value else None)
+
+-- a map of payloads has that of an encoding symbol id too, where it had none of it before
 abbrev pub KeepsFirst : ℕ → List ℕ → Payloads → Payloads → Type 0
-KeepsFirst esi payload old new = (e : ℕ) → payload_of new e ≡ or_later (payload_of old e) (if esi == e then Some payload else None)
+KeepsFirst esi payload old new = AddsUnlessThere esi payload (payload_of old) (payload_of new)
 
 -- how many of the ids below n are missing
 unfoldable pub missing_count : ℕ → (ℕ → Bool) → ℕ

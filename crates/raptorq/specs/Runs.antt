@@ -40,7 +40,8 @@ abbrev pub AnswersNext : {X : Type 0} → List TableRow → Configuration → Li
 AnswersNext table c earlier p (Ok x) = IsNextRefusal table c earlier p (Ok tt)
 AnswersNext table c earlier p (Err e) = (e ≡ OutOfMemory) ⊎ IsNextRefusal table c earlier p (Err e)
 
--- A decoder follows packets that were received: a block has an answer exactly where what was received of it can answer it, and of each block without one all packets are recorded.
+-- A decoder follows packets that were received: a block has an answer exactly where what was received of it can answer it, and of each
+-- block without one all packets are recorded.
 pub record FollowsRun (table : List TableRow) (earlier : List Packet) (s : State) : Type 0 where
   pub received : HasReceivedRun table earlier s
   pub answers : (b : ℕ) → b < s.configuration.source_blocks → IsSome (s.answer b) ↔ CanAnswer (received_after table s.configuration b earlier)

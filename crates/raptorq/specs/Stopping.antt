@@ -42,7 +42,8 @@ StopsAnswer NotRecorded h = ⊥
 StopsAnswer NotJoined h = ⊥
 StopsAnswer (Refused e) h = ⊥
 
--- What a packet of a block did to what was received and to its answer: where it wasn't recorded, nothing; where the block wasn't solved or is contradictory, it is recorded.
+-- What a packet of a block did to what was received and to its answer: where it wasn't recorded, nothing; where the block wasn't solved
+-- or is contradictory, it is recorded.
 abbrev pub AddsHereOrStops : ReceivedBlock → Option (List ℕ) → Packet → Result (Unit {0}) PacketStop → ReceivedBlock → Option (List ℕ) → Type 0
 AddsHereOrStops old before p (Ok x) new after = AddsToBlock old before p new after
 AddsHereOrStops old before p (Err NotSolved) new after = RecordsInBlock old before p new after

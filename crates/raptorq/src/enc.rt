@@ -1,10 +1,8 @@
 //! The sum at the indices of an internal symbol id.
 ghost use Rattle.std.specs.Prelude.{◌≡◌, ◌<◌, ◌≤◌, [], ◌++◌, length, take, IfOk};
-ghost use Rattle.rq_algebra.specs.Symbols.{IsSymbolColumn};
-ghost use Rattle.rq_bytes.specs.SymbolSlab.{symbol_in, symbols_in};
+ghost use Rattle.rq_bytes.specs.SymbolSlab.{symbol_in};
 ghost use Rattle.rq_standard.specs.Equations.{tuple_sum};
-ghost use Rattle.rq_standard.specs.OctetField.{octets};
-ghost use Rattle.rq_standard.specs.TableRows.{intermediate_symbols};
+ghost use Rattle.raptorq.specs.BlockSolutions.{HasIntermediate};
 
 use rq_base::indices::Indices;
 use rq_bytes::symbol_slab::SymbolSlab;
@@ -22,8 +20,7 @@ pub(crate) fn encoding_symbol(
     intermediate: &SymbolSlab,
     internal_symbol_id: u32,
 ) -> Result<Vec<u8>, AllocError>
-    requires enough { intermediate_symbols row.now.numbers ≤ length (symbols_in intermediate.now) }
-    requires symbols { IsSymbolColumn octets intermediate.now.symbol_size (intermediate_symbols row.now.numbers) (symbol_in intermediate.now) }
+    requires { HasIntermediate row.now.numbers intermediate.now }
     ensures sum { IfOk result (λ v. v.items ≡ tuple_sum row.now.numbers (symbol_in intermediate.now) internal_symbol_id) }
 {
     let mut symbol = vec![in alloc; 0u8; intermediate.symbol_size()]?;

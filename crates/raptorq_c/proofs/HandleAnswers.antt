@@ -111,7 +111,7 @@ unread_bytes s bytes e refusal = record {
   short = λ _. refl;
   takes = unread_packet s e (read_packet bytes) refusal;
   stops = λ _. inl refl;
-  leaves_late = λ _ table object packets late stands of_object. inl stands;
+  leaves_late = λ _ honest. inl honest.stands;
   leaves_refused = λ _ _. refl;
 }
 

@@ -108,7 +108,8 @@ pub record IsPartOf (s : State) (block : ℕ) (part : Option (List ℕ)) : Type 
   pub object : AnswersPart s block part
   pub whole : PartsMakeObject s
 
--- What a call answers and does to a buffer: it is filled with the object's bytes in a block of the decoder that is held (0), or is as it was. 14 says that there is no such block, and 26 that no decoder is held.
+-- What a call answers and does to a buffer: it is filled with the object's bytes in a block of the decoder that is held (0), or is as it was.
+-- 14 says that there is no such block, and 26 that no decoder is held.
 pub record FillsWithBlock (held : Option State) (block answer : ℕ) (before after : List ℕ) : Type 0 where
   pub none : (answer ≡ 26) ↔ (held ≡ None)
   pub number : IfSome held (λ _. (answer ≡ 14) ⊎ IsFilled answer)
@@ -167,7 +168,8 @@ pub record FillsWithPacket (held : Option Encoded) (block esi answer : ℕ) (bef
   pub no_room : answer ≡ 24 → IsSomeAnd held (λ e. HasNoRoom e block esi (length before))
   pub kept : answer ≢ 0 → after ≡ before
 
--- What a call answers and writes of a block of the decoder that is held: how many packets it needs (0), or nothing. 14 says that there is no such block, 22 that it is contradictory, and 26 that no decoder is held.
+-- What a call answers and writes of a block of the decoder that is held: how many packets it needs (0), or nothing.
+-- 14 says that there is no such block, 22 that it is contradictory, and 26 that no decoder is held.
 pub record WritesMissing (held : Option State) (block answer before after : ℕ) : Type 0 where
   pub none : (answer ≡ 26) ↔ (held ≡ None)
   pub number : IfSome held (λ _. (answer ≡ 0) ⊎ (answer ≡ 14) ⊎ (answer ≡ 22))

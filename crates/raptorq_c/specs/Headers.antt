@@ -11,7 +11,13 @@ use Rattle.raptorq_c.specs.declared.rows.Row.{Row}
 use Rattle.raptorq_c.specs.FurtherRows.{table_of}
 
 abbrev pub parameters_of : Parameters → Configuration
-parameters_of p = record { transfer_length = p.transfer_length; symbol_size = p.symbol_size; source_blocks = p.source_blocks; sub_blocks = p.sub_blocks; alignment = p.alignment }
+parameters_of p = record {
+  transfer_length = p.transfer_length;
+  symbol_size = p.symbol_size;
+  source_blocks = p.source_blocks;
+  sub_blocks = p.sub_blocks;
+  alignment = p.alignment;
+}
 
 -- the configuration of an object of these numbers, over the table of these rows
 abbrev pub derived_configuration : List Row → ℕ → ℕ → ℕ → Result Configuration Error

@@ -12,7 +12,8 @@ use Rattle.raptorq_c.specs.Sizes.{bytes_of_packets}
 abbrev pub AreFramesOf : List Row → Configuration → List ℕ → ℕ → List ℕ → Type 0
 AreFramesOf rows c object repair bytes = HoldsOver rows (λ table. AppendsObject table c object repair [] bytes)
 
--- Why no packets are written: for want of memory (21), for a row that is refused (19), for what refuses the packets, of which a singular row is 9, or for room of another length (24).
+-- Why no packets are written: for want of memory (21), for a row that is refused (19), for what refuses the packets, of which a
+-- singular row is 9, or for room of another length (24).
 pub data StopsEncoding (rows : List Row) (c : Configuration) (object : List ℕ) (repair room : ℕ) (number : ℕ) : Type 0 where
   no_memory : number ≡ 21 → StopsEncoding rows c object repair room number
   refused : (e : Error) → RefusesOver rows (λ table. RefusesPackets table c (length object) repair) e

@@ -5,11 +5,10 @@ use Rattle.std.proofs.KnownBytes.{Keeps-refl}
 use Rattle.rq_bytes.specs.declared.error.Error.{Error}
 use Rattle.rq_bytes.specs.declared.error.Error.TheVariants.{OutOfMemory}
 use Rattle.rq_standard.specs.Configuration.{Configuration}
-use Rattle.rq_standard.specs.Streams.{frame_size, frames_in}
 use Rattle.rq_standard.specs.declared.row.TableRow.{TableRow}
 use Rattle.raptorq.specs.Runs.{IsRunRefusal}
 use Rattle.raptorq.proofs.FollowedRuns.{refused_by}
-use Rattle.rq_streams.specs.Frames.{kept_packets}
+use Rattle.rq_streams.specs.Frames.{packets_in_bytes}
 use Rattle.rq_streams.specs.declared.run.Outcome.{Outcome}
 use Rattle.rq_streams.specs.declared.run.Outcome.TheVariants.{Written, Incomplete}
 use Rattle.rq_streams.specs.declared.run.Stop.{Stop}
@@ -18,12 +17,12 @@ use Rattle.rq_streams.specs.Ends.{Wanted, Ends, EndsAs}
 use Rattle.rq_streams.specs.ReceivedStreams.{header_configuration, IsStreamRefusal}
 
 -- the refusal of a stream whose header was read is that of its run
-pub refused_run : (table : List TableRow) (c : Configuration) (bytes : List ℕ) (r : Result (Unit {0}) Error) → Ok c ≡ header_configuration bytes → IsRunRefusal table c (kept_packets c (frames_in (frame_size c) (drop 12 bytes))) r → IsStreamRefusal table bytes r
-refused_run table c bytes r read run = subst (λ h. MatchResult h (λ k. IsRunRefusal table k (kept_packets k (frames_in (frame_size k) (drop 12 bytes))) r) (λ e. r ≡ Err e)) read run
+pub refused_run : (table : List TableRow) (c : Configuration) (bytes : List ℕ) (r : Result (Unit {0}) Error) → Ok c ≡ header_configuration bytes → IsRunRefusal table c (packets_in_bytes c (drop 12 bytes)) r → IsStreamRefusal table bytes r
+refused_run table c bytes r read run = subst (λ h. MatchResult h (λ k. IsRunRefusal table k (packets_in_bytes k (drop 12 bytes)) r) (λ e. r ≡ Err e)) read run
 
 -- and that of one whose header wasn't is the header's
 pub refused_header : (table : List TableRow) (e : Error) (bytes : List ℕ) → Err e ≡ header_configuration bytes → IsStreamRefusal table bytes (Err e)
-refused_header table e bytes read = subst (λ h. MatchResult h (λ k. IsRunRefusal table k (kept_packets k (frames_in (frame_size k) (drop 12 bytes))) (Err e)) (λ w. refused_by e ≡ Err w)) read refl
+refused_header table e bytes read = subst (λ h. MatchResult h (λ k. IsRunRefusal table k (packets_in_bytes k (drop 12 bytes)) (Err e)) (λ w. refused_by e ≡ Err w)) read refl
 
 -- a run ends as it is wanted, where it ends as one thing that is
 pub ends_wanted : (result : Result Outcome Stop) (old new : Option (List ℕ)) (wanted : Wanted) (P : Wanted → Type 0) → P wanted → Ends result old new wanted → EndsAs result old new P
@@ -44,7 +43,3 @@ stopped_ends wanted = stopped_as (λ w. wanted ≡ w)
 pub if_some_all : (o : Option (List ℕ)) (P : List ℕ → Type 0) → ((xs : List ℕ) → P xs) → IfSome o P
 if_some_all None P h = tt
 if_some_all (Some xs) P h = h xs
-
-pub if_some_more : (o : Option (List ℕ)) (P Q : List ℕ → Type 0) → ((xs : List ℕ) → P xs → Q xs) → IfSome o P → IfSome o Q
-if_some_more None P Q more h = tt
-if_some_more (Some xs) P Q more h = more xs h

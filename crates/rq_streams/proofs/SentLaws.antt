@@ -19,8 +19,8 @@ use Rattle.rq_base.proofs.Accepted.{both_ok, five_tests, accepted_by}
 use Rattle.raptorq.specs.Building.{default_settings}
 use Rattle.raptorq.specs.Refused.{new_encoder}
 use Rattle.raptorq.specs.Encoder.{packets_refusal}
-use Rattle.rq_streams.specs.Sent.{default_parameters, sent_configuration, IsStreamSent, Sends, IsSent}
-use Rattle.rq_streams.specs.SentStreams.{IsSentStream}
+use Rattle.rq_streams.specs.Sent.{default_parameters, sent_configuration, IsStreamSent, Sends}
+use Rattle.rq_streams.specs.SentStreams.{IsSentStream, SentStreamsAreTaken}
 
 small_alignment : (b : Bool) → cond b 8 1 < 2 ^ 8
 small_alignment true = omega arith
@@ -92,38 +92,36 @@ sent_steps table s object c h =
 same_stream : (xs ys : List ℕ) → written xs ≡ written ys → xs ≡ ys
 same_stream xs ys h = cc
 
-sent_by : (table : List TableRow) (s repair : ℕ) (object stream : List ℕ) (c : Configuration) → IsTable table → s < 2 ^ 16 → sent_configuration table s object ≡ Ok c → HasNonsingularRows table c → IsStreamSent table c repair object (Ok (Some stream)) → IsSentStream table repair object stream
-sent_by table s repair object stream c checked small configured_by nonsingular sent =
-    let steps = sent_steps table s object c configured_by in
-    let taken = both_ok (checked_configuration (greatest_size table) c) _ tt steps.1 in
-    let fits = fits_by table (length object) s c small steps.0 in
-    record {
-      configuration = c;
-      packets = sent.packets;
-      encoded = sent.encoded;
-      whole = same_stream stream (stream_of c sent.packets) sent.spelled;
-      taken = λ some of_it. record {
-        stream_run = record {
-          checked = checked;
-          fits = fits.0;
-          accepted = accepted_by (greatest_size table) c taken.1;
-          run = record { long = sym fits.1; nonsingular = nonsingular; honest = among table c object sent.packets some sent.encoded.each of_it };
+module _ (table : List TableRow) (s repair : ℕ) (object stream : List ℕ) (checked : IsTable table) (small : s < 2 ^ 16) where
+  sent_by : (c : Configuration) → sent_configuration table s object ≡ Ok c → HasNonsingularRows table c → IsStreamSent table c repair object (Ok (Some stream)) → IsSentStream table repair object stream
+  sent_by c configured_by nonsingular sent =
+      let steps = sent_steps table s object c configured_by in
+      let taken = both_ok (checked_configuration (greatest_size table) c) _ tt steps.1 in
+      let fits = fits_by table (length object) s c small steps.0 in
+      record {
+        configuration = c;
+        packets = sent.packets;
+        encoded = sent.encoded;
+        whole = same_stream stream (stream_of c sent.packets) sent.spelled;
+        taken = λ some of_it. record {
+          stream_run = record {
+            checked = checked;
+            fits = fits.0;
+            accepted = accepted_by (greatest_size table) c taken.1;
+            run = record { long = sym fits.1; nonsingular = nonsingular; honest = among table c object sent.packets some sent.encoded.each of_it };
+          };
+          spelled = refl;
         };
-        spelled = refl;
-      };
-    }
+      }
 
-encoded_by : (table : List TableRow) (c : Configuration) (repair : ℕ) (object stream : List ℕ) (r : Result (Unit {0}) Error) → MatchResult r (λ _. IsStreamSent table c repair object (Ok (Some stream))) (λ e. written stream ≡ Err e) → IsStreamSent table c repair object (Ok (Some stream))
-encoded_by table c repair object stream (Ok x) h = h
-encoded_by table c repair object stream (Err e) h = absurd (cc h)
+  encoded_by : (c : Configuration) (r : Result (Unit {0}) Error) → MatchResult r (λ _. IsStreamSent table c repair object (Ok (Some stream))) (λ e. written stream ≡ Err e) → IsStreamSent table c repair object (Ok (Some stream))
+  encoded_by c (Ok x) h = h
+  encoded_by c (Err e) h = absurd (cc h)
 
-sends_by : (table : List TableRow) (s repair : ℕ) (object stream : List ℕ) (c : Configuration) → IsTable table → s < 2 ^ 16 → sent_configuration table s object ≡ Ok c → Sends table c repair object (Ok (Some stream)) → IsSentStream table repair object stream
-sends_by table s repair object stream c checked small is (inl singular) = absurd (cc singular.0)
-sends_by table s repair object stream c checked small is (inr sends) = sent_by table s repair object stream c checked small is sends.0 (encoded_by table c repair object stream (packets_refusal c repair) sends.1)
+  by_configuration : (r : Result Configuration Error) → sent_configuration table s object ≡ r → MatchResult r (λ c. Sends table c repair object (Ok (Some stream))) (λ e. written stream ≡ Err e) → IsSentStream table repair object stream
+  by_configuration (Ok c) is (inl singular) = absurd (cc singular.0)
+  by_configuration (Ok c) is (inr sends) = sent_by c is sends.0 (encoded_by c (packets_refusal c repair) sends.1)
+  by_configuration (Err e) is h = absurd (cc h)
 
-by_configuration : (table : List TableRow) (s repair : ℕ) (object stream : List ℕ) (r : Result Configuration Error) → IsTable table → s < 2 ^ 16 → sent_configuration table s object ≡ r → MatchResult r (λ c. Sends table c repair object (Ok (Some stream))) (λ e. written stream ≡ Err e) → IsSentStream table repair object stream
-by_configuration table s repair object stream (Ok c) checked small is h = sends_by table s repair object stream c checked small is h
-by_configuration table s repair object stream (Err e) checked small is h = absurd (cc h)
-
-pub sent_stream : (table : List TableRow) (s repair : ℕ) (object stream : List ℕ) → IsTable table → s < 2 ^ 16 → IsSent table s repair object (Ok (Some stream)) → IsSentStream table repair object stream
-sent_stream table s repair object stream checked small h = by_configuration table s repair object stream (sent_configuration table s object) checked small refl h
+pub sent_stream : SentStreamsAreTaken
+sent_stream table s repair object stream checked small h = by_configuration table s repair object stream checked small (sent_configuration table s object) refl h

@@ -14,7 +14,7 @@ use Rattle.rq_standard.proofs.PacketBytes.{id_of_bytes-id_bytes, packet_of_bytes
 use Rattle.raptorq.specs.Refused.{packet_refusal}
 use Rattle.raptorq.proofs.Lists.{length-packet_bytes}
 use Rattle.rq_standard.specs.Streams.{frame_size, frames_in}
-use Rattle.rq_streams.specs.Frames.{is_skipped, kept_packet, kept_packets, skipped_count}
+use Rattle.rq_streams.specs.Frames.{is_skipped, kept_packet, kept_packets, skipped_count, packets_in_bytes, skipped_in_bytes}
 use Rattle.rq_streams.specs.MixedStreams.{Frame, Holds, Other, frame_bytes, packets_among, others_among, IsOtherFrame, rest_count, other_count}
 use Rattle.rq_streams.proofs.FrameCuts.{rest_frames, frames_in-mixed}
 
@@ -80,37 +80,41 @@ module _ (table : List TableRow) (c : Configuration) (object : List ℕ) where
   all_long (Holds p ∷ frames) fill others = (length-packet_bytes table c object p fill.0.row fill.0.source, all_long frames fill.1 others)
   all_long (Other bytes ∷ frames) fill others = (others.0.long, all_long frames fill others.1)
 
-  kept_rest : (rest : List ℕ) → length rest < frame_size c → kept_packets c (rest_frames rest) ≡ []
-  kept_rest [] short = refl
-  kept_rest (b ∷ rest) short = ap (λ s. cons_option (cond s None (Some (packet_of_bytes (b ∷ rest)))) []) (is_skipped-short c (b ∷ rest) short)
+  -- a rest is skipped
+  rest_skipped : (rest : List ℕ) → length rest < frame_size c → (kept_packets c (rest_frames rest) ≡ []) × (skipped_count c (rest_frames rest) ≡ rest_count rest)
+  rest_skipped [] short = (refl, refl)
+  rest_skipped (b ∷ rest) short =
+      let skipped = is_skipped-short c (b ∷ rest) short in
+      (ap (λ s. cons_option (cond s None (Some (packet_of_bytes (b ∷ rest)))) []) skipped, skipped_count-cons c (b ∷ rest) [] ∙ ap (λ s. cond s 1 0 + skipped_count c []) skipped)
 
-  skipped_rest : (rest : List ℕ) → length rest < frame_size c → skipped_count c (rest_frames rest) ≡ rest_count rest
-  skipped_rest [] short = refl
-  skipped_rest (b ∷ rest) short = skipped_count-cons c (b ∷ rest) [] ∙ ap (λ s. cond s 1 0 + skipped_count c []) (is_skipped-short c (b ∷ rest) short)
-
-  kept_all : (frames : List Frame) (rest : List ℕ) → AllByRecursion (FillsFrame table c object) (packets_among frames) → AllByRecursion (IsOtherFrame c) (others_among frames) → length rest < frame_size c → kept_packets c (map frame_bytes frames ++ rest_frames rest) ≡ packets_among frames
-  kept_all [] rest fill others short = kept_rest rest short
-  kept_all (Holds p ∷ frames) rest fill others short =
-      let left = kept_packets c (map frame_bytes frames ++ rest_frames rest) in
-      ap (λ s. cons_option (cond s None (Some (packet_of_bytes (packet_bytes p)))) left) (is_skipped-packet table c object p fill.0)
-      ∙ ap (λ q. q ∷ left) (read_back table c object p fill.0) ∙ ap (λ ps. p ∷ ps) (kept_all frames rest fill.1 others short)
-  kept_all (Other bytes ∷ frames) rest fill others short =
-      ap (λ s. cons_option (cond s None (Some (packet_of_bytes bytes))) (kept_packets c (map frame_bytes frames ++ rest_frames rest))) (is_skipped-other c bytes others.0)
-      ∙ kept_all frames rest fill others.1 short
-
-  skipped_all : (frames : List Frame) (rest : List ℕ) → AllByRecursion (FillsFrame table c object) (packets_among frames) → AllByRecursion (IsOtherFrame c) (others_among frames) → length rest < frame_size c → skipped_count c (map frame_bytes frames ++ rest_frames rest) ≡ other_count frames rest
-  skipped_all [] rest fill others short = skipped_rest rest short ∙ omega arith
-  skipped_all (Holds p ∷ frames) rest fill others short =
+  -- so are the frames that hold no packet, and the packets of the others are kept
+  kept_and_skipped : (frames : List Frame) (rest : List ℕ) → AllByRecursion (FillsFrame table c object) (packets_among frames) → AllByRecursion (IsOtherFrame c) (others_among frames) → length rest < frame_size c
+      → (kept_packets c (map frame_bytes frames ++ rest_frames rest) ≡ packets_among frames) × (skipped_count c (map frame_bytes frames ++ rest_frames rest) ≡ other_count frames rest)
+  kept_and_skipped [] rest fill others short = let both = rest_skipped rest short in (both.0, both.1 ∙ omega arith)
+  kept_and_skipped (Holds p ∷ frames) rest fill others short =
       let left = map frame_bytes frames ++ rest_frames rest in
-      skipped_count-cons c (packet_bytes p) left ∙ ap (λ s. cond s 1 0 + skipped_count c left) (is_skipped-packet table c object p fill.0) ∙ omega (arith, skipped_all frames rest fill.1 others short)
-  skipped_all (Other bytes ∷ frames) rest fill others short =
+      let both = kept_and_skipped frames rest fill.1 others short in
+      let taken = is_skipped-packet table c object p fill.0 in (
+        ap (λ s. cons_option (cond s None (Some (packet_of_bytes (packet_bytes p)))) (kept_packets c left)) taken
+            ∙ ap (λ q. q ∷ kept_packets c left) (read_back table c object p fill.0) ∙ ap (λ ps. p ∷ ps) both.0,
+        skipped_count-cons c (packet_bytes p) left ∙ ap (λ s. cond s 1 0 + skipped_count c left) taken ∙ omega (arith, both.1),
+      )
+  kept_and_skipped (Other bytes ∷ frames) rest fill others short =
       let left = map frame_bytes frames ++ rest_frames rest in
-      skipped_count-cons c bytes left ∙ ap (λ s. cond s 1 0 + skipped_count c left) (is_skipped-other c bytes others.0) ∙ omega (arith, skipped_all frames rest fill others.1 short)
+      let both = kept_and_skipped frames rest fill others.1 short in
+      let skipped = is_skipped-other c bytes others.0 in (
+        ap (λ s. cons_option (cond s None (Some (packet_of_bytes bytes))) (kept_packets c left)) skipped ∙ both.0,
+        skipped_count-cons c bytes left ∙ ap (λ s. cond s 1 0 + skipped_count c left) skipped ∙ omega (arith, both.1),
+      )
 
-  -- the packets that are kept of a mixed stream are those among its frames
-  pub kept_packets-mixed : (frames : List Frame) (rest : List ℕ) → AllByRecursion (FillsFrame table c object) (packets_among frames) → AllByRecursion (IsOtherFrame c) (others_among frames) → length rest < frame_size c → kept_packets c (frames_in (frame_size c) (flat_map frame_bytes frames ++ rest)) ≡ packets_among frames
-  kept_packets-mixed frames rest fill others short = ap (kept_packets c) (frames_in-mixed (frame_size c) frames rest (omega arith) (all_long frames fill others) short) ∙ kept_all frames rest fill others short
+  module _ (frames : List Frame) (rest : List ℕ) (fill : AllByRecursion (FillsFrame table c object) (packets_among frames)) (others : AllByRecursion (IsOtherFrame c) (others_among frames)) (short : length rest < frame_size c) where
+    are_cut : frames_in (frame_size c) (flat_map frame_bytes frames ++ rest) ≡ map frame_bytes frames ++ rest_frames rest
+    are_cut = frames_in-mixed (frame_size c) frames rest (omega arith) (all_long frames fill others) short
 
-  -- and what is skipped are the others and the rest
-  pub skipped_count-mixed : (frames : List Frame) (rest : List ℕ) → AllByRecursion (FillsFrame table c object) (packets_among frames) → AllByRecursion (IsOtherFrame c) (others_among frames) → length rest < frame_size c → skipped_count c (frames_in (frame_size c) (flat_map frame_bytes frames ++ rest)) ≡ other_count frames rest
-  skipped_count-mixed frames rest fill others short = ap (skipped_count c) (frames_in-mixed (frame_size c) frames rest (omega arith) (all_long frames fill others) short) ∙ skipped_all frames rest fill others short
+    -- the packets that are kept of a mixed stream are those among its frames
+    pub kept_packets-mixed : packets_in_bytes c (flat_map frame_bytes frames ++ rest) ≡ packets_among frames
+    kept_packets-mixed = ap (kept_packets c) are_cut ∙ (kept_and_skipped frames rest fill others short).0
+
+    -- and what is skipped are the others and the rest
+    pub skipped_count-mixed : skipped_in_bytes c (flat_map frame_bytes frames ++ rest) ≡ other_count frames rest
+    skipped_count-mixed = ap (skipped_count c) are_cut ∙ (kept_and_skipped frames rest fill others short).1

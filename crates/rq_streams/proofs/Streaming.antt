@@ -3,6 +3,7 @@ use Rattle.std.proofs.Common.{◌≡◌, ℕ, ◌%◌, ◌<◌, false, cond, ltb
 use Rattle.std.specs.Prelude.{IsSome, IfSome}
 use Rattle.std.specs.List.{AllByRecursion}
 use Rattle.std.proofs.lemmas.Bool.{le-ltb, ne_eqb}
+use Rattle.std.proofs.lemmas.Option.{IfSome_then}
 use Rattle.std.proofs.KnownBytes.{Keeps-refl}
 use Rattle.rq_bytes.specs.declared.error.Error.{Error}
 use Rattle.rq_bytes.specs.declared.error.Error.TheVariants.{HeaderTooShort}
@@ -10,18 +11,17 @@ use Rattle.rq_standard.specs.Packet.{Packet}
 use Rattle.rq_standard.specs.Configuration.{Configuration, IsConfiguration, IsAccepted, largest_block, configuration_of_bytes}
 use Rattle.rq_standard.specs.declared.row.TableRow.{TableRow}
 use Rattle.rq_standard.specs.TableRows.{IsTable, greatest_size}
-use Rattle.rq_standard.specs.Headline.{IsPacketOf, IsObjectAnswer}
+use Rattle.rq_standard.specs.Headline.{IsAnswerable, IsObjectAnswer, IsOnlyObject, IsPacketOf}
 use Rattle.rq_standard.proofs.BlockRows.{block_has_row, answerable_only}
 use Rattle.rq_base.specs.RefusedInput.{checked_configuration}
 use Rattle.rq_streams.specs.declared.run.Outcome.{Outcome}
 use Rattle.rq_streams.specs.declared.run.Stop.{Stop}
-use Rattle.rq_standard.specs.Streams.{frame_size, frames_in}
-use Rattle.rq_streams.specs.Frames.{kept_packets, skipped_count, skipped_in}
+use Rattle.rq_streams.specs.Frames.{skipped_in, packets_in_bytes, skipped_in_bytes}
 use Rattle.rq_streams.specs.MixedStreams.{Frame, packets_among, other_count, IsMixedStream}
 use Rattle.rq_streams.specs.declared.run.Stop.TheVariants.{Refused}
-use Rattle.rq_streams.specs.ReceivedStreams.{header_configuration, IsWantedOf, WantsDetermined, WantsOnlyObject, AnswersStream, RefusesStream, RefusesFirst, ReceivesExactly, ReceivesWhereAnyCan, CountsOthers}
+use Rattle.rq_streams.specs.ReceivedStreams.{header_configuration, IsWantedOf, WantsWhere, AnswersStream, RefusesStream, RefusesFirst, ReceivesExactly, ReceivesWhereAnyCan, CountsOthers}
 use Rattle.rq_streams.specs.Ends.{Wanted, Ends, EndsAs, outcome_of}
-use Rattle.rq_streams.proofs.Refusing.{if_some_all, if_some_more}
+use Rattle.rq_streams.proofs.Refusing.{if_some_all}
 use Rattle.rq_streams.proofs.Skipping.{FillsFrame, kept_packets-mixed, skipped_count-mixed}
 
 abbrev taken : Configuration → Result Configuration Error
@@ -67,28 +67,28 @@ module _ (table : List TableRow) (c : Configuration) (object : List ℕ) (frames
   stream_fills = all_fills table c object (packets_among frames) s.stream_run.checked s.stream_run.accepted s.stream_run.fits s.stream_run.run.honest
 
   -- the packets that are kept are those among the frames
-  pub stream_packets : kept_packets c (frames_in (frame_size c) (drop 12 bytes)) ≡ packets_among frames
-  stream_packets = ap (λ xs. kept_packets c (frames_in (frame_size c) xs)) s.spelled ∙ kept_packets-mixed table c object frames rest stream_fills s.others s.short
+  pub stream_packets : packets_in_bytes c (drop 12 bytes) ≡ packets_among frames
+  stream_packets = ap (packets_in_bytes c) s.spelled ∙ kept_packets-mixed table c object frames rest stream_fills s.others s.short
 
   -- and what is skipped are the other frames
   stream_skipped : skipped_in bytes ≡ other_count frames rest
   stream_skipped =
-      ap (λ d. skipped_count d (frames_in (frame_size d) (drop 12 bytes))) s.header
-      ∙ ap (λ xs. skipped_count c (frames_in (frame_size c) xs)) s.spelled
+      ap (λ d. skipped_in_bytes d (drop 12 bytes)) s.header
+      ∙ ap (skipped_in_bytes c) s.spelled
       ∙ skipped_count-mixed table c object frames rest stream_fills s.others s.short
 
   -- what is answered is what is wanted
-  wants_by : (answer : Option (List ℕ)) (result : Result Outcome Stop) (old new : Option (List ℕ)) → IsObjectAnswer table c object (packets_among frames) answer → Ends result old new (Ok answer) → WantsDetermined table c object (packets_among frames) (Ends result old new)
+  wants_by : (answer : Option (List ℕ)) (result : Result Outcome Stop) (old new : Option (List ℕ)) → IsObjectAnswer table c object (packets_among frames) answer → Ends result old new (Ok answer) → WantsWhere (IsAnswerable table c (packets_among frames)) object (Ends result old new)
   wants_by answer result old new a ends = record {
-    determined = λ d. subst (λ x. Ends result old new (Ok x)) (a.whole d) ends;
-    undetermined = λ u. subst (λ x. Ends result old new (Ok x)) (none_of answer (λ some. u (a.only some))) ends;
+    holds = λ d. subst (λ x. Ends result old new (Ok x)) (a.whole d) ends;
+    fails = λ u. subst (λ x. Ends result old new (Ok x)) (none_of answer (λ some. u (a.only some))) ends;
   }
 
   -- an object is determined exactly where no other one fits
-  wants_where_any_can : (P : Wanted → Type 0) → WantsDetermined table c object (packets_among frames) P → WantsOnlyObject table c object (packets_among frames) P
+  wants_where_any_can : (P : Wanted → Type 0) → WantsWhere (IsAnswerable table c (packets_among frames)) object P → WantsWhere (IsOnlyObject table c (packets_among frames) object) object P
   wants_where_any_can P w =
       let same = answerable_only table c object (packets_among frames) s.stream_run.checked s.stream_run.accepted s.stream_run.run in
-      record { only = λ o. w.determined (same.1 o); others = λ no. w.undetermined (λ d. no (same.0 d)) }
+      record { holds = λ o. w.holds (same.1 o); fails = λ no. w.fails (λ d. no (same.0 d)) }
 
 -- ---- a run that reads this input, and behind whose writer this stood before and after
 
@@ -96,13 +96,13 @@ module _ (table : List TableRow) (result : Result (Outcome × ℕ) Stop) (input 
   -- whatever is wanted, where it stopped before
   pub receives_stopped : ((wanted : Wanted) → Ends (outcome_of result) old new wanted) → ReceivesExactly table result input old new
   receives_stopped ends = if_some_all input _ (λ bytes c object frames rest s. record {
-    determined = λ d. ends (Ok (Some object));
-    undetermined = λ u. ends (Ok None);
+    holds = λ d. ends (Ok (Some object));
+    fails = λ u. ends (Ok None);
   })
 
   -- no receiver can do better
   pub receives_where_any_can : ReceivesExactly table result input old new → ReceivesWhereAnyCan table result input old new
-  receives_where_any_can wants = if_some_more input _ _ (λ bytes w c object frames rest s. wants_where_any_can table c object frames rest bytes s (Ends (outcome_of result) old new) (w c object frames rest s)) wants
+  receives_where_any_can wants = IfSome_then input wants (λ bytes w c object frames rest s. wants_where_any_can table c object frames rest bytes s (Ends (outcome_of result) old new) (w c object frames rest s))
 
 -- where these bytes were read
 module _ (table : List TableRow) (input : Option (List ℕ)) (read bytes : List ℕ) (same : bytes ≡ read) (all : IfSome input (λ xs. read ≡ xs)) where
@@ -111,20 +111,20 @@ module _ (table : List TableRow) (input : Option (List ℕ)) (read bytes : List 
 
   -- what is wanted, where it ended with an answer
   pub receives_by : (result : Result (Outcome × ℕ) Stop) (old new answer : Option (List ℕ)) → AnswersStream table bytes answer → Ends (outcome_of result) old new (Ok answer) → ReceivesExactly table result input old new
-  receives_by result old new answer answers ends = if_some_more input (λ xs. read ≡ xs) _ (λ xs is c object frames rest s.
-      wants_by table c object frames rest xs s answer (outcome_of result) old new (answers c object frames rest (mixed_before c object frames rest xs is s)) ends) all
+  receives_by result old new answer answers ends = IfSome_then input all (λ xs is c object frames rest s.
+      wants_by table c object frames rest xs s answer (outcome_of result) old new (answers c object frames rest (mixed_before c object frames rest xs is s)) ends)
 
   -- what is wanted, where it ends so
   pub receives_wanted : (result : Result (Outcome × ℕ) Stop) (old new : Option (List ℕ)) → EndsAs (outcome_of result) old new (IsWantedOf table bytes) → RefusesFirst table result input old new
-  receives_wanted result old new ends = if_some_more input (λ xs. read ≡ xs) _ (λ xs is. subst (λ ys. EndsAs (outcome_of result) old new (IsWantedOf table ys)) (same ∙ is) ends) all
+  receives_wanted result old new ends = IfSome_then input all (λ xs is. subst (λ ys. EndsAs (outcome_of result) old new (IsWantedOf table ys)) (same ∙ is) ends)
 
   -- a refusal for want of memory, and then nothing is written
   pub receives_refused : (e : Error) (old : Option (List ℕ)) → RefusesStream table bytes e → ReceivesExactly table (Err (Refused e)) input old old
-  receives_refused e old refuses = if_some_more input (λ xs. read ≡ xs) _ (λ xs is c object frames rest s.
+  receives_refused e old refuses = IfSome_then input all (λ xs is c object frames rest s.
       let memory = refuses c object frames rest (mixed_before c object frames rest xs is s) in
-      record { determined = λ d. (inl memory, Keeps-refl old); undetermined = λ u. (inl memory, Keeps-refl old) }) all
+      record { holds = λ d. (inl memory, Keeps-refl old); fails = λ u. (inl memory, Keeps-refl old) })
 
   -- the frames that are skipped are the others
   pub counts_others : (outcome : Outcome) (skipped : ℕ) → skipped ≡ skipped_in bytes → CountsOthers table (Ok (outcome, skipped)) input
-  counts_others outcome skipped counted = if_some_more input (λ xs. read ≡ xs) _ (λ xs is c object frames rest s.
-      counted ∙ stream_skipped table c object frames rest bytes (mixed_before c object frames rest xs is s)) all
+  counts_others outcome skipped counted = IfSome_then input all (λ xs is c object frames rest s.
+      counted ∙ stream_skipped table c object frames rest bytes (mixed_before c object frames rest xs is s))

@@ -14,7 +14,7 @@ use Rattle.raptorq.specs.TakesPacket.{TakesPacket}
 use Rattle.raptorq.proofs.FollowedRuns.{one_passes, one_stops}
 use Rattle.raptorq.proofs.Lists.{all_at}
 use Rattle.rq_standard.specs.Streams.{frame_size, frames_in}
-use Rattle.rq_streams.specs.Frames.{is_skipped, kept_packet, kept_packets, skipped_count}
+use Rattle.rq_streams.specs.Frames.{is_skipped, kept_packet, kept_packets, skipped_count, packets_in_bytes, skipped_in_bytes}
 use Rattle.rq_streams.specs.ReceivedStreams.{StandsForFrames, IsFramesRefusal}
 use Rattle.rq_standard.proofs.FrameLaws.{frames_in-next, frames_in-none}
 use Rattle.rq_streams.proofs.Skipping.{skipped_count-cons}
@@ -22,12 +22,12 @@ use Rattle.rq_streams.proofs.Skipping.{skipped_count-cons}
 -- The frames so far are taken or skipped: the packets of these and of those that are left are the packets of all, and few enough are skipped.
 pub record AreFramesTaken (c : Configuration) (bytes left : List ℕ) (skipped : ℕ) (old now : State) : Type 0 where
   pub done : List Packet
-  pub whole : kept_packets c (frames_in (frame_size c) bytes) ≡ done ++ kept_packets c (frames_in (frame_size c) left)
-  pub counted : skipped_count c (frames_in (frame_size c) bytes) ≡ skipped + skipped_count c (frames_in (frame_size c) left)
+  pub whole : packets_in_bytes c bytes ≡ done ++ packets_in_bytes c left
+  pub counted : skipped_in_bytes c bytes ≡ skipped + skipped_in_bytes c left
   pub few : skipped + length left ≤ length bytes
   pub passed : (table : List TableRow) → FollowsRun table [] old → IsRefusalBehind table c [] done (Ok tt)
   pub follows : (table : List TableRow) → FollowsRun table [] old → FollowsRun table done now
-  pub stands : (table : List TableRow) (object : List ℕ) → StandsFor table object [] old → AllByRecursion (IsPacketOf table c object) (kept_packets c (frames_in (frame_size c) bytes)) → StandsFor table object done now
+  pub stands : (table : List TableRow) (object : List ℕ) → StandsFor table object [] old → AllByRecursion (IsPacketOf table c object) (packets_in_bytes c bytes) → StandsFor table object done now
 
 kept_by : (skipped : Bool) (q p : Packet) → Some p ≡ cond skipped None (Some q) → skipped ≡ false
 kept_by true q p h = absurd (cc h)
@@ -48,20 +48,20 @@ module _ (c : Configuration) (bytes before after frame : List ℕ) (size skipped
   longer : length before ≡ length frame + length after
   longer = ap length is.0 ∙ length-append frame after
 
-  counted_next : (b : Bool) → is_skipped c frame ≡ b → skipped_count c (frames_in (frame_size c) bytes) ≡ skipped + (cond b 1 0 + skipped_count c (frames_in (frame_size c) after))
-  counted_next b h = t.counted ∙ ap (λ fs. skipped + skipped_count c fs) cut ∙ ap (λ n. skipped + n) (skipped_count-cons c frame (frames_in (frame_size c) after)) ∙ ap (λ d. skipped + (cond d 1 0 + skipped_count c (frames_in (frame_size c) after))) h
+  counted_next : (b : Bool) → is_skipped c frame ≡ b → skipped_in_bytes c bytes ≡ skipped + (cond b 1 0 + skipped_in_bytes c after)
+  counted_next b h = t.counted ∙ ap (λ fs. skipped + skipped_count c fs) cut ∙ ap (λ n. skipped + n) (skipped_count-cons c frame (frames_in (frame_size c) after)) ∙ ap (λ d. skipped + (cond d 1 0 + skipped_in_bytes c after)) h
 
-  whole_next : (o : Option Packet) → o ≡ kept_packet c frame → kept_packets c (frames_in (frame_size c) bytes) ≡ t.done ++ cons_option o (kept_packets c (frames_in (frame_size c) after))
-  whole_next o kept = t.whole ∙ ap (λ fs. t.done ++ kept_packets c fs) cut ∙ ap (λ d. t.done ++ cons_option d (kept_packets c (frames_in (frame_size c) after))) (sym kept)
+  whole_next : (o : Option Packet) → o ≡ kept_packet c frame → packets_in_bytes c bytes ≡ t.done ++ cons_option o (packets_in_bytes c after)
+  whole_next o kept = t.whole ∙ ap (λ fs. t.done ++ kept_packets c fs) cut ∙ ap (λ d. t.done ++ cons_option d (packets_in_bytes c after)) (sym kept)
 
   -- the frame's packet is the object's, where all are
-  honest_frame : (p : Packet) → now.configuration ≡ c → Some p ≡ kept_packet c frame → (table : List TableRow) (object : List ℕ) → AllByRecursion (IsPacketOf table c object) (kept_packets c (frames_in (frame_size c) bytes)) → IsPacketOf table now.configuration object p
+  honest_frame : (p : Packet) → now.configuration ≡ c → Some p ≡ kept_packet c frame → (table : List TableRow) (object : List ℕ) → AllByRecursion (IsPacketOf table c object) (packets_in_bytes c bytes) → IsPacketOf table now.configuration object p
   honest_frame p same kept table object honest =
       subst (λ k. IsPacketOf table k object p) (sym same)
-      (all_at (IsPacketOf table c object) t.done (kept_packets c (frames_in (frame_size c) after)) p (subst (AllByRecursion (IsPacketOf table c object)) (whole_next (Some p) kept) honest))
+      (all_at (IsPacketOf table c object) t.done (packets_in_bytes c after) p (subst (AllByRecursion (IsPacketOf table c object)) (whole_next (Some p) kept) honest))
 
   -- so it isn't refused
-  pub honest_packet : (p : Packet) → now.configuration ≡ c → Some p ≡ kept_packet c frame → (table : List TableRow) (object : List ℕ) → StandsFor table object [] old → AllByRecursion (IsPacketOf table c object) (kept_packets c (frames_in (frame_size c) bytes)) → IsHonestPacket now p
+  pub honest_packet : (p : Packet) → now.configuration ≡ c → Some p ≡ kept_packet c frame → (table : List TableRow) (object : List ℕ) → StandsFor table object [] old → AllByRecursion (IsPacketOf table c object) (packets_in_bytes c bytes) → IsHonestPacket now p
   honest_packet p same kept table object st honest = record {
     table = table;
     object = object;
@@ -79,12 +79,12 @@ module _ (c : Configuration) (bytes before after frame : List ℕ) (size skipped
         | inr first ↦ first
       ] in
       subst (λ ps. IsRefusalBehind table c [] ps (Err e)) (sym (whole_next (Some p) kept))
-      (one_stops table c t.done (kept_packets c (frames_in (frame_size c) after)) p e (t.passed table none) (subst (λ k. IsNextRefusal table k t.done p (Err e)) same next))
+      (one_stops table c t.done (packets_in_bytes c after) p e (t.passed table none) (subst (λ k. IsNextRefusal table k t.done p (Err e)) same next))
 
   -- one packet more
   pub taken_packet : {X : Type 0} (p : Packet) (x : X) (new : State) → now.configuration ≡ c → Some p ≡ kept_packet c frame → TakesPacket now p (Ok x) new → AreFramesTaken c bytes after skipped old new
   taken_packet p x new same kept takes =
-      let more = kept_packets c (frames_in (frame_size c) after) in
+      let more = packets_in_bytes c after in
       record {
         done = t.done ++ p ∷ [];
         whole = whole_next (Some p) kept ∙ sym (append_assoc t.done (p ∷ []) more);
@@ -112,10 +112,10 @@ module _ (c : Configuration) (bytes left : List ℕ) (skipped : ℕ) (old now : 
   no_frames : frames_in (frame_size c) left ≡ []
   no_frames = frames_in-none (frame_size c) left none
 
-  pub taken_count : skipped ≡ skipped_count c (frames_in (frame_size c) bytes)
+  pub taken_count : skipped ≡ skipped_in_bytes c bytes
   taken_count = sym (t.counted ∙ ap (λ fs. skipped + skipped_count c fs) no_frames ∙ omega arith)
 
-  all_done : kept_packets c (frames_in (frame_size c) bytes) ≡ t.done
+  all_done : packets_in_bytes c bytes ≡ t.done
   all_done = t.whole ∙ ap (λ fs. t.done ++ kept_packets c fs) no_frames ∙ append-nil t.done
 
   pub taken_all : StandsForFrames c old bytes now

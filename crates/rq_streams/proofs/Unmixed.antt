@@ -1,16 +1,14 @@
 -- A stream of an object's packets is a mixed stream with nothing skipped.
-use Rattle.std.proofs.Common.{◌≡◌, ℕ, List, [], ◌∷◌, ◌++◌, map, take, drop, refl, sym, ap, ◌∙◌, subst, arith, append-nil, length, length-append}
+use Rattle.std.proofs.Common.{◌≡◌, List, [], ◌∷◌, ◌++◌, map, take, drop, refl, sym, ap, ◌∙◌, subst, arith, append-nil, length, length-append}
 use Rattle.std.specs.Prelude.{flat_map}
 use Rattle.std.specs.List.{AllByRecursion}
 use Rattle.std.proofs.lemmas.List.{take_at, drop_at}
 use Rattle.rq_standard.specs.Packet.{Packet, packet_bytes}
 use Rattle.rq_standard.specs.Configuration.{Configuration, header_bytes, configuration_of_bytes}
-use Rattle.rq_standard.specs.declared.row.TableRow.{TableRow}
 use Rattle.rq_standard.specs.Streams.{frames_of}
 use Rattle.rq_standard.proofs.HeaderBytes.{configuration_of_bytes-header_bytes}
 use Rattle.rq_streams.specs.MixedStreams.{Frame, Holds, frame_bytes, packets_among, others_among, IsOtherFrame, IsStreamRun}
-use Rattle.rq_streams.specs.ReceivedStreams.{IsStreamOf}
-use Rattle.rq_streams.specs.SentStreams.{IsUnmixed}
+use Rattle.rq_streams.specs.SentStreams.{StreamsAreUnmixed}
 
 abbrev held : List Packet → List Frame
 held packets = map (λ p. Holds p) packets
@@ -31,7 +29,7 @@ length-header_bytes : (c : Configuration) → length (header_bytes c) ≡ 12
 unfolding header_bytes
 length-header_bytes c = refl
 
-pub unmixed_stream : (table : List TableRow) (c : Configuration) (object : List ℕ) (packets : List Packet) (bytes : List ℕ) → IsStreamOf table c object packets bytes → IsUnmixed table c object packets bytes
+pub unmixed_stream : StreamsAreUnmixed
 unmixed_stream table c object packets bytes s = record {
   frames = held packets;
   mixed = record {

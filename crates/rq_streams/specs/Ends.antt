@@ -37,7 +37,8 @@ failed_calls (Err Fault) = 1
 failed_calls (Err (Refused e)) = 0
 
 -- The first failed call of a run ends it, where this stood behind its writer before and after.
-pub record EndsAtFailure {R W X : Type 0} (reader : Counted R) (writer : Counted W) (result : Result X Stop) (reader' : Counted R) (writer' : Counted W) (before after : Option (List ℕ)) : Type 0 where
+pub record EndsAtFailure {R W X : Type 0} (reader : Counted R) (writer : Counted W) (result : Result X Stop)
+    (reader' : Counted R) (writer' : Counted W) (before after : Option (List ℕ)) : Type 0 where
   -- reader and writer together count the failed calls
   pub counts : failed_count reader' + failed_count writer' ≡ failed_count reader + failed_count writer + failed_calls result
   -- the answer is a fault exactly where the count of one of them grew

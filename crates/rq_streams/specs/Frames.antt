@@ -32,6 +32,13 @@ skipped_count c frames = count_by (is_skipped c) frames
 abbrev pub kept_packets : Configuration → List (List ℕ) → List Packet
 kept_packets c frames = filter_map (kept_packet c) frames
 
+-- those of bytes that are cut into frames
+abbrev pub packets_in_bytes : Configuration → List ℕ → List Packet
+packets_in_bytes c bytes = kept_packets c (frames_in (frame_size c) bytes)
+
+abbrev pub skipped_in_bytes : Configuration → List ℕ → ℕ
+skipped_in_bytes c bytes = skipped_count c (frames_in (frame_size c) bytes)
+
 -- how many frames of a stream are skipped
 abbrev pub skipped_in : List ℕ → ℕ
-skipped_in bytes = let c = configuration_in bytes in skipped_count c (frames_in (frame_size c) (bytes_of_frames bytes))
+skipped_in bytes = skipped_in_bytes (configuration_in bytes) (bytes_of_frames bytes)

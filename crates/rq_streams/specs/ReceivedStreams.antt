@@ -9,14 +9,14 @@ use Rattle.rq_standard.specs.declared.row.TableRow.{TableRow}
 use Rattle.rq_standard.specs.Headline.{IsPacketOf, IsAnswerable, IsOnlyObject, IsObjectAnswer}
 use Rattle.rq_standard.specs.DecoderState.{State, result_of}
 use Rattle.rq_standard.specs.Standing.{StandsFor}
-use Rattle.rq_standard.specs.Streams.{stream_of, frame_size, frames_in}
+use Rattle.rq_standard.specs.Streams.{stream_of}
 use Rattle.raptorq.specs.declared.decoder.object.Decoder.{Decoder}
 use Rattle.raptorq.specs.Decoder.{state_of}
 use Rattle.raptorq.specs.Runs.{IsRefusalBehind, IsRunRefusal, FollowsRun}
 use Rattle.rq_streams.specs.declared.run.Outcome.{Outcome}
 use Rattle.rq_streams.specs.declared.run.Stop.{Stop}
 use Rattle.rq_streams.specs.Ends.{Wanted, Ends, EndsAs, outcome_of}
-use Rattle.rq_streams.specs.Frames.{header_length, configuration_in, bytes_of_frames, kept_packets, skipped_in}
+use Rattle.rq_streams.specs.Frames.{header_length, configuration_in, bytes_of_frames, skipped_in, packets_in_bytes}
 use Rattle.rq_streams.specs.MixedStreams.{packets_among, other_count, IsStreamRun, OverMixedStreams}
 
 -- the configuration in a stream's header
@@ -26,7 +26,7 @@ header_configuration bytes = if nat_lt (length bytes) header_length then Err Hea
 -- the first refusal of a stream: of its header, and then of the run of its packets, those of frames that aren't skipped
 abbrev pub IsStreamRefusal : List TableRow → List ℕ → Result (Unit {0}) Error → Type 0
 IsStreamRefusal table bytes r =
-    MatchResult (header_configuration bytes) (λ c. IsRunRefusal table c (kept_packets c (frames_in (frame_size c) (bytes_of_frames bytes))) r) (λ e. r ≡ Err e)
+    MatchResult (header_configuration bytes) (λ c. IsRunRefusal table c (packets_in_bytes c (bytes_of_frames bytes)) r) (λ e. r ≡ Err e)
 
 -- what is wanted of it: that refusal, and where nothing is refused some answer
 abbrev pub IsWantedOf : List TableRow → List ℕ → Wanted → Type 0
@@ -46,14 +46,14 @@ object_of d = unwrap_or (result_of (state_of d)) []
 abbrev pub StandsForFrames : Configuration → State → List ℕ → State → Type 0
 StandsForFrames c old bytes new =
     (table : List TableRow) (object : List ℕ)
-    → let packets = kept_packets c (frames_in (frame_size c) bytes) in
+    → let packets = packets_in_bytes c bytes in
     StandsFor table object [] old → AllByRecursion (IsPacketOf table c object) packets
     → StandsFor table object packets new
 
 -- the first refusal of the packets of frames that aren't skipped, by a decoder that followed no packets
 abbrev pub IsFramesRefusal : Configuration → State → List ℕ → Result (Unit {0}) Error → Type 0
 IsFramesRefusal c old bytes r =
-    (table : List TableRow) → FollowsRun table [] old → IsRefusalBehind table c [] (kept_packets c (frames_in (frame_size c) bytes)) r
+    (table : List TableRow) → FollowsRun table [] old → IsRefusalBehind table c [] (packets_in_bytes c bytes) r
 
 -- they are all taken where nothing is refused, and else stop at that refusal, or for want of memory
 abbrev pub AnswersFrames : {X : Type 0} → Configuration → State → List ℕ → Result X Error → Type 0
@@ -64,7 +64,7 @@ AnswersFrames c old bytes (Err e) = (e ≡ OutOfMemory) ⊎ IsFramesRefusal c ol
 abbrev pub StopsHonestFrames : Configuration → State → List ℕ → Error → Type 0
 StopsHonestFrames c old bytes e =
     (table : List TableRow) (object : List ℕ)
-    → StandsFor table object [] old → AllByRecursion (IsPacketOf table c object) (kept_packets c (frames_in (frame_size c) bytes))
+    → StandsFor table object [] old → AllByRecursion (IsPacketOf table c object) (packets_in_bytes c bytes)
     → e ≡ OutOfMemory
 
 -- the object of a mixed stream, exactly where the packets among its frames determine it
@@ -75,15 +75,10 @@ AnswersStream table bytes answer = OverMixedStreams table bytes (λ c object fra
 abbrev pub RefusesStream : List TableRow → List ℕ → Error → Type 0
 RefusesStream table bytes e = OverMixedStreams table bytes (λ c object frames rest. e ≡ OutOfMemory)
 
--- P of the object where the packets determine it, and of no output where they don't
-pub record WantsDetermined (table : List TableRow) (c : Configuration) (object : List ℕ) (packets : List Packet) (P : Wanted → Type 0) : Type 0 where
-  pub determined : IsAnswerable table c packets → P (Ok (Some object))
-  pub undetermined : (IsAnswerable table c packets → ⊥) → P (Ok None)
-
--- P of the object where no other object fits the packets, and of no output where another does
-pub record WantsOnlyObject (table : List TableRow) (c : Configuration) (object : List ℕ) (packets : List Packet) (P : Wanted → Type 0) : Type 0 where
-  pub only : IsOnlyObject table c packets object → P (Ok (Some object))
-  pub others : (IsOnlyObject table c packets object → ⊥) → P (Ok None)
+-- P of the object where a fact holds, and of no output where it doesn't
+pub record WantsWhere (Fact : Type 0) (object : List ℕ) (P : Wanted → Type 0) : Type 0 where
+  pub holds : Fact → P (Ok (Some object))
+  pub fails : (Fact → ⊥) → P (Ok None)
 
 -- ---- a run that reads this input, and behind whose writer this stood before and after
 
@@ -99,13 +94,13 @@ CountsSkipped result input = IfSome input (λ bytes. IfOk result (λ ended. ende
 abbrev pub ReceivesExactly : List TableRow → Result (Outcome × ℕ) Stop → Option (List ℕ) → Option (List ℕ) → Option (List ℕ) → Type 0
 ReceivesExactly table result input before after =
     IfSome input (λ bytes. OverMixedStreams table bytes (λ c object frames rest.
-    WantsDetermined table c object (packets_among frames) (Ends (outcome_of result) before after)))
+    WantsWhere (IsAnswerable table c (packets_among frames)) object (Ends (outcome_of result) before after)))
 
 -- No receiver can do better: it writes the object exactly where no other object fits the packets.
 abbrev pub ReceivesWhereAnyCan : List TableRow → Result (Outcome × ℕ) Stop → Option (List ℕ) → Option (List ℕ) → Option (List ℕ) → Type 0
 ReceivesWhereAnyCan table result input before after =
     IfSome input (λ bytes. OverMixedStreams table bytes (λ c object frames rest.
-    WantsOnlyObject table c object (packets_among frames) (Ends (outcome_of result) before after)))
+    WantsWhere (IsOnlyObject table c (packets_among frames) object) object (Ends (outcome_of result) before after)))
 
 -- Of a mixed stream it answers how many frames hold no packet, its rest being one of them.
 abbrev pub CountsOthers : List TableRow → Result (Outcome × ℕ) Stop → Option (List ℕ) → Type 0

@@ -3,10 +3,10 @@ ghost use Rattle.std.specs.Prelude.{◌≡◌, ℕ, ◌+◌, ◌^◌, ◌-◌, �
 ghost use Rattle.std.specs.Io.KnownBytes.{Appends};
 ghost use Rattle.raptorq.specs.Decoder.{state_of};
 ghost use Rattle.rq_streams.specs.Counted.{failed_count, inner};
-ghost use Rattle.rq_standard.specs.Streams.{frame_size, frames_in};
+ghost use Rattle.rq_standard.specs.Streams.{frame_size};
 ghost use Rattle.rq_standard.specs.DecoderState.{result_of};
 ghost use Rattle.rq_streams.specs.Ends.{AnswersAs, Ends, EndsAtFailure, failed_calls};
-ghost use Rattle.rq_streams.specs.Frames.{header_length, kept_packet, skipped_count, skipped_in};
+ghost use Rattle.rq_streams.specs.Frames.{header_length, kept_packet, skipped_in, skipped_in_bytes};
 ghost use Rattle.rq_streams.specs.ReceivedStreams.{header_configuration, object_of, StandsForFrames, AnswersFrames, StopsHonestFrames, IsWantedOf, AnswersStream, RefusesStream, RefusesFirst, CountsSkipped, ReceivesExactly, ReceivesWhereAnyCan, CountsOthers};
 
 use crate::counted::Counted;
@@ -59,7 +59,7 @@ fn add_frames(
     frames: &[u8],
 ) -> Result<u64, Error>
     requires { config.now ≡ (state_of decoder.old).configuration }
-    ensures skipped { IfOk result (λ n. n ≡ skipped_count config.now (frames_in (frame_size config.now) frames.now)) }
+    ensures skipped { IfOk result (λ n. n ≡ skipped_in_bytes config.now frames.now) }
     ensures refused { AnswersFrames config.now (state_of decoder.old) frames.now result }
     ensures honest { IfErr result (StopsHonestFrames config.now (state_of decoder.old) frames.now) }
     ensures configuration { (state_of decoder.new).configuration ≡ (state_of decoder.old).configuration }

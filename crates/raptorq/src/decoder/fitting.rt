@@ -1,11 +1,8 @@
 //! Whether intermediate symbols that were found solve all equations of a block.
-ghost use Rattle.std.specs.Prelude.{◌≡◌, ◌+◌, ◌<◌, ◌≤◌, ◌↔◌, IsTrue, length, None, IfOk, IfErr};
-ghost use Rattle.rq_algebra.specs.Symbols.{IsSymbolColumn};
-ghost use Rattle.rq_bytes.specs.SymbolSlab.{symbol_in, symbols_in};
+ghost use Rattle.std.specs.Prelude.{◌≡◌, ◌+◌, ◌<◌, ◌↔◌, IsTrue, length, None, IfOk, IfErr};
+ghost use Rattle.rq_bytes.specs.SymbolSlab.{symbol_in};
 ghost use Rattle.rq_standard.specs.Equations.{before_hdpc};
-ghost use Rattle.rq_standard.specs.OctetField.{octets};
-ghost use Rattle.rq_standard.specs.TableRows.{intermediate_symbols};
-ghost use Rattle.raptorq.specs.BlockSolutions.{SolvesHdpc, Fits};
+ghost use Rattle.raptorq.specs.BlockSolutions.{HasIntermediate, SolvesHdpc, Fits};
 ghost use Rattle.raptorq.specs.HdpcSums.{AreHdpcSums, AreZeroWithLast};
 
 use crate::solving::BlockOperations;
@@ -27,8 +24,7 @@ pub(crate) fn solves_all(
     solution: &BlockOperations,
     values: &SymbolSlab,
 ) -> Result<bool, Error>
-    requires enough { intermediate_symbols row.now.numbers ≤ length (symbols_in values.now) }
-    requires symbols { IsSymbolColumn octets values.now.symbol_size (intermediate_symbols row.now.numbers) (symbol_in values.now) }
+    requires { HasIntermediate row.now.numbers values.now }
     ensures fits { IfOk result (λ fits. IsTrue fits ↔ Fits row.now.numbers solution.now.precode_rows values.now) }
     ensures memory { IfErr result (λ e. e ≡ Error.OutOfMemory) }
 {
@@ -45,8 +41,7 @@ pub(crate) fn solves_all(
 // one, and one more in the two rows where MT's own column has a one. So by Horner's rule no
 // coefficient is made, and a symbol costs a few passes, however many equations there are.
 fn solves_hdpc(alloc: Global, row: &CheckedRow, intermediate: &SymbolSlab) -> Result<bool, Error>
-    requires enough { intermediate_symbols row.now.numbers ≤ length (symbols_in intermediate.now) }
-    requires symbols { IsSymbolColumn octets intermediate.now.symbol_size (intermediate_symbols row.now.numbers) (symbol_in intermediate.now) }
+    requires { HasIntermediate row.now.numbers intermediate.now }
     ensures solves { IfOk result (λ solves. IsTrue solves ↔ SolvesHdpc row.now.numbers intermediate.now.symbol_size (symbol_in intermediate.now)) }
     ensures memory { IfErr result (λ e. e ≡ Error.OutOfMemory) }
 {
@@ -64,8 +59,7 @@ fn first_sums(
     row: &CheckedRow,
     intermediate: &SymbolSlab,
 ) -> Result<SymbolSlab, Error>
-    requires enough { intermediate_symbols row.now.numbers ≤ length (symbols_in intermediate.now) }
-    requires symbols { IsSymbolColumn octets intermediate.now.symbol_size (intermediate_symbols row.now.numbers) (symbol_in intermediate.now) }
+    requires { HasIntermediate row.now.numbers intermediate.now }
     ensures sums { IfOk result (AreHdpcSums row.now.numbers (symbol_in intermediate.now) intermediate.now.symbol_size 0) }
     ensures memory { IfErr result (λ e. e ≡ Error.OutOfMemory) }
 {
@@ -79,8 +73,7 @@ fn first_sums(
 // Adds the last symbol to the sums of the two rows where a column of MT has a one. The last symbol
 // is then multiplied by alpha, which is 2, and the symbol of the next column is added to it.
 fn add_column(sums: &mut SymbolSlab, row: &CheckedRow, intermediate: &SymbolSlab, column: usize)
-    requires enough { intermediate_symbols row.now.numbers ≤ length (symbols_in intermediate.now) }
-    requires symbols { IsSymbolColumn octets intermediate.now.symbol_size (intermediate_symbols row.now.numbers) (symbol_in intermediate.now) }
+    requires intermediate { HasIntermediate row.now.numbers intermediate.now }
     requires column { column + 1 < before_hdpc row.now.numbers }
     requires sums { AreHdpcSums row.now.numbers (symbol_in intermediate.now) intermediate.now.symbol_size column sums.old }
     ensures { AreHdpcSums row.now.numbers (symbol_in intermediate.now) intermediate.now.symbol_size (column + 1) sums.new }

@@ -143,7 +143,7 @@ impl Decoder {
     ghost use Rattle.raptorq.specs.Stopping.{StopsAsTested, AddsOrStops, AddsAndJoinsOrStops};
     ghost use Rattle.raptorq.specs.MissingPackets.{NeedsMore, TellsMissingOf};
     ghost use Rattle.raptorq.specs.Refused.{packet_refusal};
-    ghost use Rattle.raptorq.specs.Decoder.{state_of, IsAnswerOf};
+    ghost use Rattle.raptorq.specs.Decoder.{state_of, IsAnswerOf, IsBlockAt};
 
     /// The decoder of an object in this configuration, before any packet.
     ///
@@ -269,6 +269,13 @@ impl Decoder {
         Ok(object)
     }
 
+    // The block of a number, where the object has it.
+    fn block(&self, number: u8) -> Option<&ObjectBlock>
+        ensures { IsBlockAt (state_of self.now) number (option_copied result) }
+    {
+        self.blocks.get(usize::from(number))
+    }
+
     // How many bytes the object has from the beginning of a block on.
     fn length_from(&self, number: u8) -> usize
         requires { number < (state_of self.now).configuration.source_blocks }
@@ -288,10 +295,10 @@ impl Decoder {
         ensures unknown { (state_of self.now).configuration.source_blocks ≤ source_block_number → result ≡ None }
         ensures object { AnswersPart (state_of self.now) source_block_number (option_copied result) }
     {
-        if source_block_number >= self.config.source_blocks() {
+        let Some(block) = self.block(source_block_number) else {
             return None;
-        }
-        let Some(bytes) = &self.blocks[usize::from(source_block_number)].answer else {
+        };
+        let Some(bytes) = &block.answer else {
             return None;
         };
         let length = self.length_from(source_block_number).min(bytes.len());
@@ -340,10 +347,10 @@ impl Decoder {
         ensures refused { IfErr result (λ e. e ≡ Error.UnknownBlock) }
         ensures unknown { OnErr result ((state_of self.now).configuration.source_blocks ≤ source_block_number) }
     {
-        if source_block_number >= self.config.source_blocks() {
+        let Some(block) = self.block(source_block_number) else {
             return Err(Error::UnknownBlock);
-        }
-        Ok(self.blocks[usize::from(source_block_number)].missing_packets())
+        };
+        Ok(block.missing_packets())
     }
 
     // Takes a packet, and then joins the blocks where each has an answer.

@@ -102,7 +102,6 @@ impl SourceBlockDecoder {
         for e in 0..self.source_symbols {
             self.push_symbol(&lost, e, &mut symbol_bytes)?;
         }
-        symbol_bytes.shrink_to_fit();
         self.layout().block_of_symbols(self.alloc, symbol_bytes)
     }
 
@@ -121,8 +120,8 @@ impl SourceBlockDecoder {
         Ok(lost)
     }
 
-    // An empty buffer for the block's symbols. That of the intermediate symbols has room for them, and of
-    // a large block it is taken over, so that the pages of another need not be asked for.
+    // An empty buffer for the block's symbols. That of the intermediate symbols has room for them and for
+    // more, and of a large block it is taken over, so that the pages of another need not be asked for.
     fn room_for_block(&self, intermediate: SymbolSlab) -> Result<Vec<u8>, AllocError>
         ensures { IfOk result (λ bytes. bytes.items ≡ []) }
     {
@@ -133,6 +132,7 @@ impl SourceBlockDecoder {
         }
         let mut bytes = intermediate.into_bytes();
         bytes.clear();
+        bytes.shrink_to(whole);
         Ok(bytes)
     }
 

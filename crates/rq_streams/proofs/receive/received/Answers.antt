@@ -10,8 +10,7 @@ use Rattle.rq_standard.proofs.ObjectAnswers.{answers_object}
 use Rattle.rq_standard.specs.TableRows.{greatest_size}
 use Rattle.rq_base.specs.RefusedInput.{checked_configuration}
 use Rattle.raptorq.specs.Decoder.{state_of}
-use Rattle.rq_standard.specs.Streams.{frame_size, frames_in}
-use Rattle.rq_streams.specs.Frames.{kept_packets}
+use Rattle.rq_streams.specs.Frames.{packets_in_bytes}
 use Rattle.rq_standard.specs.Configuration.{Configuration}
 use Rattle.rq_standard.specs.Packet.{Packet}
 use Rattle.rq_bytes.specs.declared.error.Error.{Error}
@@ -54,11 +53,11 @@ module _ (c : In_ok-decoder) where
 
   -- the packets of the frames
   abbrev packets : List Packet
-  packets = kept_packets config (frames_in (frame_size config) behind)
+  packets = packets_in_bytes config behind
 
   -- what is refused of the run is refused of the stream
   of_stream : (r : Result (Unit {0}) Error) → IsRunRefusal c.args.table.now config packets r → IsStreamRefusal c.args.table.now bytes r
-  of_stream r run = refused_run c.args.table.now config bytes r c.in_ok-config.ensures.value (subst (λ xs. IsRunRefusal c.args.table.now config (kept_packets config (frames_in (frame_size config) xs)) r) (take_rest bytes 12) run)
+  of_stream r run = refused_run c.args.table.now config bytes r c.in_ok-config.ensures.value (subst (λ xs. IsRunRefusal c.args.table.now config (packets_in_bytes config xs) r) (take_rest bytes 12) run)
 
   -- and so is what is refused of the frames
   of_frames : (r : Result (Unit {0}) Error) → IsFramesRefusal config (state_of c.in_ok-decoder.decoder) behind r → IsStreamRefusal c.args.table.now bytes r
@@ -70,7 +69,7 @@ module _ (c : In_ok-decoder) where
     same = same_header c.args.table.now k object frames rest bytes s config c.in_ok-config.ensures.value
 
     are : packets ≡ packets_among frames
-    are = ap (λ d. kept_packets d (frames_in (frame_size d) behind)) same ∙ ap (λ xs. kept_packets k (frames_in (frame_size k) xs)) (take_rest bytes 12) ∙ stream_packets c.args.table.now k object frames rest bytes s
+    are = ap (λ d. packets_in_bytes d behind) same ∙ ap (λ xs. packets_in_bytes k xs) (take_rest bytes 12) ∙ stream_packets c.args.table.now k object frames rest bytes s
 
     starts : StandsFor c.args.table.now object [] (state_of c.in_ok-decoder.decoder)
     starts = c.in_ok-decoder.ensures.stands object (subst (λ d. IsHonestRun c.args.table.now d object []) (sym same) (record { long = s.stream_run.run.long; nonsingular = s.stream_run.run.nonsingular; honest = tt }))
@@ -98,7 +97,7 @@ returns-in_err-decoder-clause-refused c =
     let bytes = c.as_slice-stream.result.now in
     let e = c.in_err-decoder.field-0.0 in
     let p = err_from_is_err_and c.from_residual-in_err-decoder.result c.from_residual-in_err-decoder.ensures.1 in
-    rw (p.1, p.2) (elim (run_unmade (Unit {0}) table config (kept_packets config (frames_in (frame_size config) (drop 12 bytes))) e c.in_err-decoder.ensures.refused) [
+    rw (p.1, p.2) (elim (run_unmade (Unit {0}) table config (packets_in_bytes config (drop 12 bytes)) e c.in_err-decoder.ensures.refused) [
       | inl memory ↦ inl memory
       | inr first ↦ inr (subst (λ read. IsStreamRefusal table read (Err e)) c.as_slice-stream.ensures.value (refused_run table config bytes (Err e) c.in_ok-config.ensures.value first))
     ])

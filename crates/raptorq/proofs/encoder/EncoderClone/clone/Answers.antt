@@ -4,13 +4,18 @@ use Rattle.raptorq.specs.SourceBlockEncoder.{BlockEncoded, block_encoded_of}
 use Rattle.raptorq.specs.Encoder.{Encoded, no_block}
 use Rattle.raptorq.proofs.PlanLaws.{map-clones}
 use Rattle.raptorq.proofs.encoder.EncoderClone.clone.Goals as goal
+use Rattle.raptorq.proofs.encoder.EncoderClone.clone.Goals.{In_ok-clone}
+
+module _ (c : In_ok-clone) where
+  same : map block_encoded_of c.in_ok-clone.field-0.items ≡ map block_encoded_of c.args.self.now.blocks.items
+  same = map-clones _ block_encoded_of (λ x y e. e) c.args.self.now.blocks.items c.in_ok-clone.field-0.items c.in_ok-clone.ensures.cases.0
 
 pub invariant_of-result : goal.invariant_of-result
 invariant_of-result c =
     let s = c.args.self.now in
     let old = s.blocks.items in
     let new = c.in_ok-clone.field-0.items in
-    let same : map block_encoded_of new ≡ map block_encoded_of old = map-clones _ block_encoded_of (λ x y e. e) old new c.in_ok-clone.ensures.cases.0 in
+    let same = same (goal.at.invariant_of-result c).In_ok-clone in
     record {
       positive = s.positive;
       few = s.few;
@@ -22,6 +27,5 @@ invariant_of-result c =
 pub returns : goal.returns
 returns c =
     let s = c.args.self.now in
-    let same : map block_encoded_of c.in_ok-clone.field-0.items ≡ map block_encoded_of s.blocks.items = map-clones _ block_encoded_of (λ x y e. e) s.blocks.items c.in_ok-clone.field-0.items c.in_ok-clone.ensures.cases.0 in
     let seen : List BlockEncoded → Encoded = λ bs. record { configuration = s.config; block = λ b. get_or bs b (no_block b s.config.symbol_size) } in
-    record { cases = ap seen same }
+    record { cases = ap seen (same (goal.at.returns c).In_ok-clone) }

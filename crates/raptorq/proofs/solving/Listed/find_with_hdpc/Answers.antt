@@ -1,9 +1,8 @@
-use Rattle.std.proofs.Common.{subst, arith}
-use Rattle.rq_solver.specs.Solving.{SolvesOrShows, Solver}
+use Rattle.std.proofs.Common.{arith}
 use Rattle.rq_solver.specs.declared.pi_solver.solved.Solved.TheVariants.{Operations, Undetermined}
 use Rattle.rq_solver.specs.SolverState.{solver_state}
 use Rattle.raptorq.proofs.Listing.{slab_answered}
-use Rattle.raptorq.proofs.BlockOutcomes.{handed_equations, found_outcome}
+use Rattle.raptorq.proofs.BlockOutcomes.{handed_equations, solver_outcome}
 use Rattle.raptorq.proofs.solving.Listed.find_with_hdpc.Goals as goal
 
 pub of_row-solver-requires : goal.of_row-solver-requires
@@ -16,15 +15,13 @@ pub returns-in-Operations-clause-outcome : goal.returns-in-Operations-clause-out
 returns-in-Operations-clause-outcome g c =
     let m = c.in_ok-matrix in
     let zeros = slab_answered _ c.in_ok-values.values c.in_ok-values.ensures in
-    let bits = g.T.BinaryMatrix.content m.matrix in
-    let are = handed_equations c.args.self.now.row.now.numbers c.args.self.now.ids.now bits m.hdpc 0 c.precode_rows-precode_rows.result _ c.in_ok-values.values m.ensures.bits m.ensures.hdpc c.precode_rows-precode_rows.ensures.value zeros c.args.self.now.enough in
-    let found = subst (SolvesOrShows (solver_state c.of_row-solver.result)) c.in-Operations.is c.in_ok-operations.ensures.solved in
     rw c.precode_rows-precode_rows.ensures.value (record {
       found = record {
         few = omega arith;
         ldpc = omega arith;
         enough = c.args.self.now.enough;
-        finds = found_outcome c.args.self.now.row.now.numbers c.args.self.now.ids.now bits m.hdpc c.in_ok-values.values m.ensures.bits m.ensures.hdpc are (Operations c.in-Operations.operations) (subst (λ (s : Solver). SolvesOrShows s (Operations c.in-Operations.operations)) c.of_row-solver.ensures found);
+        finds = solver_outcome c.args.self.now.row.now.numbers c.args.self.now.ids.now (g.T.BinaryMatrix.content m.matrix) m.hdpc 0 c.precode_rows-precode_rows.result _ c.in_ok-values.values m.ensures.bits m.ensures.hdpc c.precode_rows-precode_rows.ensures.value zeros c.args.self.now.enough
+            (solver_state c.of_row-solver.result) _ (Operations c.in-Operations.operations) c.of_row-solver.ensures c.in-Operations.is c.in_ok-operations.ensures.solved;
       };
       shown = tt;
     })
@@ -33,8 +30,6 @@ pub returns-in-Undetermined-clause-outcome : goal.returns-in-Undetermined-clause
 returns-in-Undetermined-clause-outcome g c =
     let m = c.in_ok-matrix in
     let zeros = slab_answered _ c.in_ok-values.values c.in_ok-values.ensures in
-    let bits = g.T.BinaryMatrix.content m.matrix in
-    let are = handed_equations c.args.self.now.row.now.numbers c.args.self.now.ids.now bits m.hdpc 0 c.precode_rows-precode_rows.result _ c.in_ok-values.values m.ensures.bits m.ensures.hdpc c.precode_rows-precode_rows.ensures.value zeros c.args.self.now.enough in
-    let found = subst (SolvesOrShows (solver_state c.of_row-solver.result)) c.in-Undetermined.is c.in_ok-operations.ensures.solved in
-    let outcome = found_outcome c.args.self.now.row.now.numbers c.args.self.now.ids.now bits m.hdpc c.in_ok-values.values m.ensures.bits m.ensures.hdpc are (Undetermined c.in-Undetermined.column) (subst (λ (s : Solver). SolvesOrShows s (Undetermined c.in-Undetermined.column)) c.of_row-solver.ensures found) in
+    let outcome = solver_outcome c.args.self.now.row.now.numbers c.args.self.now.ids.now (g.T.BinaryMatrix.content m.matrix) m.hdpc 0 c.precode_rows-precode_rows.result _ c.in_ok-values.values m.ensures.bits m.ensures.hdpc c.precode_rows-precode_rows.ensures.value zeros c.args.self.now.enough
+    (solver_state c.of_row-solver.result) _ (Undetermined c.in-Undetermined.column) c.of_row-solver.ensures c.in-Undetermined.is c.in_ok-operations.ensures.solved in
     record { found = outcome.0; shown = outcome.1 }

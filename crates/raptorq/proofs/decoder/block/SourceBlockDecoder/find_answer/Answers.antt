@@ -1,9 +1,10 @@
-use Rattle.std.proofs.Common.{refl, sym, subst, ◌∙◌, arith}
+use Rattle.std.proofs.Common.{sym, subst, ◌∙◌, arith}
 use Rattle.rq_standard.specs.ReceivedBlock.{ReceivedBlock, has_received, IsBlockWith}
 use Rattle.rq_standard.specs.Received.{HasSourceSymbols}
 use Rattle.raptorq.specs.SourceBlockDecoder.{received_of}
 use Rattle.raptorq.specs.Known.{SolvesBlock}
 use Rattle.raptorq.proofs.Answered.{answer-all, answer-none, received_source}
+use Rattle.raptorq.proofs.ReceivedEquations.{held_by_decoder}
 use Rattle.raptorq.proofs.ReceivedSolutions.{square_received}
 use Rattle.raptorq.proofs.decoder.block.SourceBlockDecoder.find_answer.Goals as goal
 
@@ -19,7 +20,7 @@ pub returns-then-len-self-clause-block : goal.returns-then-len-self-clause-block
 returns-then-len-self-clause-block c =
     let d = c.args.self.now in
     answer-all (received_of d) c.in_ok-join_source.field-0.items (received_source (received_of d) d.missing d.counted c.if-all.true) c.in_ok-join_source.ensures
-    (square_received (received_of d) d.received d.fits c.len.ensures.ordered d.row.checked (λ e. refl) (λ e x is. record { size_is = d.sized e x is; elements = d.bytes e x is }) (sym c.len.ensures.len ∙ c.if-len-self.true))
+    (square_received (received_of d) d.received (held_by_decoder d c.len.ensures.ordered) (λ e x is. record { size_is = d.sized e x is; elements = d.bytes e x is }) (sym c.len.ensures.len ∙ c.if-len-self.true))
 
 pub returns-in_ok-join_source-in-None-clause-block : goal.returns-in_ok-join_source-in-None-clause-block
 returns-in_ok-join_source-in-None-clause-block c =

@@ -1,8 +1,9 @@
-use Rattle.std.proofs.Common.{sym, ◌∙◌}
+use Rattle.std.proofs.Common.{sym, ◌∙◌, vec_items}
 use Rattle.rq_bytes.specs.SymbolSlab.{symbol_in}
 use Rattle.rq_standard.specs.Equations.{tuple_sum}
 use Rattle.raptorq.specs.Missing.{payload_of}
-use Rattle.raptorq.proofs.LostSymbols.{is_some-items, there-came, sums-more, there-more}
+use Rattle.raptorq.proofs.OptionValues.{is_some-mapped}
+use Rattle.raptorq.proofs.LostSymbols.{there-came, sums-more, there-more}
 use Rattle.raptorq.proofs.decoder.block.SourceBlockDecoder.lost_symbols.Goals as goal
 use Rattle.raptorq.proofs.decoder.block.SourceBlockDecoder.lost_symbols.Goals.{then-not-contains_key+in_ok-symbol+in_ok-_new, else-not-contains_key}
 
@@ -26,6 +27,6 @@ loop-e-preserved c =
           rw w.lost-is
           (record {
             sums = kept.sums;
-            there = there-came came before sum e (is_some-items _ ∙ sym c.contains_key.ensures ∙ w.if-not-contains_key.false) kept.there;
+            there = there-came came before sum e (is_some-mapped vec_items _ ∙ sym c.contains_key.ensures ∙ w.if-not-contains_key.false) kept.there;
           })
     ]

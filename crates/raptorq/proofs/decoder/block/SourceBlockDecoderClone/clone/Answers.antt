@@ -6,11 +6,16 @@ use Rattle.raptorq.proofs.MissingCounts.{missing_count-same}
 use Rattle.raptorq.specs.SourceBlockDecoder.{received_of}
 use Rattle.raptorq.proofs.Waiting.{waits-same, contradictory-same, shown-none}
 use Rattle.raptorq.proofs.decoder.block.SourceBlockDecoderClone.clone.Goals as goal
+use Rattle.raptorq.proofs.decoder.block.SourceBlockDecoderClone.clone.Goals.{In_ok-clone}
+
+module _ (c : In_ok-clone) where
+  same : (e : ℕ) → payload_of c.in_ok-clone.field-0 e ≡ payload_of c.args.self.now.received e
+  same = payload_of-cloned c.args.self.now.received c.in_ok-clone.field-0 c.in_ok-clone.ensures.cases
 
 pub invariant_of-result : goal.invariant_of-result
 invariant_of-result c =
     let d = c.args.self.now in
-    let same : (e : ℕ) → payload_of c.in_ok-clone.field-0 e ≡ payload_of d.received e = payload_of-cloned d.received c.in_ok-clone.field-0 c.in_ok-clone.ensures.cases in
+    let same = same (goal.at.invariant_of-result c).In_ok-clone in
     record {
       sized = λ e x is. d.sized e x (sym (same e) ∙ is);
       bytes = λ e x is. d.bytes e x (sym (same e) ∙ is);
@@ -27,5 +32,5 @@ invariant_of-result c =
 pub returns : goal.returns
 returns c =
     let d = c.args.self.now in
-    let same : (e : ℕ) → payload_of c.in_ok-clone.field-0 e ≡ payload_of d.received e = payload_of-cloned d.received c.in_ok-clone.field-0 c.in_ok-clone.ensures.cases in
+    let same = same (goal.at.returns c).In_ok-clone in
     record { cases = λ i. record { configuration = d.config; number = d.number; row = d.row.numbers; source_symbols = d.source_symbols; received = λ e. same e i } }

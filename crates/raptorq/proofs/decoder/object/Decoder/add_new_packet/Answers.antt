@@ -7,7 +7,7 @@ use Rattle.raptorq.proofs.decoder.object.Decoder.add_new_packet.Goals as goal
 pub returns-clause-takes : goal.returns-clause-takes
 returns-clause-takes c =
     let done = c.in_ok-add_to_block.ensures in
-    takes_added (state_of c.args.self.now) c.args.packet tt (state_of c.add_to_block.new.self) c.args.self.now.aligned done.tested done.configuration done.adds
+    takes_added (state_of c.args.self.now) c.args.packet (state_of c.add_to_block.new.self) done.configuration tt c.args.self.now.aligned done.tested done.adds
 
 pub returns-in_err-add_to_block-clause-takes : goal.returns-in_err-add_to_block-clause-takes
 returns-in_err-add_to_block-clause-takes c =
@@ -16,10 +16,10 @@ returns-in_err-add_to_block-clause-takes c =
     let new = state_of c.add_to_block.new.self in
     let at = c.in_err-add_to_block.field-0.0 in
     let seen = c.in_err-add_to_block.ensures in
-    rw (p.1, p.2) (takes_stopped old c.args.packet at new seen.tested seen.configuration (not_joined old c.args.packet at new seen.adds))
+    rw (p.1, p.2) (takes_stopped old c.args.packet new seen.configuration at seen.tested (not_joined old c.args.packet new at seen.adds))
 
 pub returns-in_err-add_to_block-clause-leaves_late : goal.returns-in_err-add_to_block-clause-leaves_late
 returns-in_err-add_to_block-clause-leaves_late c =
     let p = err_from_is_err_and c.from_residual.result c.from_residual.ensures.1 in
     rw p.1 (λ memory. leaves_late c.args.packet (state_of c.args.self.now) (state_of c.add_to_block.new.self)
-    (stops_early (state_of c.args.self.now) c.args.packet c.in_err-add_to_block.field-0.0 (state_of c.add_to_block.new.self) c.in_err-add_to_block.ensures.adds))
+    (stops_early (state_of c.args.self.now) c.args.packet (state_of c.add_to_block.new.self) c.in_err-add_to_block.field-0.0 c.in_err-add_to_block.ensures.adds))

@@ -3,7 +3,8 @@ use Rattle.std.specs.Prelude.{option_map, vec_items}
 use Rattle.rq_standard.specs.DecoderState.{first_blocks}
 use Rattle.raptorq.specs.Decoder.{answer_at}
 use Rattle.raptorq.proofs.Numbered.{length-numbered, turn_of}
-use Rattle.raptorq.proofs.ObjectBlocks.{block_number, join_next, join_some, none_otherwise}
+use Rattle.raptorq.proofs.ObjectBlocks.{block_number, join_next, join_some}
+use Rattle.raptorq.proofs.OptionValues.{none_otherwise}
 use Rattle.raptorq.proofs.decoder.object.Decoder.join.Goals.{in-Some+in_ok-extend_from_slice, in_default}
 use Rattle.raptorq.proofs.decoder.object.Decoder.join.Goals as goal
 
@@ -16,7 +17,7 @@ loop-block-preserved c =
     elim c.match-block.branch [
       | in-Some+in_ok-extend_from_slice w ↦ join_next s.blocks.items n x c.loop-block.object.items w.in-Some.bytes.items c.match-block.object.items t.below t.is (ap (option_map vec_items) w.in-Some.is) c.loop-block.invariant
           (ap (λ o. o.items) w.object-is ∙ w.in_ok-extend_from_slice.ensures.items ∙ ap (λ l. c.loop-block.object.items ++ l) w.as_slice.ensures.value)
-      | in_default w ↦ absurd (join_some s.config s.blocks.items n x c.requires (omega (arith, t.below, length-numbered block_number s.config.source_blocks s.blocks.items s.numbered)) t.below t.is (none_otherwise x.answer (λ v e. w.in_default.not-Some v e)))
+      | in_default w ↦ absurd (join_some s.config s.blocks.items n x c.requires (omega (arith, t.below, length-numbered block_number s.config.source_blocks s.blocks.items s.numbered)) t.below t.is (none_otherwise vec_items x.answer (λ v e. w.in_default.not-Some v e)))
     ]
 
 pub returns : goal.returns

@@ -1,26 +1,14 @@
-use Rattle.std.proofs.Common.{◌≡◌, ◌<◌, [], Option, List, ℕ, get_or, length, sym, ap, ◌∙◌, subst, arith}
-use Rattle.rq_algebra.specs.Operations.{IsPlace, meant_at}
-use Rattle.rq_bytes.specs.SymbolSlab.{symbol_in}
-use Rattle.raptorq.proofs.Encodes.{at_any, source_encodes}
+use Rattle.std.proofs.Common.{arith}
+use Rattle.raptorq.proofs.Encodes.{encodes_source}
+use Rattle.raptorq.proofs.Summing.{place_of_plain}
 use Rattle.raptorq.proofs.encoder.block.SourceBlockEncoder.append_symbol.Goals as goal
 
 pub get-requires : goal.get-requires
-get-requires c =
-    let b = c.args.self.now in
-    let below : c.args.esi < length b.source.values = omega (arith, c.if-esi-source_symbol_count.true, c.source_symbol_count.ensures) in
-    subst (λ (o : Option (List ℕ)). IsPlace (length b.source.values) o c.args.esi) (sym b.unordered) below
+get-requires c = place_of_plain c.args.self.now.source c.args.esi c.args.self.now.unordered (omega (arith, c.if-esi-source_symbol_count.true, c.source_symbol_count.ensures))
 
 pub returns-then-esi-source_symbol_count-clause-symbol : goal.returns-then-esi-source_symbol_count-clause-symbol
-returns-then-esi-source_symbol_count-clause-symbol c =
-    let b = c.args.self.now in
-    let esi = c.args.esi in
-    let values = b.source.values in
-    let symbol = c.get.result.now in
-    let below : esi < length values = omega (arith, c.if-esi-source_symbol_count.true, c.source_symbol_count.ensures) in
-    let meant : symbol_in b.source esi ≡ get_or values esi [] = ap (λ (o : Option (List ℕ)). get_or values (meant_at o esi) []) b.unordered in
-    record {
-      payload = symbol;
-      symbol = source_encodes b.row.numbers b.intermediate.symbol_size esi values (symbol_in b.intermediate) symbol b.row.checked b.solved b.few b.sized below
-          (c.get.ensures.symbol ∙ meant ∙ at_any values esi [] symbol below);
-      grown = c.in_ok-extend_from_slice.ensures.items;
-    }
+returns-then-esi-source_symbol_count-clause-symbol c = record {
+  payload = c.get.result.now;
+  symbol = encodes_source c.args.self.now c.args.esi c.get.result.now (omega (arith, c.if-esi-source_symbol_count.true, c.source_symbol_count.ensures)) c.get.ensures.symbol;
+  grown = c.in_ok-extend_from_slice.ensures.items;
+}

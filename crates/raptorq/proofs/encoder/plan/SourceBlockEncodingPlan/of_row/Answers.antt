@@ -5,34 +5,36 @@ use Rattle.rq_standard.proofs.KnownIds.{nonsingular_rows}
 use Rattle.raptorq.specs.BlockSolutions.{FindsFrom, FindsListed}
 use Rattle.raptorq.proofs.Intermediates.{count_source, extended_ids_are, finds_source, plan_allowed, plan_nonsingular, plan_is}
 use Rattle.rq_standard.specs.IdLists.{HasDeterminedRows}
+use Rattle.rq_standard.specs.TableRows.{intermediate_symbols}
 use Rattle.raptorq.proofs.encoder.plan.SourceBlockEncodingPlan.of_row.Goals as goal
+use Rattle.raptorq.proofs.encoder.plan.SourceBlockEncodingPlan.of_row.Goals.{After-as_slice}
+
+-- the ids are those of the extended source block
+module _ (c : After-as_slice) where
+  ids_are : c.as_slice.result.now ≡ extended_ids c.args.row.numbers
+  ids_are = c.as_slice.ensures.value ∙ extended_ids_are c.args.row.numbers c.in_ok-ids.ids.items c.in_ok-ids.ensures
+
+  count_is : equation_count c.args.row.numbers c.as_slice.result.now ≡ intermediate_symbols c.args.row.numbers
+  count_is = ap (equation_count c.args.row.numbers) ids_are ∙ count_source c.args.row.numbers
 
 pub solve_block-requires-clause-enough : goal.solve_block-requires-clause-enough
-solve_block-requires-clause-enough c =
-    let row = c.args.row.numbers in
-    let ids : c.as_slice.result.now ≡ extended_ids row = c.as_slice.ensures.value ∙ extended_ids_are row c.in_ok-ids.ids.items c.in_ok-ids.ensures in
-    omega (arith, ap (equation_count row) ids, count_source row)
+solve_block-requires-clause-enough c = omega (arith, count_is (goal.at.solve_block-requires-clause-enough c).After-as_slice)
 
 pub solve_block-requires-clause-fits : goal.solve_block-requires-clause-fits
-solve_block-requires-clause-fits c =
-    let row = c.args.row.numbers in
-    let ids : c.as_slice.result.now ≡ extended_ids row = c.as_slice.ensures.value ∙ extended_ids_are row c.in_ok-ids.ids.items c.in_ok-ids.ensures in
-    omega (arith, ap (equation_count row) ids, count_source row, c.args.row.checked.few_columns)
+solve_block-requires-clause-fits c = omega (arith, count_is (goal.at.solve_block-requires-clause-fits c).After-as_slice, c.args.row.checked.few_columns)
 
 pub returns-in_default-clause-refused : goal.returns-in_default-clause-refused
 returns-in_default-clause-refused c =
     let row = c.args.row.numbers in
-    let ids : c.as_slice.result.now ≡ extended_ids row = c.as_slice.ensures.value ∙ extended_ids_are row c.in_ok-ids.ids.items c.in_ok-ids.ensures in
     let none = subst (FindsListed row c.as_slice.result.now) c.in_default.is c.in_ok-solution.ensures.found in
-    inr (refl, λ nonsingular. subst (λ l. HasDeterminedRows row l → ⊥) ids none (nonsingular_rows row nonsingular))
+    inr (refl, λ nonsingular. subst (λ l. HasDeterminedRows row l → ⊥) (ids_are (goal.at.returns-in_default-clause-refused c).After-as_slice) none (nonsingular_rows row nonsingular))
 
 pub invariant_of-result : goal.invariant_of-result
 invariant_of-result c =
     let row = c.args.row.numbers in
-    let ids : c.as_slice.result.now ≡ extended_ids row = c.as_slice.ensures.value ∙ extended_ids_are row c.in_ok-ids.ids.items c.in_ok-ids.ensures in
     let operations = operations_of c.in-Some.solution.operations in
     let found = subst (FindsListed row c.as_slice.result.now) c.in-Some.is c.in_ok-solution.ensures.found in
-    let finds = finds_source row c.in-Some.solution (subst (λ l. FindsFrom row l c.in-Some.solution) ids found) in
+    let finds = finds_source row c.in-Some.solution (subst (λ l. FindsFrom row l c.in-Some.solution) (ids_are (goal.at.invariant_of-result c).After-as_slice) found) in
     record {
       nonsingular = plan_nonsingular row operations finds;
       few = c.requires.few;
