@@ -10,24 +10,29 @@ TOP = os.path.dirname(BENCH)
 MANIFEST = '[package]\nname = "{}"\nversion = "0.0.0"\nedition = "2021"\n[dependencies]\nraptorq = {{ path = "{}", version = "=2.0.1" }}\n'
 
 
-def arguments(usage):
-    """The words that a script was called with. With none it prints its usage, and ends with 2."""
-    if len(sys.argv) < 2:
+def arguments(usage, names=None):
+    """The words that a script was called with. With none, or a first one that isn't among the names, it prints its usage, and ends with 2."""
+    words = sys.argv[1:]
+    if not words or (names is not None and words[0] not in names):
         print(usage, file=sys.stderr)
         sys.exit(2)
-    return sys.argv[1:]
+    return words
 
 
-def build_here(name, folder, processor):
-    """The program NAME.rt.txt over this repository's crates, which are proved first."""
+def run_here(name, folder, processor, crates, **streams):
+    """Runs the program NAME.rt.txt over these crates of this repository, which are proved first."""
     shutil.copytree(f"{TOP}/crates", f"{folder}/crates")
     os.makedirs(f"{folder}/crates/rq_bench/src")
     shutil.copy(f"{BENCH}/{name}.rt.txt", f"{folder}/crates/rq_bench/src/main.rt")
-    with open(f"{TOP}/crates.txt") as crates, open(f"{folder}/crates.txt", "w") as all_crates:
-        all_crates.write(crates.read() + "rq_bench: raptorq anyhow\n")
+    with open(f"{TOP}/crates.txt") as listed, open(f"{folder}/crates.txt", "w") as all_crates:
+        all_crates.write(f"{listed.read()}rq_bench: {crates}\n")
+    return subprocess.run(["rt", "run", "--cpu", processor], cwd=f"{folder}/crates/rq_bench", text=True, **streams)
+
+
+def build_here(name, folder, processor):
+    """The program NAME.rt.txt over this repository's crates."""
     # It runs without words or lines, and may end with an error then.
-    built = subprocess.run(["rt", "run", "--cpu", processor], cwd=f"{folder}/crates/rq_bench", stdin=subprocess.DEVNULL,
-                           capture_output=True, text=True)
+    built = run_here(name, folder, processor, "raptorq anyhow", stdin=subprocess.DEVNULL, capture_output=True)
     program = f"{folder}/crates/rq_bench/out/rq_bench"
     if not os.path.exists(program):
         sys.exit(built.stdout + built.stderr)

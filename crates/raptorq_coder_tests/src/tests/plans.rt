@@ -58,7 +58,7 @@ fn packets_of_repair_symbols(rt: HostRuntime) -> Result<(), Error> {
     Ok(())
 }
 
-// The encoder of a block of zeros, by a plan of so many symbols.
+// The encoder of a block of zeros, by the plan of `count` symbols.
 fn encoder_by_plan(
     alloc: Global,
     count: u16,
