@@ -1,7 +1,8 @@
 -- Functions of a place, changed at one place, and places that are looked for.
-use Rattle.std.proofs.Common.{◌≡◌, ◌≢◌, ℕ, zero, suc, ◌<◌, ◌⊎◌, cond, eqb, sym, subst, refl, arith, inl, inr}
+use Rattle.std.proofs.Common.{◌≡◌, ◌≢◌, ℕ, zero, suc, ◌<◌, ◌⊎◌, cond, eqb, sym, ◌∙◌, subst, refl, arith, inl, inr}
 use Rattle.std.proofs.lemmas.Bool.{cases_eq, eq-eqb, ne_eqb}
 use Rattle.rq_algebra.specs.Changes.{with_at}
+use Rattle.rq_algebra.proofs.Choices.{if_same, if_apart, if_either}
 
 -- a number below n of the one kind, or all are of the other
 search_below : (P Q : ℕ → Type 0) → ((k : ℕ) → P k ⊎ Q k) → (n : ℕ) → ((p : ℕ) × (p < n) × P p) ⊎ ((k : ℕ) → k < n → Q k)
@@ -36,12 +37,12 @@ without p h i = cond (eqb i p) h i
 
 pub without_below : (p h i : ℕ) → i < h → without p h i < suc h
 unfolding without
-without_below p h i l = elim (cases_eq i p) [ inl e ↦ rw (eq-eqb i p e) (omega arith) | inr d ↦ rw (ne_eqb i p d) (omega arith) ]
+without_below p h i l = if_either (λ j. j < suc h) i p h i (λ e. omega arith) (λ d. omega arith)
 
 -- every other row stands somewhere
 pub without_onto : (p h i : ℕ) → p < suc h → i < suc h → i ≢ p → (j : ℕ) × (j < h) × (without p h j ≡ i)
 unfolding without
 without_onto p h i lp l d = elim (cases_eq i h) [
-  | inl e ↦ (p, (omega arith), rw (eq-eqb p p refl) (sym e))
-  | inr f ↦ (i, (omega arith), rw (ne_eqb i p d))
+  | inl e ↦ (p, (omega arith), if_same p p h p refl ∙ sym e)
+  | inr f ↦ (i, (omega arith), if_apart i p h i d)
 ]

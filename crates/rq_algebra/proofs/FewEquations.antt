@@ -1,11 +1,11 @@
 -- A system with fewer rows than unknowns has a homogeneous column, and so has one that is zero but in few rows on some of the columns.
-use Rattle.std.proofs.Common.{◌≡◌, ◌≢◌, ℕ, zero, suc, ◌<◌, Bool, true, false, cond, eqb, sym, ap, ◌∙◌, refl, arith, inl, inr}
-use Rattle.std.proofs.lemmas.Bool.{cases_eq, eq-eqb, ne_eqb}
+use Rattle.std.proofs.Common.{◌≡◌, ◌≢◌, ℕ, zero, suc, ◌<◌, sym, ap, ◌∙◌, refl, arith, inl, inr}
+use Rattle.std.proofs.lemmas.Bool.{cases_eq}
 use Rattle.rq_algebra.specs.Field.{Field}
 use Rattle.rq_algebra.specs.Arrangements.{ArePlaces}
 use Rattle.rq_algebra.specs.Systems.{dot, HasHomogeneousColumn}
 use Rattle.rq_algebra.specs.SystemLaws.{FewEquationsHaveHomogeneousColumn, FewOnColumnsHaveHomogeneousColumn}
-use Rattle.rq_algebra.proofs.Sums.{sum_same, mul_zero, zero_mul, redo_mul, dot_same, dot_fma, dot-suc, dot_zero, dot_one, dot_below_size}
+use Rattle.rq_algebra.proofs.Sums.{sum_same, mul_zero, zero_mul, redo_mul, dot_same, dot_fma, dot-suc, dot_zero, dot_below_size}
 use Rattle.rq_algebra.specs.Changes.{with_at}
 use Rattle.rq_algebra.proofs.ChangeLaws.{find_place, find_nonzero, with_at_same, with_at_other, without, without_below, without_onto}
 use Rattle.rq_algebra.proofs.Places.{sum_places, spread, spread_at, spread_off}
@@ -98,30 +98,3 @@ homogeneous_of_few F height width n a rows columns elements few =
         ];
       };
     }
-
--- n places below n are all of them: else n unknowns in fewer equations, each of which is one unknown, would not all be 0
-pub all_places : (F : Field) (n : ℕ) (places : ℕ → ℕ) → ArePlaces n n places → (i : ℕ) → i < n → (j : ℕ) × (j < n) × (places j ≡ i)
-all_places F zero places are i l = absurd (omega arith)
-all_places F (suc h) places are i l = elim (find_place (suc h) places i) [
-  | inl q ↦ q
-  | inr free ↦
-      let a : ℕ → ℕ → ℕ = λ r k. cond (eqb (places k) (without i h r)) 1 0 in
-      let one : (r k : ℕ) → places k ≡ without i h r → a r k ≡ 1 = λ r k e. rw (eq-eqb (places k) (without i h r) e) in
-      let off : (r k : ℕ) → places k ≢ without i h r → a r k ≡ 0 = λ r k d. rw (ne_eqb (places k) (without i h r) d) in
-      let n : HasHomogeneousColumn F h (suc h) a = few_rows F (suc h) h a (omega arith) (λ r k m o. small (eqb (places k) (without i h r))) in
-      let m = without_onto i h (places n.index) l (are.below n.index n.in_width) (free n.index n.in_width) in
-      absurd (n.nonzero (cc (
-        n.solves.at m.0 m.1,
-        dot_one F (suc h) (a m.0) n.column n.index n.in_width (λ k o d. off m.0 k (λ e. d (are.apart k n.index o n.in_width (e ∙ m.2)))),
-        one m.0 n.index (sym m.2),
-        F.one_mul (n.column n.index) (n.is_column n.index n.in_width),
-      )))
-] where
-  small : (b : Bool) → cond b 1 0 < F.size
-  small true = F.one_below
-  small false = omega (arith, F.one_below)
-
--- the terms of a sum in another order
-pub dot_places : (F : Field) (width : ℕ) (row column places : ℕ → ℕ) → ArePlaces width width places → dot F width (λ k. row (places k)) (λ k. column (places k)) ≡ dot F width row column
-unfolding dot
-dot_places F width row column places are = sym (sum_places F width width (λ k. F.mul (row k) (column k)) places are (λ k l free. let q = all_places F width places are k l in absurd (free q.0 q.1 q.2)))

@@ -1,6 +1,8 @@
 pub mod ChangeLaws
+pub mod Choices
 pub mod Elements
 pub mod FewEquations
+pub mod FewPlaces
 pub mod Found
 pub mod OperationRuns
 pub mod Parity

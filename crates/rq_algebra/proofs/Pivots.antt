@@ -9,7 +9,7 @@ use Rattle.rq_algebra.specs.Following.{Follows}
 use Rattle.rq_algebra.specs.OperationLaws.{HomogeneousColumnGoesBack}
 use Rattle.rq_algebra.proofs.Sums.{dot_one, dot_zero, zero_mul}
 use Rattle.rq_algebra.proofs.ChangeLaws.{find_place}
-use Rattle.rq_algebra.proofs.FewEquations.{all_places}
+use Rattle.rq_algebra.proofs.FewPlaces.{all_places}
 use Rattle.rq_algebra.proofs.Solutions.{solves_same}
 use Rattle.rq_algebra.proofs.OperationRuns.{run_push, AreAllowed-push, zero_values}
 use Rattle.rq_algebra.proofs.Placewise.{at-zeros, zeros_stay}
@@ -34,7 +34,7 @@ module _ (F : Field) (height width : ℕ) (original a : ℕ → ℕ → ℕ) (op
 
   is_order : IsOrder height order
   is_order = All-from_get_or (λ i. i < height) order 0 (λ k l.
-      let q = all_places F width columns pivots.in_columns k (omega (arith, reads.count)) in
+      let q = all_places width columns pivots.in_columns k (omega (arith, reads.count)) in
       rw (← q.2, reads.reads q.0 q.1) (pivots.in_rows.below q.0 q.1))
 
   -- values that aren't read are those of rows that aren't pivots', which are zeros
@@ -45,7 +45,7 @@ module _ (F : Field) (height width : ℕ) (original a : ℕ → ℕ → ℕ) (op
   is_unread i l free = (
     l,
     All-from_get_or (λ k. k ≢ i) order 0 (λ k m e.
-        let q = all_places F width columns pivots.in_columns k (omega (arith, reads.count)) in
+        let q = all_places width columns pivots.in_columns k (omega (arith, reads.count)) in
         free q.0 q.1 (sym (reads.reads q.0 q.1) ∙ ap (λ (j : ℕ). get_or order j 0) q.2 ∙ e)),
   )
 
@@ -64,7 +64,7 @@ module _ (F : Field) (height width : ℕ) (original a : ℕ → ℕ → ℕ) (op
     at = λ i l.
         let column : ℕ → ℕ = found_by (plain F) (operations ++ Reorder order ∷ []) v in
         let elements : IsColumn F width column = (λ (k : ℕ) (n : k < width).
-        let q = all_places F width columns pivots.in_columns k n in
+        let q = all_places width columns pivots.in_columns k n in
         rw (← q.2, found_at v q.0 q.1) ((follows.keeps v e).values.elements (rows q.0) (pivots.in_rows.below q.0 q.1))) in
         elim (find_place width rows i) [
           | inl q ↦ rw (← q.2) (pivot_says column elements q.0 q.1 ∙ found_at v q.0 q.1)
@@ -80,10 +80,10 @@ module _ (F : Field) (height width : ℕ) (original a : ℕ → ℕ → ℕ) (op
     ends = refl;
     count = reads.count;
     only = λ v e x elements s k l.
-        let q = all_places F width columns pivots.in_columns k l in
+        let q = all_places width columns pivots.in_columns k l in
         rw (← q.2) (sym (pivot_says x elements q.0 q.1) ∙ ((follows.keeps v e).same.onward x s).at (rows q.0) (pivots.in_rows.below q.0 q.1) ∙ sym (found_at v q.0 q.1));
     solves = λ square v e. found_fits v e (λ i unread.
-        let q = all_places F width rows (rw square at pivots.in_rows) i (rw square at unread.0) in
+        let q = all_places width rows (rw square at pivots.in_rows) i (rw square at unread.0) in
         absurd (unread_is i unread q.0 q.1 q.2));
     leaves = λ v e x elements. leaves_zeros v e x;
     consistent = found_fits;

@@ -13,6 +13,22 @@ use Rattle.rq_algebra.proofs.ChangeLaws.{with_at_same, with_at_other}
 fewer_places : (n bound : ℕ) (places : ℕ → ℕ) → ArePlaces (suc n) bound places → ArePlaces n bound places
 fewer_places n bound places are = record { below = λ i l. are.below i (omega arith); apart = λ i j l m e. are.apart i j (omega arith) (omega arith) e }
 
+-- and one more
+pub more_places : (n bound : ℕ) (places : ℕ → ℕ) (p : ℕ) → ArePlaces n bound places → p < bound → ((q : ℕ) → q < n → places q ≢ p) → ArePlaces (suc n) bound (with_at places n p)
+more_places n bound places p are in_bound free = record {
+  below = λ i l. elim (cases_eq i n) [ inl e ↦ rw (with_at_same places n p i e) in_bound | inr d ↦ rw (with_at_other places n p i d) (are.below i (omega arith)) ];
+  apart = λ i j l m same. elim (cases_eq i n) [
+    | inl e ↦ elim (cases_eq j n) [
+      | inl f ↦ e ∙ sym f
+      | inr f ↦ absurd (free j (omega arith) (sym (with_at_other places n p j f) ∙ sym same ∙ with_at_same places n p i e))
+    ]
+    | inr d ↦ elim (cases_eq j n) [
+      | inl f ↦ absurd (free i (omega arith) (sym (with_at_other places n p i d) ∙ same ∙ with_at_same places n p j f))
+      | inr f ↦ are.apart i j (omega arith) (omega arith) (sym (with_at_other places n p i d) ∙ same ∙ with_at_other places n p j f)
+    ]
+  ];
+}
+
 module _ (F : Field) where
   -- one term taken out of a sum
   pub sum_but : (n : ℕ) (f : ℕ → ℕ) (p : ℕ) → p < n → sum_below F n f ≡ F.add (sum_below F n (with_at f p 0)) (f p)

@@ -59,9 +59,7 @@ nothing x = 0
 
 nothing_at : (xs : List ℕ) (i : ℕ) → get_or (map nothing xs) i 0 ≡ 0
 unfolding nothing
-nothing_at [] i = refl
-nothing_at (x ∷ xs) zero = refl
-nothing_at (x ∷ xs) (suc i) = nothing_at xs i
+nothing_at xs i = get_or-map nothing xs i 0
 
 pub at-zeros : (n i : ℕ) → at (replicate n 0) i ≡ 0
 at-zeros zero i = refl

@@ -8,7 +8,7 @@ use Rattle.rq_algebra.specs.Steps.{AddsRow, ScalesRow}
 use Rattle.rq_algebra.specs.PivotColumns.{HasPivots, HasFirstPivots, ClearsColumn}
 use Rattle.rq_algebra.proofs.Sums.{add_zero, mul_zero, mul_one}
 use Rattle.rq_algebra.proofs.Places.{exchange_other, exchange_below, exchange_twice}
-use Rattle.rq_algebra.proofs.FewEquations.{all_places}
+use Rattle.rq_algebra.proofs.FewPlaces.{all_places}
 
 -- the rows that one column clears, row by row
 module _ (F : Field) (height width count pivot column : ℕ) (rows : ℕ → ℕ) (rows_are : ArePlaces count height rows) (in_width : column < width) where
@@ -88,7 +88,7 @@ pivots_of_first F height width count a rows columns rows_are fits columns_are fi
   in_columns = columns_are;
   ones = first.ones;
   zeros = λ p k l m d.
-      let q = all_places F width columns columns_are k m in
+      let q = all_places width columns columns_are k m in
       ap (λ (j : ℕ). a (rows p) j) (sym q.2) ∙ first.zeros p q.0 (omega arith) q.1 (λ e. d (sym q.2 ∙ ap columns (sym e)));
-  rest = λ i k l free m. let q = all_places F width columns columns_are k m in rw (← q.2) (rest i q.0 l free q.1);
+  rest = λ i k l free m. let q = all_places width columns columns_are k m in rw (← q.2) (rest i q.0 l free q.1);
 }

@@ -6,7 +6,7 @@ use Rattle.rq_algebra.specs.Systems.{at, dot, Solves, IsHomogeneousColumn}
 use Rattle.rq_algebra.specs.Steps.{AddsRow, AddsValue, SameSolutions}
 use Rattle.rq_algebra.specs.SystemLaws.{AddingKeepsSolutions, ScalingKeepsSolutions, RowOrderKeepsSolutions, ColumnOrderKeepsSolutions, NewSolvesOld, DeterminedStays, HomogeneousColumnRefutesDetermined, DeterminedHasOneSolution}
 use Rattle.rq_algebra.proofs.Sums.{add_again, dot_same, dot_fma, dot_mul_row, dot_below_size, undo_mul, dot_add_column}
-use Rattle.rq_algebra.proofs.FewEquations.{all_places, dot_places}
+use Rattle.rq_algebra.proofs.FewPlaces.{all_places, dot_places}
 
 -- an equation of the same coefficients and the same value
 equation_same : (F : Field) (width : ℕ) (r s x : ℕ → ℕ) (v w : ℕ) → ((k : ℕ) → k < width → s k ≡ r k) → w ≡ v → dot F width r x ≡ v → dot F width s x ≡ w
@@ -88,7 +88,7 @@ scales_keeps F height width dest c in_dest is_element nonzero a b v w elements r
 pub reorder_keeps : RowOrderKeepsSolutions
 reorder_keeps F height width to a v are = record {
   onward = λ x s. record { at = λ i l. s.at (to i) (are.below i l) };
-  back = λ x s. record { at = λ i l. let q = all_places F height to are i l in rw q.2 at (s.at q.0 q.1) };
+  back = λ x s. record { at = λ i l. let q = all_places height to are i l in rw q.2 at (s.at q.0 q.1) };
 }
 
 pub columns_reordered : ColumnOrderKeepsSolutions

@@ -51,9 +51,6 @@ module _ (bits : ℕ) (mul : ℕ → ℕ → ℕ) (inverse : ℕ → ℕ) (laws 
   pub low_inverse_mul : (x : ℕ) → x < 2 ^ bits → x ≢ 0 → mul_low (inverse x) x ≡ 1
   low_inverse_mul x l d = cc (low_is (inverse x) (laws.inverse_below x l d), low_is x l, laws.inverse_mul x l d)
 
-  pub low_add_below : (x y : ℕ) → x < 2 ^ bits → y < 2 ^ bits → bit_xor x y < 2 ^ bits
-  low_add_below x y l m = xor_lt bits x y l m
-
   abbrev pub field_from : Field
   field_from = record {
     size = 2 ^ bits;
@@ -70,7 +67,7 @@ module _ (bits : ℕ) (mul : ℕ → ℕ → ℕ) (inverse : ℕ → ℕ) (laws 
     one_mul = low_one_mul;
     inverse_mul = low_inverse_mul;
     one_below = laws.one_below;
-    add_below = low_add_below;
+    add_below = xor_lt bits;
     mul_below = low_mul_below;
     inverse_below = laws.inverse_below;
   }

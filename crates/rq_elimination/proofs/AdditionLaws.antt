@@ -4,7 +4,7 @@ use Rattle.std.proofs.lemmas.List.Sums.{sum_by-append}
 use Rattle.rq_algebra.specs.Operations.{Operation, AddAssign, MulAssign, Fma}
 use Rattle.rq_elimination.specs.OperationCounts.{additions, is_addition}
 use Rattle.rq_elimination.specs.RowSteps.{sum_step}
-use Rattle.rq_elimination.proofs.Choices.{if_either}
+use Rattle.rq_algebra.proofs.Choices.{if_either}
 
 additions-push : (operations : List Operation) (operation : Operation) → additions (operations ++ operation ∷ []) ≡ additions operations + additions (operation ∷ [])
 additions-push operations operation = sum_by-append (λ (o : Operation). if is_addition o then 1 else 0) operations (operation ∷ [])

@@ -7,7 +7,7 @@ use Rattle.rq_algebra.proofs.Sums.{add_zero, zero_mul}
 use Rattle.rq_standard.specs.OctetField.{octets}
 use Rattle.rq_parts.specs.DenseOctetMatrix.{OctetTable, entry_of, HasOctets}
 use Rattle.rq_elimination.specs.HdpcRows.{HdpcTable, octet_in}
-use Rattle.rq_elimination.proofs.Choices.{if_apart}
+use Rattle.rq_algebra.proofs.Choices.{if_apart}
 
 -- ---- factors
 

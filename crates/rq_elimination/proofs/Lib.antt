@@ -1,6 +1,5 @@
 pub mod AdditionLaws
 pub mod ChangedEntries
-pub mod Choices
 pub mod EntryRows
 pub mod HdpcFactors
 pub mod NonzeroLanes

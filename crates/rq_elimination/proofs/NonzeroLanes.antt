@@ -10,7 +10,7 @@ use lib.Lanes.{chunk, mask_l, top, zip2}
 use Rattle.rq_algebra.specs.Systems.{at}
 use Rattle.rq_standard.specs.BitTableSteps.{bit_of}
 use Rattle.rq_elimination.specs.NonzeroOctets.{HasOnes}
-use Rattle.rq_elimination.proofs.Choices.{if_same}
+use Rattle.rq_algebra.proofs.Choices.{if_same}
 use Rattle.rq_parts.proofs.ListedBits.{nonzero_bit}
 use Rattle.rq_parts.proofs.LowestOnes.{ClearsLowest, lowest_before, lowest_from}
 

@@ -13,7 +13,7 @@ use Rattle.rq_parts.specs.DenseOctetMatrix.{OctetTable, entry_of}
 use Rattle.rq_elimination.specs.RecordedRows.{Performs, Records, ChangesRows}
 use Rattle.rq_elimination.specs.declared.recorded.RecordedRows.{RecordedRows}
 use Rattle.rq_elimination.specs.RowSteps.{row_step, rows_after, sum_step, AreStepsBelow, IsStepAmong}
-use Rattle.rq_elimination.proofs.Choices.{if_either}
+use Rattle.rq_algebra.proofs.Choices.{if_either}
 use Rattle.rq_elimination.proofs.StepColumns.{changed_here, changed_other, rows_after-none, rows_after-next, rows_after-column, rows_after-apart, rows_after-zero, Contains-range, below_height}
 
 -- ---- a multiple of a row is added

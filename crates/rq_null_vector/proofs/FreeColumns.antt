@@ -5,7 +5,7 @@ use Rattle.std.proofs.lemmas.Bool.{cases_eq, cases_lt}
 use Rattle.std.proofs.lemmas.List.{get_or_append_left, get_or-append_right, get_or-map, get_or-replicate, get_or-take, length-append, length-map, length-replicate, length-take-le}
 use Rattle.rq_algebra.specs.Arrangements.{ArePlaces}
 use Rattle.rq_algebra.specs.Systems.{at, dot, IsColumn, IsDetermined, IsHomogeneousColumn}
-use Rattle.rq_algebra.proofs.FewEquations.{all_places}
+use Rattle.rq_algebra.proofs.FewPlaces.{all_places}
 use Rattle.rq_algebra.proofs.Solutions.{homogeneous_column_same, solves_same}
 use Rattle.rq_algebra.proofs.Sums.{mul_one, zero_mul, mul_zero, dot_one, dot_zero, dot-suc, dot_split}
 use Rattle.rq_standard.specs.OctetField.{octets}
@@ -121,7 +121,7 @@ module _ (start end : OctetTable) (rows : List ℕ) (keeps : KeepsZeros start en
       solves = keeps.same.back (at column) record {
         at = λ i l.
             let placed : ArePlaces (length end.rows) (length end.rows) (at rows) = rw all at are in
-            let q = all_places octets (length end.rows) (at rows) placed i (omega (arith, keeps.height)) in
+            let q = all_places (length end.rows) (at rows) placed i (omega (arith, keeps.height)) in
             rw (← q.2) (says q.0 (omega (arith, q.1, all)));
       };
       index = free;

@@ -1,15 +1,13 @@
--- Counts and sums of any list of numbers, and different places below a bound, which are no more than the bound.
+-- Counts and sums of any list of numbers.
 use Rattle.std.proofs.Common.{Bool, ◌≡◌, ◌≢◌, ℕ, ◌+◌, ◌-◌, ◌*◌, ◌<◌, ◌≤◌, List, [], All, ◌∷◌, ◌++◌, Contains, length, take, drop, replicate, get_or, refl, sym, ap, subst, ◌∙◌, arith, inl, inr, if◌then◌else◌, cond, true, false, ◌==◌, zero, suc, add-zero, zero-add}
 use Rattle.std.specs.List.{concat, count_by, sum, sum_by}
-use Rattle.std.proofs.lemmas.Bool.{cases_eq, eq-eqb, ne_eqb, cases_lt}
+use Rattle.std.proofs.lemmas.Bool.{eq-eqb, ne_eqb}
 use Rattle.std.proofs.lemmas.Bool.Decides.{eqb_tells}
 use Rattle.std.proofs.lemmas.List.{length-append, take-append-drop, length-take-le, get_or_default, get_or-take}
 use Rattle.std.proofs.lemmas.List.Elements.{All-append}
 use Rattle.std.proofs.lemmas.List.Folds.{sum_by-replicate}
 use Rattle.std.proofs.lemmas.List.Sums.{count_by_more_yes, count_by_more_no, sum_by-append, sum_by-cons, sum_by_more, sum_by-take-le}
-use Rattle.rq_algebra.specs.Arrangements.{ArePlaces}
-use Rattle.rq_algebra.specs.Systems.{at, stacked}
-use Rattle.rq_algebra.proofs.Stacks.{stacked_above, stacked_below}
+use Rattle.rq_algebra.specs.Systems.{at}
 
 -- ---- how often a list has a number
 
@@ -129,89 +127,3 @@ length-concat (list ∷ lists) = length-append list (concat lists) ∙ ap (λ n.
 pub All-concat : (P : ℕ → Type 0) (lists : List (List ℕ)) → All (All P) lists → All P (concat lists)
 All-concat P [] all = λ i d l. absurd (omega arith)
 All-concat P (list ∷ lists) all = All-append P list (concat lists) (all 0 [] (omega arith)) (All-concat P lists (λ i d l. all (suc i) d (omega arith)))
-
--- ---- different places below a bound are at most as many as the bound
-
-module _ (n b : ℕ) (places : ℕ → ℕ) (are : ArePlaces (suc n) (suc b) places) where
-  -- the last place stands where the greatest stood
-  pub moved : ℕ → ℕ
-  moved i = if places i == b then places n else places i
-
-  moved_here : (i : ℕ) → places i ≡ b → moved i ≡ places n
-  unfolding moved
-  moved_here i e = ap (λ (t : Bool). if t then places n else places i) (eq-eqb (places i) b e)
-
-  moved_other : (i : ℕ) → places i ≢ b → moved i ≡ places i
-  unfolding moved
-  moved_other i d = ap (λ (t : Bool). if t then places n else places i) (ne_eqb (places i) b d)
-
-  last_apart : (i : ℕ) → i < n → places i ≢ places n
-  last_apart i l e = let z : i ≡ n = are.apart i n (omega arith) (omega arith) e in omega (arith, z, l)
-
-  pub moved_are : ArePlaces n b moved
-  moved_are = record {
-    below = λ i l.
-        let first = are.below i (omega arith) in
-        let last = are.below n (omega arith) in
-        elim (cases_eq (places i) b) [
-          | inl e ↦ let other : places n ≢ b = (λ f. last_apart i l (e ∙ sym f)) in rw (moved_here i e) (omega arith)
-          | inr d ↦ rw (moved_other i d) (omega arith)
-        ];
-    apart = λ i j l m same. elim (cases_eq (places i) b) [
-      | inl e ↦ elim (cases_eq (places j) b) [
-        | inl f ↦ are.apart i j (omega arith) (omega arith) (e ∙ sym f)
-        | inr d ↦ absurd (last_apart j m (sym (moved_other j d) ∙ sym same ∙ moved_here i e))
-      ]
-      | inr d ↦ elim (cases_eq (places j) b) [
-        | inl f ↦ absurd (last_apart i l (sym (moved_other i d) ∙ same ∙ moved_here j f))
-        | inr g ↦ are.apart i j (omega arith) (omega arith) (sym (moved_other i d) ∙ same ∙ moved_other j g)
-      ]
-    ];
-  }
-
-pub few_places : (n b : ℕ) (places : ℕ → ℕ) → ArePlaces n b places → n ≤ b
-few_places zero b places are = omega arith
-few_places (suc n) zero places are = absurd (omega (arith, are.below 0 (omega arith)))
-few_places (suc n) (suc b) places are = let less = few_places n b (moved n b places are) (moved_are n b places are) in omega (arith, less)
-
--- places, and others that follow each other
-module _ (n count first bound : ℕ) (places : ℕ → ℕ) (are : ArePlaces n bound places) (within : first + count ≤ bound) (other : (i q : ℕ) → i < count → q < n → first + i ≢ places q) where
-  both : ℕ → ℕ
-  both = stacked n places (λ i. first + i)
-
-  both_first : (i : ℕ) → i < n → both i ≡ places i
-  unfolding both
-  both_first i l = stacked_above n places (λ j. first + j) i l
-
-  both_after : (i : ℕ) → both (n + i) ≡ first + i
-  unfolding both
-  both_after i = stacked_below n places (λ j. first + j) i
-
-  -- a place behind the first n
-  behind : (i : ℕ) → n ≤ i → i < n + count → (j : ℕ) × (j < count) × (both i ≡ first + j)
-  behind i late l = let back : n + (i - n) ≡ i = omega arith in (i - n, (omega arith), ap both (sym back) ∙ both_after (i - n))
-
-  both_are : ArePlaces (n + count) bound both
-  both_are = record {
-    below = λ i l. elim (cases_lt i n) [
-      | inl early ↦ rw (both_first i early) (are.below i early)
-      | inr late ↦ let j = behind i late l in rw j.2 (let inside = j.1 in omega (arith, inside))
-    ];
-    apart = λ i k l m e. elim (cases_lt i n) [
-      | inl early ↦ elim (cases_lt k n) [
-        | inl first_k ↦ are.apart i k early first_k (sym (both_first i early) ∙ e ∙ both_first k first_k)
-        | inr late_k ↦ let j = behind k late_k m in absurd (other j.0 i j.1 early (sym j.2 ∙ sym e ∙ both_first i early))
-      ]
-      | inr late ↦ elim (cases_lt k n) [
-        | inl first_k ↦ let j = behind i late l in absurd (other j.0 k j.1 first_k (sym j.2 ∙ e ∙ both_first k first_k))
-        | inr late_k ↦
-            let back : n + (i - n) ≡ i = omega arith in
-            let back_k : n + (k - n) ≡ k = omega arith in
-            let same : first + (i - n) ≡ first + (k - n) = sym (both_after (i - n)) ∙ ap both back ∙ e ∙ ap both (sym back_k) ∙ both_after (k - n) in
-            omega (arith, same, back, back_k)
-      ]
-    ];
-  }
-
-  pub few_together : n + count ≤ bound
-  few_together = few_places (n + count) bound both both_are

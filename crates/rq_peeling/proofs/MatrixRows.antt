@@ -8,7 +8,8 @@ use Rattle.rq_standard.specs.BitTableSteps.{ArePlacesOfOnes}
 use Rattle.rq_parts.specs.DenseOctetMatrix.{OctetTable}
 use Rattle.rq_peeling.specs.SystemRows.{AreRowsOfBits, AreOctetRows}
 use Rattle.rq_peeling.specs.RowOnes.{AreOnesOfRows, ones_of}
-use Rattle.rq_peeling.proofs.Counting.{count_contains, few_places, twice_counted}
+use Rattle.rq_algebra.proofs.FewPlaces.{few_places}
+use Rattle.rq_peeling.proofs.Counting.{count_contains, twice_counted}
 
 -- the columns in which a row of bits has ones
 pub record AreColumnsOfRow (width : ℕ) (columns : List ℕ) : Type 0 where
@@ -38,8 +39,8 @@ no_places bit width (k ∷ places) are zeros =
     absurd (omega (arith, some, none))
 
 module _ (height width : ℕ) (bit : ℕ → ℕ → ℕ) (lists : List (List ℕ)) (are : AreOnesOfRows height width bit lists) where
-  pub rows_of_bits : ((i k : ℕ) → i < height → k < width → bit i k < 2) → AreRowsOfBits width lists
-  rows_of_bits bits = record {
+  pub are_rows_of_bits : ((i k : ℕ) → i < height → k < width → bit i k < 2) → AreRowsOfBits width lists
+  are_rows_of_bits bits = record {
     within = λ i l. All-weaker (λ k. (0 ≤ k) × (k < width)) (λ k. k < width) (λ k b. b.1) (ones_of lists i) (are.each i (rw are.count at l)).within;
     once = λ i k l m. let inside : i < height = rw are.count at l in omega (arith, (are.each i inside).once k (omega arith) m, bits i k inside m);
   }

@@ -12,7 +12,7 @@ use Rattle.rq_elimination.specs.RowSteps.{sum_step, rows_after}
 use Rattle.rq_elimination.specs.declared.recorded.RecordedRows.{RecordedRows}
 use Rattle.rq_elimination.proofs.StepColumns.{rows_after-none, rows_after-next}
 use Rattle.rq_elimination.proofs.Performing.{sum_step-here, sum_step-elsewhere, scaling-here, scaling-elsewhere, performs_none, performs_more}
-use Rattle.rq_elimination.proofs.Choices.{if_same, if_apart}
+use Rattle.rq_algebra.proofs.Choices.{if_same, if_apart}
 use Rattle.rq_solver.proofs.OctetSums.{plus_zero_times, plus_own}
 use Rattle.rq_solver.proofs.PivotsTaken.{cleared_small}
 use Rattle.rq_solver.proofs.OctetColumns.{before_column, from_column, zero_here, same_beside, same_behind, zeros_in_all}

@@ -7,7 +7,7 @@ use Rattle.rq_algebra.specs.Systems.{HasElements}
 use Rattle.rq_algebra.proofs.Sums.{mul_zero}
 use Rattle.rq_standard.specs.OctetField.{octets}
 use Rattle.rq_solver.specs.HdpcOctets.{octets_from, with_zeros}
-use Rattle.rq_elimination.proofs.Choices.{if_same, if_apart}
+use Rattle.rq_algebra.proofs.Choices.{if_same, if_apart}
 
 -- ---- columns from one on
 

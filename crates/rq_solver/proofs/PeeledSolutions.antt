@@ -11,7 +11,8 @@ use Rattle.rq_algebra.specs.PivotColumns.{ReadsPivots, HasFirstPivots}
 use Rattle.rq_algebra.specs.Following.{Follows}
 use Rattle.rq_algebra.specs.Operations.{Operation, Reorder, FindsColumn}
 use Rattle.rq_algebra.specs.Systems.{at, dot, stacked, HasElements, HasHomogeneousColumn, IsColumn, IsHomogeneousColumn, Solves}
-use Rattle.rq_algebra.proofs.FewEquations.{dot_places, homogeneous_of_few}
+use Rattle.rq_algebra.proofs.FewEquations.{homogeneous_of_few}
+use Rattle.rq_algebra.proofs.FewPlaces.{dot_places}
 use Rattle.rq_algebra.proofs.Pivots.{finds_by_pivots, homogeneous_back, zeros_back}
 use Rattle.rq_algebra.proofs.Reduction.{pivots_of_first}
 use Rattle.rq_algebra.proofs.OperationRuns.{follows_none}
@@ -29,7 +30,7 @@ use Rattle.rq_elimination.specs.RecordedRows.{ChangesRows}
 use Rattle.rq_elimination.specs.declared.recorded.RecordedRows.{RecordedRows}
 use Rattle.rq_elimination.specs.RowSteps.{AreStepsBelow, IsEchelon, IsStuck, IsStepAmong, rows_after}
 use Rattle.rq_elimination.proofs.Performing.{changes_keep, shows_after}
-use Rattle.rq_elimination.proofs.Choices.{if_same, if_apart}
+use Rattle.rq_algebra.proofs.Choices.{if_same, if_apart}
 use Rattle.rq_solver.proofs.PivotsCleared.{left_below, left_apart, pivot_or_left}
 use Rattle.rq_elimination.proofs.RowStepLaws.{rows_after-elements, follows_steps}
 use Rattle.rq_elimination.proofs.StepColumns.{rows_after-apart, rows_after-next, Contains-range}

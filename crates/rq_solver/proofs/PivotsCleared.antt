@@ -19,7 +19,7 @@ use Rattle.rq_elimination.specs.RecordedRows.{Performs}
 use Rattle.rq_elimination.specs.declared.recorded.RecordedRows.{RecordedRows}
 use Rattle.rq_elimination.specs.RowSteps.{rows_after}
 use Rattle.rq_solver.proofs.OctetRows.{octet_row, bit_row, octet_row_or_bit_row}
-use Rattle.rq_elimination.proofs.Choices.{if_apart}
+use Rattle.rq_algebra.proofs.Choices.{if_apart}
 use Rattle.rq_elimination.proofs.StepColumns.{rows_after-next}
 use Rattle.rq_elimination.proofs.Performing.{performs_more, shows_after}
 

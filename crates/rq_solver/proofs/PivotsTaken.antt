@@ -20,7 +20,7 @@ use Rattle.rq_elimination.proofs.StepColumns.{rows_after-none}
 use Rattle.rq_elimination.proofs.Performing.{sum_after-here, sum_after-elsewhere}
 use Rattle.rq_peeling.proofs.MatrixRows.{AreColumnsOfRow}
 use Rattle.rq_peeling.proofs.Counting.{count_contains, count_taken, count_next, count_skipped}
-use Rattle.rq_elimination.proofs.Choices.{if_same, if_apart}
+use Rattle.rq_algebra.proofs.Choices.{if_same, if_apart}
 use Rattle.rq_peeling.proofs.PeelingLaws.{still_there, now_there}
 use Rattle.rq_solver.proofs.OctetSums.{plus_zero_times}
 

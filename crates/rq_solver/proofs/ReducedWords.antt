@@ -15,7 +15,7 @@ use Rattle.rq_elimination.specs.declared.recorded.RecordedRows.{RecordedRows}
 use Rattle.rq_parts.specs.DenseOctetMatrix.{OctetTable}
 use Rattle.rq_parts.proofs.LowestOnes.{ClearsLowest, lowest_before, lowest_from}
 use Rattle.rq_elimination.proofs.Performing.{records_more}
-use Rattle.rq_elimination.proofs.Choices.{if_same, if_apart}
+use Rattle.rq_algebra.proofs.Choices.{if_same, if_apart}
 use Rattle.rq_elimination.proofs.StepColumns.{rows_after-next}
 use Rattle.rq_solver.proofs.Substitution.{reduced_none, reduced_next, reduced_zeros}
 

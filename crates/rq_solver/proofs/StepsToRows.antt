@@ -2,7 +2,7 @@
 use Rattle.std.proofs.Common.{◌≡◌, ℕ, List, All, get_or, sym, subst}
 use Rattle.rq_algebra.specs.Operations.{Operation, AddAssign, MulAssign, Fma, Reorder}
 use Rattle.rq_elimination.specs.RowSteps.{sum_step}
-use Rattle.rq_elimination.proofs.Choices.{if_either}
+use Rattle.rq_algebra.proofs.Choices.{if_either}
 use Rattle.rq_solver.specs.PivotAdditions.{IsSumOf}
 use Rattle.rq_solver.specs.SecondPhase.{IsStepTo}
 

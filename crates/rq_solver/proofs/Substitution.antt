@@ -13,7 +13,7 @@ use Rattle.rq_elimination.proofs.StepColumns.{rows_after-none, rows_after-next}
 use Rattle.rq_elimination.proofs.Performing.{sum_after-here, sum_after-elsewhere, records_none, records_more}
 use Rattle.rq_solver.proofs.OctetSums.{plus_zero_times, plus_own}
 use Rattle.rq_solver.proofs.StepsToRows.{sum_to, steps_to}
-use Rattle.rq_elimination.proofs.Choices.{if_same, if_apart}
+use Rattle.rq_algebra.proofs.Choices.{if_same, if_apart}
 
 module _ (inactive_rows : List ℕ) (row start count : ℕ) (entries : ℕ → ℕ) where
   pub reduced_none : (old : RecordedRows) → ClearsColumns inactive_rows row start count start entries old old

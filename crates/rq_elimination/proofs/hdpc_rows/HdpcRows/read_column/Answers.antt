@@ -10,7 +10,7 @@ use Rattle.rq_standard.specs.Rows.{row_multiple}
 use Rattle.rq_parts.specs.DenseOctetMatrix.{entry_of}
 use Rattle.rq_elimination.specs.HdpcRows.{HdpcTable}
 use Rattle.rq_elimination.proofs.ChangedEntries.{at-row_multiple}
-use Rattle.rq_elimination.proofs.Choices.{if_apart}
+use Rattle.rq_algebra.proofs.Choices.{if_apart}
 use Rattle.rq_elimination.proofs.hdpc_rows.HdpcRows.read_column.Goals as goal
 
 pub returns-clause-in_column : goal.returns-clause-in_column

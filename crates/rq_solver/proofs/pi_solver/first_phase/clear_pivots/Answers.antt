@@ -4,7 +4,7 @@ use Rattle.std.proofs.Math.Nat.{mul-le-mul_right}
 use Rattle.rq_algebra.specs.Systems.{at}
 use Rattle.rq_parts.specs.DenseOctetMatrix.{OctetTable}
 use Rattle.rq_elimination.specs.OperationCounts.{additions}
-use Rattle.rq_peeling.proofs.Counting.{few_places}
+use Rattle.rq_algebra.proofs.FewPlaces.{few_places}
 use Rattle.rq_solver.proofs.PivotsTaken.{peels_rows}
 use Rattle.rq_solver.proofs.PivotsCleared.{peeled_pivots, pivot_of_bits, takes_alone}
 use Rattle.rq_solver.proofs.TakenAgain.{taken_performed}

@@ -3,7 +3,7 @@ use Rattle.std.proofs.Common.{◌≡◌, ℕ, ◌+◌, ◌-◌, ◌*◌, ◌/◌
 use Rattle.std.proofs.Math.Nat.{mul-le-mul_left}
 use Rattle.rq_algebra.specs.Systems.{at}
 use Rattle.rq_elimination.specs.OperationCounts.{additions}
-use Rattle.rq_peeling.proofs.Counting.{few_places, few_together}
+use Rattle.rq_algebra.proofs.FewPlaces.{few_places, few_together}
 use Rattle.rq_elimination.specs.declared.counts.PhaseEnds.{PhaseEnds}
 use Rattle.rq_peeling.specs.Peeling.{IsPeeled, Pivots}
 use Rattle.rq_peeling.specs.declared.system.System.{System}

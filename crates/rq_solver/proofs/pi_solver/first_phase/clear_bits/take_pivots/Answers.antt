@@ -3,7 +3,8 @@ use Rattle.std.proofs.Common.{◌≡◌, ◌≢◌, ◌+◌, ◌<◌, ℕ, [], �
 use Rattle.rq_algebra.specs.Systems.{at}
 use Rattle.rq_elimination.specs.RecordedRows.{Performs}
 use Rattle.rq_elimination.specs.RowSteps.{sum_step}
-use Rattle.rq_peeling.proofs.Counting.{few_places, twice_counted}
+use Rattle.rq_algebra.proofs.FewPlaces.{few_places}
+use Rattle.rq_peeling.proofs.Counting.{twice_counted}
 use Rattle.rq_solver.proofs.CountLaws.{met_none, met_skipped, met_more}
 use Rattle.rq_elimination.proofs.Performing.{performs_none, performs_more}
 use Rattle.rq_solver.proofs.PivotsTaken.{columns_of_row, takes_no_pivots, takes_skipped, takes_more}

@@ -3,7 +3,7 @@ use Rattle.std.proofs.Common.{◌≡◌, ◌≢◌, ℕ, ◌+◌, ◌-◌, ◌<�
 use Rattle.std.proofs.lemmas.Bool.{cases_lt}
 use Rattle.rq_algebra.specs.Systems.{at}
 use Rattle.rq_solver.proofs.CountLaws.{hdpc_sum, met_none, met_skipped, met_more}
-use Rattle.rq_peeling.proofs.Counting.{few_places}
+use Rattle.rq_algebra.proofs.FewPlaces.{few_places}
 use Rattle.rq_parts.specs.DenseOctetMatrix.{OctetTable, entry_of}
 use Rattle.rq_solver.specs.HdpcOctets.{HasPivotsBeside, ChangesOctets, CombinesOctets, octets_from}
 use Rattle.rq_elimination.specs.HdpcRows.{octet_in}
