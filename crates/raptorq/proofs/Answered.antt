@@ -9,7 +9,7 @@ use Rattle.rq_standard.specs.TableRows.{IsChecked}
 use Rattle.rq_standard.specs.Equations.{tuple_sum, internal_id}
 use Rattle.rq_standard.specs.ReceivedBlock.{ReceivedBlock, has_received, SolvesReceived, HasReceivedSolution, ReceivedDetermine, IsBlockWith, IsBlockAnswer}
 use Rattle.rq_standard.specs.Received.{HasSourceSymbols}
-use Rattle.rq_standard.proofs.Columns.{sum_symbol, sum_same}
+use Rattle.rq_standard.proofs.Columns.{sum_symbol, tuple_sum-same}
 use Rattle.raptorq.specs.Known.{IsReceivedSolution, rebuilt_symbol}
 use Rattle.raptorq.specs.Missing.{missing_count}
 use Rattle.raptorq.proofs.ReceivedEquations.{internal_below, came_sum}
@@ -58,7 +58,7 @@ rebuilt_block h slab symbol_bytes block n same checked s all long each =
       long = long;
       each = λ e below. each_by (h.received e) (tuple_sum h.row (symbol_in slab) e) (symbol_of_block h.configuration h.source_symbols block e) (cut e below);
       solved = λ d column z e below. sym (cut e below)
-          ∙ solved_by (h.received e) (tuple_sum h.row (symbol_in slab) e) (tuple_sum h.row column e) (λ x is. came_source h column e x z below is) (sum_same h.row e (symbol_in slab) column checked (λ k lt. sym (s.only column z k lt)));
+          ∙ solved_by (h.received e) (tuple_sum h.row (symbol_in slab) e) (tuple_sum h.row column e) (λ x is. came_source h column e x z below is) (tuple_sum-same h.row e (symbol_in slab) column checked (λ k lt. sym (s.only column z k lt)));
     }
 
 -- something is missing, and what was received determines nothing

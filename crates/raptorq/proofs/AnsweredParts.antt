@@ -15,7 +15,7 @@ use Rattle.rq_standard.specs.ReceivedBlock.{ReceivedBlock}
 use Rattle.rq_standard.specs.DecoderState.{State, append_both, first_blocks}
 use Rattle.rq_standard.specs.Standing.{BlockStandsFor}
 use Rattle.rq_standard.proofs.BlockCuts.{symbols_before-first, symbols_before-next}
-use Rattle.rq_standard.proofs.ObjectAnswers.{some_of, answered, has_answer}
+use Rattle.rq_standard.proofs.ObjectAnswers.{answered, has_answer}
 use Rattle.rq_standard.proofs.PlainCut.{length-block_bytes}
 use Rattle.raptorq.specs.declared.decoder.object.Decoder.{Decoder}
 use Rattle.raptorq.specs.declared.decoder.object.ObjectBlock.{ObjectBlock}
@@ -23,8 +23,8 @@ use Rattle.raptorq.specs.BlockBytes.{bytes_of_block, object_part, answered_part,
 use Rattle.raptorq.specs.Decoder.{answer_of, state_of, HoldsBlock}
 use Rattle.raptorq.specs.SourceBlockDecoder.{received_of}
 use Rattle.raptorq.proofs.EncodedBlocks.{bytes_of_block-byte}
-use Rattle.raptorq.proofs.Numbered.{length-numbered, number_at}
-use Rattle.raptorq.proofs.OptionValues.{is_some-mapped}
+use Rattle.raptorq.proofs.Numbered.{length-numbered, numbered_at}
+use Rattle.rq_standard.proofs.OptionValues.{is_some-mapped}
 use Rattle.raptorq.proofs.ObjectBlocks.{state, block_number, IsCut}
 
 -- each answer is as long as its block
@@ -99,7 +99,7 @@ answers_part s b r is table object packets late st below =
     let stands = st.block b below in
     subst (IsPartAnswer table c object packets b (late b)) (sym is) (record {
       part = answered_is c object packets b (late b) h a st.run.long stands;
-      only = λ some. (answered table object packets s (late b) b h a shape stands (some_of (object_part c b) a some)).1;
+      only = λ some. (answered table object packets s (late b) b h a shape stands (sym (is_some-mapped (object_part c b) a) ∙ some)).1;
       each = λ now determined. is_some-mapped (object_part c b) a ∙ has_answer table object packets s b h a shape (subst (λ l. BlockStandsFor l (block_bytes c object b) b packets h a) now stands) determined;
     })
 
@@ -120,7 +120,7 @@ module _ (c : Configuration) (items : List ObjectBlock) (numbered : map block_nu
       let first = some_block items b within in
       let x = get_or items b first in
       let is : x ≡ get_or items b x = get_or_default items b first x within in
-      let symbols : (received_of x.decoder).source_symbols ≡ block_symbols c b = cut b first within ∙ ap (block_symbols c) (number_at block_number c.source_blocks items numbered b x below is) in
+      let symbols : (received_of x.decoder).source_symbols ≡ block_symbols c b = cut b first within ∙ ap (block_symbols c) (numbered_at block_number c.source_blocks items numbered b x below is) in
       let size : (received_of x.decoder).configuration.symbol_size ≡ c.symbol_size = ap (λ k. k.symbol_size) (same b first within) in
       let whole : (received_of x.decoder).source_symbols * (received_of x.decoder).configuration.symbol_size ≡ block_symbols c b * c.symbol_size =
       ap (λ m. m * (received_of x.decoder).configuration.symbol_size) symbols ∙ ap (λ m. block_symbols c b * m) size in

@@ -175,9 +175,9 @@ module _ (height width : ℕ) (rows : ℕ → ℕ → ℕ) (operations : List Op
       ∙ ap (λ n. replicate {A = ℕ} n 0) (sym size_is)
 
   -- and where that is zeros, the column that is found solves the rows
-  pub zeros_solve : IsZeroUnread slab → ((k : ℕ) → symbol_in slab k ≡ found_by (symbols octets) operations handed.values k) → SolvesSymbols octets height width rows (symbol_in slab) (symbol_at handed.values)
+  pub unread_solve : IsZeroUnread slab → ((k : ℕ) → symbol_in slab k ≡ found_by (symbols octets) operations handed.values k) → SolvesSymbols octets height width rows (symbol_in slab) (symbol_at handed.values)
   unfolding left
-  zeros_solve zeros reads = subst (λ (column : ℕ → List ℕ). SolvesSymbols octets height width rows column (symbol_at handed.values)) (λ j k. sym (reads k) j)
+  unread_solve zeros reads = subst (λ (column : ℕ → List ℕ). SolvesSymbols octets height width rows column (symbol_at handed.values)) (λ j k. sym (reads k) j)
       ((finds_symbols octets height width rows operations finds handed.symbol_size handed.values are).consistent (λ i unread.
       ap (λ (xs : List (List ℕ)). symbol_at xs i) (sym left_is) ∙ zeros finds.order order_is i (subst (λ n. IsUnread n finds.order i) (sym count_is) unread) ∙ ap (λ n. replicate {A = ℕ} n 0) size_is))
 
@@ -196,5 +196,5 @@ solution_found row ids solution handed slab from symbols_are order made =
       symbols = λ k l. subst (IsSymbol octets handed.symbol_size) (sym (s.reads k)) ((finds_symbols octets height (intermediate_symbols row) rows operations from.finds handed.symbol_size handed.values symbols_are).are_symbols k l);
       only = λ column is solves k l. s.only handed.symbol_size handed.values column symbols_are is solves k l ∙ sym (s.reads k);
       leaves = leaves_zeros height (intermediate_symbols row) rows operations from.finds handed slab symbols_are order made;
-      solves = λ zeros. zeros_solve height (intermediate_symbols row) rows operations from.finds handed slab symbols_are order made zeros s.reads;
+      solves = λ zeros. unread_solve height (intermediate_symbols row) rows operations from.finds handed slab symbols_are order made zeros s.reads;
     }

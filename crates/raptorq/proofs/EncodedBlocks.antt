@@ -15,7 +15,7 @@ use Rattle.rq_standard.specs.TableRows.{greatest_size, row_of}
 use Rattle.rq_standard.specs.Headline.{IsEncodingSymbol, IsSingular, block_row, block_source, IsPacketOf, HasNonsingularRows}
 use Rattle.rq_standard.specs.ObjectPackets.{first_ids, AreEncoded}
 use Rattle.rq_standard.proofs.PlainCut.{length-block_bytes}
-use Rattle.rq_standard.proofs.StandingSteps.{length-block_source}
+use Rattle.rq_standard.proofs.StandingSteps.{length-block_source, AllByRecursion-append}
 use Rattle.rq_standard.proofs.BlockCuts.{block_symbols_few, symbols_before-first, symbols_before-next}
 use Rattle.raptorq.specs.SourceBlockEncodingPlan.{RefusesPlan}
 use Rattle.raptorq.specs.BlockBytes.{bytes_of_block}
@@ -87,10 +87,6 @@ module _ (table : List TableRow) (c : Configuration) (object : List ℕ) (b : �
 pub packet_in : (e : Encoded) (n : ℕ) (b : BlockEncoded) (p : Packet) → n < e.configuration.source_blocks → b ≡ e.block n → IsBlockPacket b p → IsPacketIn e p
 packet_in e n b p below is packet = λ table object made. packet_of_block table e.configuration object n below p (subst (λ k. IsBlockPacket k p) (is ∙ made.block n below) packet)
 
-pub both_all : (P : Packet → Type 0) (xs ys : List Packet) → AllByRecursion P xs → AllByRecursion P ys → AllByRecursion P (xs ++ ys)
-both_all P [] ys all more = more
-both_all P (x ∷ xs) ys all more = (all.0, both_all P xs ys all.1 more)
-
 -- the ids of the packets of the first n blocks
 abbrev pub ids_before : Configuration → ℕ → ℕ → List SymbolId
 ids_before c repair n = flat_map (λ b. first_ids (block_symbols c b + repair) b) (range_with_len 0 n)
@@ -111,7 +107,7 @@ encoded_more e repair n end b done more new below is number count so_many so are
     subst (AreEncodedSoFar c repair (n + 1) e) (sym grown) (record {
       ids = map-append (λ (p : Packet). p.id) done more ∙ ap (λ l. l ++ map (λ p. p.id) more) so.ids
           ∙ ap (λ l. ids_before c repair n ++ l) (are.ids ∙ ap (λ k. first_ids end k) number ∙ ap (λ m. first_ids m n) (so_many ∙ ap (λ m. m + repair) count)) ∙ sym (ids_next c repair n);
-      each = λ table object made. both_all (IsPacketOf table c object) done more (so.each table object made)
+      each = λ table object made. AllByRecursion-append (IsPacketOf table c object) done more (so.each table object made)
           (packets_of_block table c object n below more (subst (λ k. AllByRecursion (IsBlockPacket k) more) (is ∙ made.block n below) are.each));
     })
 

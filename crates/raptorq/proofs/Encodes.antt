@@ -15,7 +15,7 @@ use Rattle.rq_standard.specs.declared.row.TableRow.{TableRow}
 use Rattle.rq_standard.specs.TableRows.{IsChecked}
 use Rattle.rq_standard.specs.Equations.{zero_symbol, tuple_sum}
 use Rattle.rq_standard.proofs.Columns.{source_sum}
-use Rattle.rq_standard.proofs.StandingSteps.{push-all}
+use Rattle.rq_standard.proofs.StandingSteps.{AllByRecursion-append}
 use Rattle.raptorq.specs.Encoder.{id_in}
 use Rattle.raptorq.specs.declared.encoder.block.SourceBlockEncoder.{SourceBlockEncoder}
 use Rattle.raptorq.specs.SourceBlockEncoder.{BlockEncoded, IsBlockPacket, AreBlockPackets}
@@ -77,5 +77,5 @@ block_packets-more b start j packets new p from so named is grown =
     let id : ℕ → SymbolId = λ e. record { block = b.number; esi = e } in
     subst (λ ps. AreBlockPackets b start (j + 1 - start) ps) (sym grown) (subst (λ n. AreBlockPackets b start n (packets ++ p ∷ [])) (sym count) (record {
       ids = map-append (λ (q : Packet). q.id) packets (p ∷ []) ∙ ap (λ is. is ++ p.id ∷ []) so.ids ∙ ap (λ i. map id (range_with_len start (j - start)) ++ i ∷ []) named ∙ sym (map-range_with_len_more id start (j - start) j (omega arith));
-      each = push-all (IsBlockPacket b) packets p so.each is;
+      each = AllByRecursion-append (IsBlockPacket b) packets (p ∷ []) so.each (is, tt);
     }))

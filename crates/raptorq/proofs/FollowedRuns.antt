@@ -125,8 +125,8 @@ new_answers table c b fits = elim (cases_eq (block_symbols c b) 0) [
       )
 ]
 
-pub follows_none : (table : List TableRow) (c : Configuration) (s : State) → ((b : ℕ) → b < c.source_blocks → IsReceivedOf table c b (new_received table c b)) → IsNewState table c s → FollowsRun table [] s
-follows_none table c s shape new = record {
+pub follows_no_packets : (table : List TableRow) (c : Configuration) (s : State) → ((b : ℕ) → b < c.source_blocks → IsReceivedOf table c b (new_received table c b)) → IsNewState table c s → FollowsRun table [] s
+follows_no_packets table c s shape new = record {
   received = received_none table c s new;
   answers = λ b below.
       let in_new : b < c.source_blocks = subst (λ (k : Configuration). b < k.source_blocks) new.configuration below in

@@ -1,8 +1,8 @@
 -- The sums of the HDPC equations over intermediate symbols, by Horner's rule.
-use Rattle.std.proofs.Common.{◌≡◌, ◌≢◌, ◌↔◌, ℕ, suc, ◌+◌, ◌-◌, ◌<◌, ◌||◌, eqb, List, [], ◌∷◌, ◌++◌, Result, Ok, Err, IfOk, length, map, replicate, get_or, set, None, refl, sym, ap, ◌∙◌, arith, subst, inl, inr}
+use Rattle.std.proofs.Common.{◌≡◌, ◌≢◌, ◌↔◌, ℕ, suc, ◌+◌, ◌-◌, ◌<◌, ◌||◌, eqb, List, [], ◌∷◌, ◌++◌, Result, Ok, Err, IfOk, length, map, get_or, set, None, refl, sym, ap, ◌∙◌, arith, subst, inl, inr}
 use Rattle.std.proofs.lemmas.Bool.{cases_eq, cases_lt, eq-eqb, ne_eqb}
 use Rattle.std.proofs.lemmas.Iterator.{YieldsList-from_range, items_from_drains}
-use Rattle.std.proofs.lemmas.List.{length-append, length-map, length-set, length-replicate, map-id, ext_get_or, get_or-map, get_or-set_same, get_or-set_other, get_or_append_left}
+use Rattle.std.proofs.lemmas.List.{length-append, length-map, length-set, map-id, get_or-map, get_or-set_same, get_or-set_other, get_or_append_left}
 use Rattle.std.proofs.lemmas.List.FromFn.{get_or-range_with_len, length-range_with_len}
 use Rattle.std.proofs.Math.Seq.{get_or-append_seam}
 use Rattle.std.proofs.iter.Yields.{nat_range_steps}
@@ -119,10 +119,10 @@ sum_places_below row numbers places are is k d some lt =
           omega (arith, place)
     ]
 
--- what is answered, where it is
-pub answered : (result : Result Slab Error) (slab : Slab) (P : Slab → Type 0) → IsAnswer (λ (s : Slab). s) result (Ok slab) → ((s : Slab) → s ≡ slab → P s) → IfOk result P
-answered (Ok s) slab P is all = all s (cc is)
-answered (Err e) slab P is all = tt
+-- what is answer_meets, where it is
+pub answer_meets : (result : Result Slab Error) (slab : Slab) (P : Slab → Type 0) → IsAnswer (λ (s : Slab). s) result (Ok slab) → ((s : Slab) → s ≡ slab → P s) → IfOk result P
+answer_meets (Ok s) slab P is all = all s (cc is)
+answer_meets (Err e) slab P is all = tt
 
 -- ---- the sums, column by column
 
@@ -250,10 +250,3 @@ module _ (row : TableRow) (column : ℕ → List ℕ) (size : ℕ) where
         λ zeros. record { at_place = λ p. record { at = λ h lt. sym (total h p lt) ∙ zeros h lt p ∙ sym (at-zeros size p) } },
         λ solves h lt p. total h p lt ∙ (solves.at_place p).at h lt ∙ at-zeros size p,
       )
-
--- zeros at all places
-pub zeros_at : (sum : List ℕ) → sum ≡ replicate (length sum) 0 → (p : ℕ) → at sum p ≡ 0
-zeros_at sum zeros p = ap (λ xs. at xs p) zeros ∙ at-zeros (length sum) p
-
-pub zeros_from : (sum : List ℕ) → ((p : ℕ) → at sum p ≡ 0) → sum ≡ replicate (length sum) 0
-zeros_from sum zero = ext_get_or 0 sum (replicate (length sum) 0) (sym (length-replicate {A = ℕ} (length sum) 0)) (λ p _. zero p ∙ sym (at-zeros (length sum) p))

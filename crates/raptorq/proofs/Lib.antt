@@ -21,7 +21,6 @@ pub mod NumberRanges
 pub mod Numbered
 pub mod ObjectBlocks
 pub mod OctetSymbols
-pub mod OptionValues
 pub mod Payloads
 pub mod PlanLaws
 pub mod ReceivedEntries

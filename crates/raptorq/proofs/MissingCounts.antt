@@ -5,7 +5,7 @@ use Rattle.std.specs.Prelude.{is_some, not, ◌&&◌, ltb, ◌-◌}
 use Rattle.std.proofs.lemmas.Bool.{cases_eq, cases_lt, eq-eqb, lt-ltb, le-ltb}
 use Rattle.rq_standard.specs.Received.{or_later}
 use Rattle.raptorq.specs.Missing.{missing_count, AddsUnlessThere}
-use Rattle.raptorq.proofs.OptionValues.{none_is}
+use Rattle.rq_standard.proofs.OptionValues.{none_is}
 use Rattle.raptorq.proofs.Payloads.{added_elsewhere, or_later-again}
 
 pub missing_count-same : (n : ℕ) (f g : ℕ → Bool) → ((e : ℕ) → e < n → f e ≡ g e) → missing_count n f ≡ missing_count n g

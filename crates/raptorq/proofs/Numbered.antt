@@ -29,8 +29,8 @@ module _ {X : Type 0} (number : X → ℕ) (n : ℕ) (xs : List X) (numbered : m
   pub length-numbered : length xs ≡ n
   length-numbered = length-mapped number (λ i. i) n xs (numbered ∙ sym (map-id (range_with_len 0 n)))
 
-  pub number_at : (i : ℕ) (x : X) → i < n → x ≡ get_or xs i x → number x ≡ i
-  number_at = mapped_at number (λ i. i) n xs (numbered ∙ sym (map-id (range_with_len 0 n)))
+  pub numbered_at : (i : ℕ) (x : X) → i < n → x ≡ get_or xs i x → number x ≡ i
+  numbered_at = mapped_at number (λ i. i) n xs (numbered ∙ sym (map-id (range_with_len 0 n)))
 
 -- there is an element at a place
 pub some_at : {X : Type 0} (xs : List X) (i : ℕ) → i < length xs → (x : X) × (x ≡ get_or xs i x)

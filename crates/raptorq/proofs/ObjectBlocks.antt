@@ -17,7 +17,8 @@ use Rattle.rq_standard.specs.TableRows.{no_row}
 use Rattle.rq_standard.specs.ReceivedBlock.{ReceivedBlock, nothing_received, IsContradictory}
 use Rattle.rq_standard.specs.DecoderState.{State, new_received, new_answer, IsNewState, append_both, first_blocks, result_of}
 use Rattle.rq_standard.specs.DecoderSteps.{AddsToBlock, RecordsInBlock, IsSameElsewhere, Adds, RecordsOnly}
-use Rattle.rq_standard.proofs.ObjectAnswers.{joined_some, joined_each, some_of}
+use Rattle.rq_standard.proofs.ObjectAnswers.{joined_some, joined_each}
+use Rattle.rq_standard.proofs.OptionValues.{is_some-mapped}
 use Rattle.raptorq.specs.SourceBlockDecoder.{received_of}
 use Rattle.raptorq.specs.Decoder.{received_at, answer_at, answer_of, IsBlockAt}
 use Rattle.raptorq.specs.Refused.{block_refusal}
@@ -136,7 +137,7 @@ pub not_complete : (s : State) (b : ℕ) → b < s.configuration.source_blocks �
 not_complete s b below none = by_cases (is_some (result_of s)) refl where
   by_cases : (t : Bool) → t ≡ is_some (result_of s) → is_some (result_of s) ≡ false
   by_cases false e = sym e
-  by_cases true e = absurd (cc (joined_each s.answer s.configuration.source_blocks (some_of (take s.configuration.transfer_length) (first_blocks s.configuration.source_blocks s.answer) (sym e)) b below, none))
+  by_cases true e = absurd (cc (joined_each s.answer s.configuration.source_blocks (sym (is_some-mapped (take s.configuration.transfer_length) (first_blocks s.configuration.source_blocks s.answer)) ∙ sym e) b below, none))
 
 pub unwrapped : (o : Option (List ℕ)) → IsSome o → o ≡ Some (unwrap_or o [])
 unwrapped None h = absurd (cc h)
@@ -153,7 +154,7 @@ join_next items n x done bytes new below is some so grown =
 
 -- where all are answered, each is
 pub join_some : (c : Configuration) (items : List ObjectBlock) (n : ℕ) (x : ObjectBlock) → IsSome (result_of (state c items)) → n < c.source_blocks → n < length items → x ≡ get_or items n x → answer_of x ≡ None → ⊥
-join_some c items n x all below within is none = cc (joined_each (answer_at items) c.source_blocks (some_of (take c.transfer_length) (first_blocks c.source_blocks (answer_at items)) all) n below, answer_here items n x within is, none)
+join_some c items n x all below within is none = cc (joined_each (answer_at items) c.source_blocks (sym (is_some-mapped (take c.transfer_length) (first_blocks c.source_blocks (answer_at items))) ∙ all) n below, answer_here items n x within is, none)
 
 -- ---- before any packet
 

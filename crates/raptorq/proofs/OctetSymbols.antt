@@ -11,7 +11,7 @@ use Rattle.rq_standard.specs.TableRows.{IsChecked, intermediate_symbols}
 use Rattle.rq_standard.specs.Equations.{tuple_sum}
 use Rattle.rq_standard.specs.Differences.{plain_sum}
 use Rattle.raptorq.specs.BlockSolutions.{HasIntermediate}
-use Rattle.rq_standard.proofs.Columns.{sum_same}
+use Rattle.rq_standard.proofs.Columns.{tuple_sum-same}
 use Rattle.rq_standard.proofs.DifferenceColumns.{wide, wide_symbols, wide_sum}
 
 abbrev pub one_by_one : List ℕ → List (List ℕ)
@@ -21,8 +21,8 @@ cut-one : (xs : List ℕ) → cut (length xs) 1 xs ≡ one_by_one xs
 cut-one [] = refl
 cut-one (x ∷ xs) = ap (λ ys. (x ∷ []) ∷ ys) (cut-one xs)
 
-pub octets_written : (zeros : List (List ℕ)) (xs : List ℕ) (n : ℕ) → n ≡ length xs → length zeros ≡ n → with_range zeros 0 (cut n 1 xs) ≡ one_by_one xs
-octets_written zeros xs n is long =
+pub one_by_one-cut : (zeros : List (List ℕ)) (xs : List ℕ) (n : ℕ) → n ≡ length xs → length zeros ≡ n → with_range zeros 0 (cut n 1 xs) ≡ one_by_one xs
+one_by_one-cut zeros xs n is long =
     let all : cut n 1 xs ≡ one_by_one xs = ap (λ m. cut m 1 xs) is ∙ cut-one xs in
     let none : drop (0 + length (one_by_one xs)) zeros ≡ [] = nil_from_length (drop (0 + length (one_by_one xs)) zeros) (length-drop (0 + length (one_by_one xs)) zeros ∙ omega (arith, long, is, length-map xs (λ (x : ℕ). x ∷ []))) in
     ap (with_range zeros 0) all ∙ ap (λ ys. one_by_one xs ++ ys) none ∙ append-nil (one_by_one xs)
@@ -40,4 +40,4 @@ module _ (row : TableRow) (xs : List ℕ) (slab : Slab) (checked : IsChecked row
 
   -- the octet of an id
   pub octet_sum : (e : ℕ) → tuple_sum row (symbol_in slab) e ≡ plain_sum row (at xs) e ∷ []
-  octet_sum e = sum_same row e (symbol_in slab) (wide 1 (at xs)) checked symbol_is ∙ wide_sum 1 (omega arith) row checked (at xs) elements e
+  octet_sum e = tuple_sum-same row e (symbol_in slab) (wide 1 (at xs)) checked symbol_is ∙ wide_sum 1 (omega arith) row checked (at xs) elements e

@@ -15,7 +15,7 @@ use Rattle.rq_standard.specs.Equations.{internal_id, zero_symbol}
 use Rattle.raptorq.specs.Known.{known_list, values_after}
 use Rattle.raptorq.specs.Missing.{Payloads, has_payload, payload_of}
 use Rattle.raptorq.proofs.Listing.{each_entry}
-use Rattle.raptorq.proofs.OptionValues.{is_some-mapped}
+use Rattle.rq_standard.proofs.OptionValues.{is_some-mapped}
 
 -- ---- keys
 

@@ -6,7 +6,7 @@ use Rattle.std.specs.Ordering.{nat_cmp}
 use Rattle.std.specs.BTreeMap.{get, is_at, IsOrdered}
 use Rattle.std.proofs.lemmas.Bool.{cases_lt, lt-ltb, le-ltb, eqb-true}
 use Rattle.std.proofs.lemmas.List.{get_or_append_left, get_or-append_right, get_or-map, get_or-replicate, length-replicate}
-use Rattle.std.proofs.lemmas.List.FromFn.{length-range_with_len}
+use Rattle.std.proofs.lemmas.List.FromFn.{length-range_with_len, get_or-range_with_len}
 use Rattle.std.proofs.lemmas.Option.{same_Some, slice_get_within, slice_get_cases, get_or_from_slice_get}
 use Rattle.std.proofs.lemmas.Map.Entries.{place_from_lookup}
 use Rattle.rq_algebra.specs.Systems.{dot, at, rows_of}
@@ -19,14 +19,14 @@ use Rattle.rq_standard.specs.Equations.{precode_equations, symbol_coefficient, z
 use Rattle.rq_standard.specs.IdLists.{IsListOf, HasDeterminedRows}
 use Rattle.rq_standard.specs.Headline.{known_ids}
 use Rattle.rq_standard.specs.ReceivedBlock.{ReceivedBlock, has_received, SolvesReceived, ReceivedDetermine}
-use Rattle.rq_standard.proofs.KnownIds.{known_source, known_padding, known_repair, range_at, determined_by, determined_list, block_same, few_not_determining}
+use Rattle.rq_standard.proofs.KnownIds.{known_source, known_padding, known_repair, determined_by, determined_list, block_same, few_not_determining}
 use Rattle.rq_standard.proofs.Columns.{sum_at}
 use Rattle.raptorq.specs.declared.decoder.block.SourceBlockDecoder.{SourceBlockDecoder}
 use Rattle.raptorq.specs.SourceBlockDecoder.{received_of}
 use Rattle.raptorq.specs.Known.{known_list, known_values}
 use Rattle.raptorq.specs.BlockSolutions.{SolvesFirstEquations}
 use Rattle.raptorq.specs.Missing.{Payloads, payload_of, has_payload}
-use Rattle.raptorq.proofs.OptionValues.{is_some-mapped, value_of}
+use Rattle.rq_standard.proofs.OptionValues.{is_some-mapped, value_of}
 use Rattle.raptorq.proofs.Listing.{entry_payload, length-known_list}
 use Rattle.raptorq.proofs.Payloads.{is_eq-nat_cmp}
 
@@ -93,7 +93,7 @@ module _ (row : TableRow) (k size : ℕ) (m : Payloads) (fits : k ≤ row.extend
   pub padding_at : (j : ℕ) → j < row.extended_symbols - k → at (known_list row k m.entries) j ≡ k + j
   padding_at j below =
       let n : ℕ = row.extended_symbols - k in
-      get_or_append_left (range_with_len k n) (map (λ e. internal_id row k e.0) m.entries) 0 j (omega (arith, length-range_with_len k n)) ∙ range_at k n j below
+      get_or_append_left (range_with_len k n) (map (λ e. internal_id row k e.0) m.entries) 0 j (omega (arith, length-range_with_len k n)) ∙ get_or-range_with_len k n j 0 below
 
   -- the id and the value of an entry
   entry_id : (i e : ℕ) (v : Vec ℕ Global) → i < length m.entries → get_or m.entries i (e, v) ≡ (e, v) → at (known_list row k m.entries) (row.extended_symbols - k + i) ≡ internal_id row k e

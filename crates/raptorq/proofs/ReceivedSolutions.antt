@@ -1,6 +1,5 @@
 -- What a solver finds of what was received, and whether it solves all of it.
-use Rattle.std.proofs.Common.{◌≡◌, ℕ, ◌+◌, ◌-◌, ◌<◌, ◌≤◌, List, length, Option, Some, None, refl, sym, ap, ◌∙◌, subst, arith, inl, inr}
-use Rattle.std.specs.Prelude.{IfSome}
+use Rattle.std.proofs.Common.{◌≡◌, ℕ, ◌+◌, ◌-◌, ◌<◌, ◌≤◌, List, length, refl, sym, ap, ◌∙◌, subst, arith, inl, inr}
 use Rattle.std.specs.Option.{ForSome}
 use Rattle.std.proofs.lemmas.Bool.{cases_lt}
 use Rattle.std.proofs.lemmas.List.{ext_get_or, length-replicate}
@@ -15,16 +14,13 @@ use Rattle.rq_standard.specs.TableRows.{intermediate_symbols}
 use Rattle.rq_standard.specs.Equations.{precode_equations, ldpc_coefficient, hdpc_coefficient, symbol_coefficient, equations, equation_count, zero_symbol, internal_id, tuple_sum}
 use Rattle.rq_standard.specs.ReceivedBlock.{ReceivedBlock, SolvesReceived, HasReceivedSolution, IsContradictory, ReceivedDetermine}
 use Rattle.rq_standard.proofs.Columns.{sum_at, sum_symbol}
+use Rattle.rq_standard.proofs.OptionValues.{by_option}
 use Rattle.rq_bytes.specs.SymbolSlab.{Slab, slab_of, symbol_in}
 use Rattle.raptorq.specs.BlockSolutions.{IsBlockSolution, SolvesFirstEquations, SolvesHdpc, Fits}
 use Rattle.raptorq.specs.Known.{known_values, IsReceivedSolution}
 use Rattle.raptorq.specs.Missing.{Payloads}
 use Rattle.raptorq.proofs.ReceivedEquations.{IsHeldIn, received_ids, received_values, zero_at, padding_at, known_at, place_of, is_received, received_rows, values_solved}
 use Rattle.raptorq.proofs.Listing.{length-known_list}
-
-if_some_by : (o : Option (List ℕ)) (y : List ℕ) → ((x : List ℕ) → o ≡ Some x → x ≡ y) → IfSome o (λ x. x ≡ y)
-if_some_by None y each = tt
-if_some_by (Some x) y each = each x refl
 
 module _ (h : ReceivedBlock) (m : Payloads) (held : IsHeldIn h m) where
   abbrev size : ℕ
@@ -66,7 +62,7 @@ module _ (h : ReceivedBlock) (m : Payloads) (held : IsHeldIn h m) where
           let j : ℕ = x - h.source_symbols in
           let long = length-known_list h.row h.source_symbols m.entries in
           sum_is j x (zero_symbol size) (omega arith) (padding_at h.row h.source_symbols size m held.fits held.ordered j (omega arith) ∙ omega arith) (zero_at h.row h.source_symbols size m held.fits held.ordered precode_rows (precode_rows + j) (omega arith)) (length-replicate {A = ℕ} size 0);
-      received = λ e. if_some_by (h.received e) (tuple_sum h.row column (internal_id h.row h.source_symbols e)) (λ x is.
+      received = λ e. by_option (h.received e) (λ x. x ≡ tuple_sum h.row column (internal_id h.row h.source_symbols e)) (λ x is.
           let q = place_of h.row h.source_symbols size m held.fits held.ordered precode_rows e x (sym (held.same e) ∙ is) in
           sym (sum_is q.0 (internal_id h.row h.source_symbols e) x q.1 q.2 q.3 (sized e x is)));
     }

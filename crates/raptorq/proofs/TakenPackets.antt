@@ -7,7 +7,7 @@ use Rattle.rq_bytes.specs.declared.error.Error.TheVariants.{OutOfMemory}
 use Rattle.rq_bytes.specs.Refusals.{IsRefusal}
 use Rattle.rq_standard.specs.Packet.{Packet, SymbolId}
 use Rattle.rq_standard.specs.ReceivedBlock.{ReceivedBlock, with_received}
-use Rattle.rq_standard.proofs.StandingSteps.{push-all}
+use Rattle.rq_standard.proofs.StandingSteps.{AllByRecursion-append}
 use Rattle.raptorq.specs.Missing.{AddsUnlessThere}
 use Rattle.raptorq.specs.Refused.{block_refusal}
 use Rattle.raptorq.specs.Decoding.{all_recorded, AreTaken, StopsAtLast, Decodes, DecodesUntil}
@@ -52,7 +52,7 @@ all_recorded-push h (x ∷ packets) p = all_recorded-push (with_received h x.id.
 
 -- one packet more
 pub taken-more : (h g : ReceivedBlock) (packets : List Packet) (p : Packet) → AreTaken h packets → g ≡ all_recorded h packets → block_refusal g p ≡ Ok tt → AreTaken h (packets ++ p ∷ [])
-taken-more h g packets p taken is passed = push-all (λ q. block_refusal h q ≡ Ok tt) packets p taken (sym (refusal_kept h g packets p is) ∙ passed)
+taken-more h g packets p taken is passed = AllByRecursion-append (λ q. block_refusal h q ≡ Ok tt) packets (p ∷ []) taken (sym (refusal_kept h g packets p is) ∙ passed, tt)
 
 pub recorded-more : (h g new : ReceivedBlock) (packets : List Packet) (p : Packet) → g ≡ all_recorded h packets → new ≡ with_received g p.id.esi p.payload → new ≡ all_recorded h (packets ++ p ∷ [])
 recorded-more h g new packets p is one = one ∙ ap (λ k. with_received k p.id.esi p.payload) is ∙ sym (all_recorded-push h packets p)

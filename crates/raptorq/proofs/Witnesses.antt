@@ -19,7 +19,7 @@ use Rattle.raptorq.specs.SourceBlockDecoder.{received_of}
 use Rattle.raptorq.specs.Decoder.{received_at, answer_at}
 use Rattle.raptorq.specs.Difference.{ShowsUnanswered, octets_of_column}
 use Rattle.raptorq.specs.declared.decoder.object.ObjectBlock.{ObjectBlock}
-use Rattle.raptorq.proofs.Numbered.{length-numbered, number_at, some_at}
+use Rattle.raptorq.proofs.Numbered.{length-numbered, numbered_at, some_at}
 use Rattle.raptorq.proofs.ObjectBlocks.{state, block_number, received_here}
 
 -- a block's bytes, by what was received of it
@@ -138,7 +138,7 @@ module _ (c : Configuration) (items : List ObjectBlock) (numbered : map block_nu
       let x = found.0 in (
         x,
         received_here c items b x inside found.1,
-        ap (λ y. (received_of y.decoder).source_symbols) found.1 ∙ cut b x inside ∙ ap (λ y. block_symbols c (received_of y.decoder).number) (sym found.1) ∙ ap (block_symbols c) (number_at block_number c.source_blocks items numbered b x below found.1),
+        ap (λ y. (received_of y.decoder).source_symbols) found.1 ∙ cut b x inside ∙ ap (λ y. block_symbols c (received_of y.decoder).number) (sym found.1) ∙ ap (block_symbols c) (numbered_at block_number c.source_blocks items numbered b x below found.1),
       )
 
   pub block_is_cut : (b : ℕ) → b < c.source_blocks → (received_at c items b).source_symbols ≡ block_symbols c b

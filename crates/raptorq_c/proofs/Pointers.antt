@@ -1,5 +1,5 @@
 -- What the walks over `Owned` say of a struct of one pointer.
-use Rattle.std.proofs.Common.{◌≡◌, List, [], ◌∷◌, ◌++◌, refl, ◌∙◌, lit<, Option, Some, None, IsSome}
+use Rattle.std.proofs.Common.{◌≡◌, List, [], ◌∷◌, ◌++◌, refl, ◌∙◌, lit<}
 use seplogic.Ra.Ura.{Ura}
 use mir.Syntax.{ty_ptr, ty_struct, tcons, tnil}
 use mir.Val.{Val, vstruct, vcons, vnil, of_list}
@@ -30,8 +30,3 @@ told p vs s = s.1.0 ∙ (λ i. vstruct (of_list (s.1.1.0 i ++ [])) ∷ [])
 
 pub made : {M : Type 1} {𝓤 : Ura M} (𝓛 : Logic 𝓤) (p : Ptr) → ent 𝓤 (emp 𝓤) (sem 𝓛 (field_own p (word p ∷ [])))
 made 𝓛 p = makes_shadow 𝓛 (field_own p (word p ∷ [])) (λ _. (tt, (tt, tt))) ((ptr_val p ∷ [], tt), (refl, (refl, tt)))
-
--- what is there of some
-pub one_of : {A : Type 0} (o : Option A) → IsSome o → (a : A) × (o ≡ Some a)
-one_of None some = absurd (cc some)
-one_of (Some a) some = (a, refl)

@@ -1,7 +1,7 @@
 -- What is said of a configuration by tests that it passes.
 use Rattle.std.proofs.Common.{◌≡◌, ℕ, ◌%◌, ◌<◌, Bool, true, false, cond, eqb, ltb, Result, Ok, Err, refl, arith}
 use Rattle.std.specs.Prelude.{not}
-use Rattle.std.proofs.lemmas.Bool.{eqb-true, ltb-false}
+use Rattle.std.proofs.lemmas.Bool.{eqb-true, ltb-false, not-false}
 use Rattle.rq_bytes.specs.declared.error.Error.{Error}
 use Rattle.rq_bytes.specs.declared.error.Error.TheVariants.{SymbolSizeZero, AlignmentZero, Misaligned, SourceBlocksZero, BlockOverTable}
 use Rattle.rq_bytes.specs.Refusals.{and_then}
@@ -29,10 +29,6 @@ passed false e r y is = (refl, is)
 positive : (n : ℕ) → eqb n 0 ≡ false → 0 < n
 positive n h = grind (arith)
 
-not_true : (b : Bool) → not b ≡ false → b ≡ true
-not_true true h = refl
-not_true false h = absurd (cc h)
-
 -- a configuration that passes the tests is accepted
 pub accepted_by : (greatest : ℕ) (c : Configuration) → checked_configuration greatest c ≡ Ok tt → IsAccepted greatest c
 accepted_by greatest c h =
@@ -45,7 +41,7 @@ accepted_by greatest c h =
     record {
       size_positive = positive c.symbol_size size.0;
       alignment_positive = positive c.alignment alignment.0;
-      aligned = eqb-true (c.symbol_size % c.alignment) 0 (not_true (eqb (c.symbol_size % c.alignment) 0) divides.0);
+      aligned = eqb-true (c.symbol_size % c.alignment) 0 (not-false (eqb (c.symbol_size % c.alignment) 0) divides.0);
       blocks_positive = positive c.source_blocks blocks.0;
       in_table = ltb-false greatest (largest_block c) table.0;
     }

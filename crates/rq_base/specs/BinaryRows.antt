@@ -1,12 +1,11 @@
 -- The rows of bits on the way to the matrix of a block.
-use Rattle.std.specs.Prelude.{◌≡◌, ◌≢◌, ℕ, ◌+◌, ◌<◌, ◌≤◌, false, List, length}
-use Rattle.rq_algebra.specs.Systems.{at}
+use Rattle.std.specs.Prelude.{◌≡◌, ◌≢◌, ℕ, ◌<◌, ◌≤◌, false, List}
 use Rattle.rq_algebra.specs.Parities.{parity}
 use Rattle.rq_standard.specs.declared.row.TableRow.{TableRow}
 use Rattle.rq_standard.specs.BitTable.{BitTable}
 use Rattle.rq_standard.specs.BitTableSteps.{HasSameShape}
 use Rattle.rq_standard.specs.TableRows.{intermediate_symbols, b_of}
-use Rattle.rq_standard.specs.Equations.{one_if, is_ldpc_row, ldpc_coefficient, symbol_coefficient}
+use Rattle.rq_standard.specs.Equations.{one_if, is_ldpc_row, ldpc_coefficient}
 
 -- `rows` rows of L columns, of which the LT symbols' ones aren't dense, and none is indexed
 pub record HasRows (row : TableRow) (rows : ℕ) (m : BitTable) : Type 0 where
@@ -33,14 +32,6 @@ pub record HasLdpcRows (row : TableRow) (rows done : ℕ) (m : BitTable) : Type 
   pub left : (i k : ℕ) → done ≤ i → i < row.ldpc_symbols → k < b_of row → m.bit i k ≡ one_if (is_ldpc_row row i k)
   pub right : (i k : ℕ) → done ≤ i → i < row.ldpc_symbols → b_of row ≤ k → k < intermediate_symbols row → m.bit i k ≡ 0
   pub below : IsZeroFrom row row.ldpc_symbols m
-
--- the LDPC rows, and from row `first` on a row for each of the first `done` ids; the other rows are zeros
-pub record HasSymbolRows (row : TableRow) (first : ℕ) (ids : List ℕ) (done : ℕ) (m : BitTable) : Type 0 where
-  pub shape : HasRows row (first + length ids) m
-  pub ldpc : (i k : ℕ) → i < row.ldpc_symbols → k < intermediate_symbols row → m.bit i k ≡ ldpc_coefficient row i k
-  pub zeros : (i k : ℕ) → row.ldpc_symbols ≤ i → i < first → k < intermediate_symbols row → m.bit i k ≡ 0
-  pub symbols : (i k : ℕ) → i < done → k < intermediate_symbols row → m.bit (first + i) k ≡ symbol_coefficient row (at ids i) k
-  pub rest : IsZeroFrom row (first + done) m
 
 -- in one row, the bits are how often each index is listed, modulo 2; the other rows are as they were
 pub record SetsParityRow (old : BitTable) (i : ℕ) (indices : List ℕ) (new : BitTable) : Type 0 where

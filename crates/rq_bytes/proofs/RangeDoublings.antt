@@ -9,7 +9,7 @@ use Rattle.rq_standard.specs.Rows.{row_sum, row_multiple}
 use Rattle.rq_bytes.specs.Ranges.{range_of, with_range}
 use Rattle.rq_bytes.specs.RangeSums.{with_multiples_added, doubled_sum, with_doubled_sum, IsRangeBeside, BeginsNotInside}
 use Rattle.rq_bytes.proofs.RangeFacts.{length-range, length-with_range, range-written}
-use Rattle.rq_bytes.proofs.RangeMultiples.{plus, plus-none, plus-join, range-plus, all_plus, all_plus-is, length-all_plus, all_plus-none, plus-all_plus, all_plus-join, range-all_plus, written, room_within, piece_stays}
+use Rattle.rq_bytes.proofs.RangeMultiples.{plus, plus-none, plus-join, range-plus, all_plus, all_plus-is, length-all_plus, all_plus-none, plus-all_plus, all_plus-join, range-all_plus, with_range-plus, room_within, piece_stays}
 use Rattle.rq_bytes.proofs.RangeSumLaws.{range-join, zip2-join}
 
 -- what is added to a row where it is doubled and another one added to it
@@ -60,7 +60,7 @@ module _ (bytes : List ℕ) (dest src len : ℕ) (targets : List (ℕ × ℕ)) (
       length-zip2 bit_xor (range_of bytes dest k) (doubled_sum bytes dest src k) (x ∙ sym (length-sum k le)) ∙ x
 
   begun_is : (k : ℕ) → k ≤ len → begun k ≡ plus bytes dest (first_change k)
-  begun_is k le = written bytes dest k (doubled_sum bytes dest src k) (length-sum k le) (omega arith)
+  begun_is k le = with_range-plus bytes dest k (doubled_sum bytes dest src k) (length-sum k le) (omega arith)
 
   length-begun : (k : ℕ) → k ≤ len → length (begun k) ≡ length bytes
   length-begun k le = length-with_range bytes dest (doubled_sum bytes dest src k) (omega (arith, length-sum k le))
@@ -146,7 +146,7 @@ module _ (bytes : List ℕ) (dest src len : ℕ) (targets : List (ℕ × ℕ)) (
       length-piece_sum = let w = source.0 in length-doubled_sum now (dest + at) (src + at) m (omega (arith, long)) (omega (arith, long))
 
       middle_written : middle ≡ plus now (dest + at) (row_sum (range_of now (dest + at) m) sum)
-      middle_written = written now (dest + at) m sum length-piece_sum (omega (arith, long))
+      middle_written = with_range-plus now (dest + at) m sum length-piece_sum (omega (arith, long))
 
       -- the order of the writes is free
       new_is : new ≡ all_plus middle sum at targets
@@ -156,7 +156,7 @@ module _ (bytes : List ℕ) (dest src len : ℕ) (targets : List (ℕ × ℕ)) (
           let n = length-piece_sum in
           next
           ∙ ap (λ xs. with_range xs (dest + at) sum) (all_plus-is now sum at targets (room_within bytes dest len targets fits beside (length now) (at + length sum) long (omega (arith, n))))
-          ∙ written added (dest + at) m sum n (omega (arith, long, length-all_plus now sum at targets))
+          ∙ with_range-plus added (dest + at) m sum n (omega (arith, long, length-all_plus now sum at targets))
           ∙ ap (λ xs. plus added (dest + at) (row_sum xs sum)) (
           piece_stays bytes dest len targets fits beside now sum at at m (omega (arith, n)) le)
           ∙ plus-all_plus now sum at targets (dest + at) (row_sum old sum)

@@ -69,8 +69,8 @@ added_twice (x ∷ xs) [] e = absurd (omega arith)
 added_twice (x ∷ xs) (y ∷ ys) e = ap (λ z. z ∷ row_sum xs (row_sum xs ys)) (add_twice octets x y) ∙ ap (λ zs. y ∷ zs) (added_twice xs ys (omega arith))
 
 -- any write is such an addition
-pub written : (xs : List ℕ) (i n : ℕ) (ys : List ℕ) → length ys ≡ n → i + n ≤ length xs → with_range xs i ys ≡ plus xs i (row_sum (range_of xs i n) ys)
-written xs i n ys long le =
+pub with_range-plus : (xs : List ℕ) (i n : ℕ) (ys : List ℕ) → length ys ≡ n → i + n ≤ length xs → with_range xs i ys ≡ plus xs i (row_sum (range_of xs i n) ys)
+with_range-plus xs i n ys long le =
     let old = range_of xs i n in
     let change = row_sum old ys in
     let old_long : length old ≡ n = length-range xs i n le in

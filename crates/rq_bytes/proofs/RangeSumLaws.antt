@@ -107,19 +107,19 @@ module _ (xs ys : List ℕ) (i : ℕ) (le : i ≤ length xs) where
 -- ---- the sum, piece by piece
 
 -- the n elements that begin `at` elements after `dest` in a row, and those of a buffer that begin as many after each of some starts, added to them
-abbrev pub piece_added : List ℕ → ℕ → List ℕ → List ℕ → ℕ → ℕ → List ℕ
-piece_added row dest bytes sources at n = with_ranges_added (range_of row (dest + at) n) bytes sources at n
+abbrev pub summed_piece : List ℕ → ℕ → List ℕ → List ℕ → ℕ → ℕ → List ℕ
+summed_piece row dest bytes sources at n = with_ranges_added (range_of row (dest + at) n) bytes sources at n
 
 module _ (row bytes : List ℕ) (dest len : ℕ) (sources : List ℕ) (fits : dest + len ≤ length row) (within : All (λ src. src + len ≤ length bytes) sources) where
   ranges_long : (at n : ℕ) → at + n ≤ len → All (λ src. length (range_of bytes (src + at) n) ≡ n) sources
   ranges_long at n le =
       All-weaker (λ src. src + len ≤ length bytes) (λ src. length (range_of bytes (src + at) n) ≡ n) (λ src w. length-range bytes (src + at) n (omega arith)) sources within
 
-  length-piece : (at n : ℕ) → at + n ≤ len → length (piece_added row dest bytes sources at n) ≡ n
+  length-piece : (at n : ℕ) → at + n ≤ len → length (summed_piece row dest bytes sources at n) ≡ n
   length-piece at n le =
       length-summed row_sum n (λ xs ys e e'. length-zip2 bit_xor xs ys (e ∙ sym e') ∙ e) (λ src. range_of bytes (src + at) n) (range_of row (dest + at) n) sources (length-range row (dest + at) n (omega arith)) (ranges_long at n le)
 
-  piece-join : (at b n m : ℕ) → b ≡ at + n → at + (n + m) ≤ len → piece_added row dest bytes sources at (n + m) ≡ piece_added row dest bytes sources at n ++ piece_added row dest bytes sources b m
+  piece-join : (at b n m : ℕ) → b ≡ at + n → at + (n + m) ≤ len → summed_piece row dest bytes sources at (n + m) ≡ summed_piece row dest bytes sources at n ++ summed_piece row dest bytes sources b m
   piece-join at b n m e le =
       let first = λ (src : ℕ). range_of bytes (src + at) n in
       let second = λ (src : ℕ). range_of bytes (src + b) m in
@@ -131,32 +131,32 @@ module _ (row bytes : List ℕ) (dest len : ℕ) (sources : List ℕ) (fits : de
       ∙ rows_added-join n first second one two sources (length-range row (dest + at) n (omega arith)) (ranges_long at n (omega arith))
 
   -- a row that has no piece so far
-  pub begins : (start n : ℕ) → n ≡ 0 → start ≤ len → row ≡ with_range row (dest + start) (piece_added row dest bytes sources start n)
+  pub begins : (start n : ℕ) → n ≡ 0 → start ≤ len → row ≡ with_range row (dest + start) (summed_piece row dest bytes sources start n)
   begins start n none le =
       let i = dest + start in
       let long = length-piece start n (omega arith) in
       sym (
-      ap (with_range row i) (nil_from_length (piece_added row dest bytes sources start n) (omega arith))
+      ap (with_range row i) (nil_from_length (summed_piece row dest bytes sources start n) (omega arith))
       ∙ ap (λ k. take i row ++ drop k row) (let same : i + 0 ≡ i = omega arith in same)
       ∙ take-append-drop i row)
 
   -- a row that has one piece so far, with the next one
-  pub goes_on : (now new : List ℕ) (start n at m k : ℕ) → now ≡ with_range row (dest + start) (piece_added row dest bytes sources start n)
-      → new ≡ with_range now (dest + at) (piece_added now dest bytes sources at m) → at ≡ start + n → k ≡ n + m → start + k ≤ len
-      → new ≡ with_range row (dest + start) (piece_added row dest bytes sources start k)
+  pub goes_on : (now new : List ℕ) (start n at m k : ℕ) → now ≡ with_range row (dest + start) (summed_piece row dest bytes sources start n)
+      → new ≡ with_range now (dest + at) (summed_piece now dest bytes sources at m) → at ≡ start + n → k ≡ n + m → start + k ≤ len
+      → new ≡ with_range row (dest + start) (summed_piece row dest bytes sources start k)
   goes_on now new start n at m k so_far next e all le =
-      let first = piece_added row dest bytes sources start n in
-      let second = piece_added row dest bytes sources at m in
+      let first = summed_piece row dest bytes sources start n in
+      let second = summed_piece row dest bytes sources at m in
       let long : length first ≡ n = length-piece start n (omega arith) in
       let begun = with_range row (dest + start) first in
       let there : dest + at ≡ dest + start + length first = omega arith in
       let here : dest + start ≤ length row = omega arith in
       next
-      ∙ ap (λ xs. with_range xs (dest + at) (piece_added xs dest bytes sources at m)) so_far
+      ∙ ap (λ xs. with_range xs (dest + at) (summed_piece xs dest bytes sources at m)) so_far
       ∙ ap (λ xs. with_range begun (dest + at) (with_ranges_added xs bytes sources at m)) (range_behind row first (dest + start) here (dest + at) m (omega arith))
       ∙ ap (λ i. with_range begun i second) there
       ∙ with_range-twice row first (dest + start) here second
-      ∙ ap (with_range row (dest + start)) (sym (piece-join start at n m e (omega arith)) ∙ ap (piece_added row dest bytes sources start) (sym all))
+      ∙ ap (with_range row (dest + start)) (sym (piece-join start at n m e (omega arith)) ∙ ap (summed_piece row dest bytes sources start) (sym all))
 
   -- what is written in the buffer beside the sources, `n` elements from `i` on, leaves them as they are
   pub sources_stay : (i n at m : ℕ) (ys x : List ℕ) → length ys ≡ n → i + n ≤ length bytes → at + m ≤ len → All (λ src. (i + n ≤ src + at) ⊎ (src + at + m ≤ i)) sources
@@ -198,7 +198,7 @@ module _ (bytes : List ℕ) (dest len : ℕ) (sources : List ℕ) (fits : dest +
 -- ---- a sum that is written in a row of its own
 
 module _ (row bytes sources : List ℕ) (within : All (λ src. src + length row ≤ length bytes) sources) where
-  from_first : (xs ys : List ℕ) (at n : ℕ) → with_range xs (0 + at) (piece_added ys 0 bytes sources at n) ≡ with_range xs at (with_ranges_added (range_of ys at n) bytes sources at n)
+  from_first : (xs ys : List ℕ) (at n : ℕ) → with_range xs (0 + at) (summed_piece ys 0 bytes sources at n) ≡ with_range xs at (with_ranges_added (range_of ys at n) bytes sources at n)
   from_first xs ys at n = ap (λ i. with_range xs i (with_ranges_added (range_of ys i n) bytes sources at n)) (let same : 0 + at ≡ at = omega arith in same)
 
   pub begins_row : (start n : ℕ) → n ≡ 0 → start ≤ length row → row ≡ with_range row start (with_ranges_added (range_of row start n) bytes sources start n)

@@ -1,10 +1,8 @@
 -- What is read from the stored rows of a sparse matrix.
-use Rattle.std.proofs.Common.{◌≡◌, ◌≢◌, ℕ, zero, suc, ◌+◌, ◌-◌, ◌<◌, ◌≤◌, List, [], ◌∷◌, length, map, get_or, set, replicate, cond, Bool, true, false, Option, None, Some, Result, Ok, Err, OnOk, OnErr, refl, sym, ap, subst, ◌∙◌, arith, inl, inr, zero-add}
+use Rattle.std.proofs.Common.{◌≡◌, ◌≢◌, ℕ, zero, suc, ◌+◌, ◌-◌, ◌<◌, ◌≤◌, List, [], ◌∷◌, length, map, get_or, set, replicate, cond, Bool, true, false, None, Some, Result, Ok, Err, OnOk, OnErr, refl, sym, ap, subst, ◌∙◌, arith, inl, inr, zero-add}
 use Rattle.std.specs.Prelude.{unwrap_or, if◌then◌else◌}
 use Rattle.std.specs.Int.Bits.{bit_xor}
 use Rattle.std.specs.List.{All}
-use Rattle.std.specs.Option.{is_some}
-use mathlib.Core.Bool.{false≢true}
 use Rattle.std.specs.List.Sorted.{IsStrictlyIncreasing}
 use Rattle.std.proofs.lemmas.Bool.{cases_eq}
 use Rattle.std.proofs.lemmas.Bool.Decides.{eqb_tells}
@@ -21,11 +19,6 @@ use Rattle.rq_parts.proofs.SparsePairs.{in_range-true, range-from, range-below}
 use Rattle.rq_matrix.specs.Orders.{Order, IsPlacedOrder}
 use Rattle.rq_matrix.specs.SparseRows.{IsSparseRow, places_between}
 use Rattle.rq_matrix.proofs.Ones.{ones_below-same}
-
--- what is there is some value
-pub value_of_some : {X : Type 0} (o : Option X) → is_some o ≡ true → (x : X) × (o ≡ Some x)
-value_of_some None on = absurd (false≢true on)
-value_of_some (Some x) on = (x, refl)
 
 -- ---- stored rows
 

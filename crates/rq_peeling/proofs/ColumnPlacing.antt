@@ -217,8 +217,8 @@ module _ (lists : List (List ℕ)) (counts starts rows : List ℕ) (placed : Has
       ]
 
   -- a column's rows are those that were put
-  pub read_is : (k : ℕ) → k < length counts → rows_of_column starts rows k ≡ rows_with lists k (length lists)
-  read_is k l =
+  pub rows_of_column-put : (k : ℕ) → k < length counts → rows_of_column starts rows k ≡ rows_with lists k (length lists)
+  rows_of_column-put k l =
       let start = sum (take k counts) in
       let end = sum (take (k + 1) counts) in
       let more = sum_next counts k l in

@@ -93,7 +93,7 @@ are_equations row ids bits hdpc handed part rows columns count order enough = re
   binary = binary_equations row bits handed (equation_count row ids) part.width part.boundary part.indexed part.height count order enough;
   hdpc_height = rows;
   hdpc_width = columns;
-  zeros = part.zeros;
+  zeros = λ i k l m. part.zeros (row.ldpc_symbols + i) k (omega arith) (omega arith) m;
 }
 
 -- without HDPC rows the rows are those of bits

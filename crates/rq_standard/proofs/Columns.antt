@@ -1,9 +1,10 @@
 -- The intermediate symbols of a block, and the sums at places of ids.
-use Rattle.std.proofs.Common.{◌≡◌, ℕ, ◌+◌, ◌*◌, ◌%◌, ◌^◌, ◌<◌, ◌≤◌, List, [], ◌∷◌, All, length, get_or, Option, Some, None, refl, sym, ap, ◌∙◌, subst, arith}
+use Rattle.std.proofs.Common.{◌≡◌, ℕ, ◌+◌, ◌*◌, ◌%◌, ◌^◌, ◌<◌, ◌≤◌, List, [], ◌∷◌, All, length, get_or, refl, sym, ap, ◌∙◌, subst, arith}
 use Rattle.std.specs.Prelude.{IfSome}
 use Rattle.std.proofs.lemmas.List.{get_or_past, ext_get_or, length-append}
 use Rattle.std.proofs.lemmas.List.Elements.{All-head, All-tail}
-use Rattle.std.proofs.lemmas.List.FromFn.{length-range_with_len, length-map-range_with_len}
+use Rattle.std.proofs.lemmas.List.FromFn.{length-range_with_len, get_or-range_with_len, length-map-range_with_len}
+use Rattle.std.proofs.lemmas.Option.{IfSome_then}
 use Rattle.rq_algebra.specs.Systems.{dot, at, rows_of}
 use Rattle.rq_algebra.specs.Symbols.{symbols, IsSymbol, IsSymbolColumn, SolvesSymbols, slice_at}
 use Rattle.rq_algebra.specs.Parities.{sum_listed}
@@ -19,7 +20,7 @@ use Rattle.rq_standard.specs.Equations.{precode_equations, symbol_coefficient, e
 use Rattle.rq_standard.specs.ReceivedBlock.{ReceivedBlock, SolvesReceived}
 use Rattle.rq_standard.proofs.PlaceLaws.{row_indices_below, enough_lt}
 use Rattle.rq_standard.proofs.TupleLaws.{between}
-use Rattle.rq_standard.proofs.KnownIds.{range_at, nonsingular_rows}
+use Rattle.rq_standard.proofs.KnownIds.{nonsingular_rows}
 use Rattle.rq_standard.specs.Headline.{IsIntermediateColumn, IsEncodingSymbol}
 use Rattle.rq_standard.specs.PacketLaws.{IntermediateSymbolsAreOnly}
 
@@ -62,8 +63,8 @@ listed_same width (k ∷ places) x y below same =
     ap (λ s. (symbols octets).add s (sum_listed (symbols octets) places x)) (same k (All-head (λ j. j < width) k places below))
     ∙ ap ((symbols octets).add (y k)) (listed_same width places x y (All-tail (λ j. j < width) k places below) same)
 
-pub sum_same : (row : TableRow) (i : ℕ) (x y : ℕ → List ℕ) → IsChecked row → ((k : ℕ) → k < intermediate_symbols row → x k ≡ y k) → tuple_sum row x i ≡ tuple_sum row y i
-sum_same row i x y checked same = listed_same (intermediate_symbols row) (row_indices row i) x y (row_indices_below row i checked) same
+pub tuple_sum-same : (row : TableRow) (i : ℕ) (x y : ℕ → List ℕ) → IsChecked row → ((k : ℕ) → k < intermediate_symbols row → x k ≡ y k) → tuple_sum row x i ≡ tuple_sum row y i
+tuple_sum-same row i x y checked same = listed_same (intermediate_symbols row) (row_indices row i) x y (row_indices_below row i checked) same
 
 -- ---- the symbol equations of a list of ids
 
@@ -83,7 +84,7 @@ solved_sum row size j ids carried column checked are solves below long =
 pub source_sum : (row : TableRow) (size x : ℕ) (source : List (List ℕ)) (column : ℕ → List ℕ) → IsChecked row → IsIntermediateColumn row size source column → ((e : ℕ) → length (get_or source e (zero_symbol size)) ≡ size) → x < row.extended_symbols
     → tuple_sum row column x ≡ get_or source x (zero_symbol size)
 source_sum row size x source column checked is are below =
-    let at_x : at (extended_ids row) x ≡ x = range_at 0 row.extended_symbols x below ∙ omega arith in
+    let at_x : at (extended_ids row) x ≡ x = get_or-range_with_len 0 row.extended_symbols x 0 below ∙ omega arith in
     subst (λ n. tuple_sum row column n ≡ get_or source x (zero_symbol size)) at_x
     (solved_sum row size x (extended_ids row) source column checked is.symbols is.solves (omega (arith, length-range_with_len 0 row.extended_symbols)) (are x))
 
@@ -98,11 +99,7 @@ only_column row size source column nonsingular is = record {
 encoding_sum : (row : TableRow) (size esi : ℕ) (source : List (List ℕ)) (column : ℕ → List ℕ) (payload : List ℕ) → IsChecked row → IsIntermediateColumn row size source column → IsEncodingSymbol row size source esi payload
     → payload ≡ tuple_sum row column (internal_id row (length source) esi)
 encoding_sum row size esi source column payload checked is symbol =
-    symbol.is_sum ∙ sum_same row (internal_id row (length source) esi) symbol.column column checked (λ k below. sym (symbol.is_only.only column is k below))
-
-if_some-weaker : {X : Type 0} (o : Option X) (P Q : X → Type 0) → ((x : X) → P x → Q x) → IfSome o P → IfSome o Q
-if_some-weaker None P Q weaker h = tt
-if_some-weaker (Some x) P Q weaker h = weaker x h
+    symbol.is_sum ∙ tuple_sum-same row (internal_id row (length source) esi) symbol.column column checked (λ k below. sym (symbol.is_only.only column is k below))
 
 -- what was received of a block whose symbols are those of a source is solved by the source's intermediate symbols
 pub solves_received : (h : ReceivedBlock) (source : List (List ℕ)) (column : ℕ → List ℕ) → IsChecked h.row → length source ≡ h.source_symbols → ((e : ℕ) → length (get_or source e (zero_symbol h.configuration.symbol_size)) ≡ h.configuration.symbol_size)
@@ -115,5 +112,5 @@ solves_received h source column checked long are is honest =
       symbols = is.symbols;
       precode = ((symbols_stacked octets f (length (extended_ids row)) (intermediate_symbols row) (precode_equations row) (rows_of (symbol_coefficient row) (extended_ids row)) column (λ _. zero_symbol size) (λ i. get_or source i (zero_symbol size))).0 is.solves).0;
       padding = λ x from below. source_sum row size x source column checked is are below ∙ get_or_past source x (zero_symbol size) (omega arith);
-      received = λ e. if_some-weaker (h.received e) _ _ (λ payload symbol. encoding_sum row size e source column payload checked is symbol ∙ ap (λ k. tuple_sum row column (internal_id row k e)) long) (honest e);
+      received = λ e. IfSome_then (h.received e) (honest e) (λ payload symbol. encoding_sum row size e source column payload checked is symbol ∙ ap (λ k. tuple_sum row column (internal_id row k e)) long);
     }

@@ -17,7 +17,7 @@ use Rattle.rq_standard.specs.PacketLaws.{DeterminedByIdsAlone, ContradictionsSta
 use Rattle.rq_standard.proofs.KnownIds.{block_more, block_same}
 use Rattle.rq_standard.proofs.Columns.{solves_received}
 use Rattle.rq_standard.proofs.Firsts.{stays, first_payload-here, first_payload-elsewhere}
-use Rattle.rq_standard.proofs.StandingSteps.{row_of_shape, push-all, length-block_source, source_sized, received_with, received_is, received_symbol, firsts_more, recorded_shape}
+use Rattle.rq_standard.proofs.StandingSteps.{row_of_shape, AllByRecursion-append, length-block_source, source_sized, received_with, received_is, received_symbol, firsts_more, recorded_shape}
 
 -- ---- a block
 
@@ -117,7 +117,7 @@ honest_fits old p new honest x =
     let pk = honest.of_object in
     let reads = (subst (BlockStandsFor (honest.late b) _ b honest.packets (old.received b)) x.records.here.unanswered (st.block b pk.block)).0 in
     x.contradictory.unsolved
-    (honest_solution honest.table c honest.object (honest.packets ++ p ∷ []) b (new.received b) pk.symbol.column (push-all (IsPacketOf honest.table c honest.object) honest.packets p st.run.honest pk)
+    (honest_solution honest.table c honest.object (honest.packets ++ p ∷ []) b (new.received b) pk.symbol.column (AllByRecursion-append (IsPacketOf honest.table c honest.object) honest.packets (p ∷ []) st.run.honest (pk, tt))
     (recorded_shape honest.table c b p (old.received b) (new.received b) (st.shape b pk.block) x.records.here.received) (firsts_more honest.packets p (old.received b) (new.received b) reads x.records.here.received) pk.symbol.is_only.is)
 
 -- ---- whoever sent them

@@ -2,7 +2,7 @@
 use Rattle.std.proofs.Common.{◌≡◌, ◌≢◌, ℕ, zero, suc, ◌+◌, ◌-◌, ◌<◌, ◌≤◌, ◌⊎◌, cond, Bool, true, List, length, get_or, refl, sym, ap, ◌∙◌, arith, inl, inr}
 use Rattle.std.proofs.lemmas.Bool.{cases_lt, cases_eq, lt-ltb, le-ltb, ltb-true}
 use Rattle.std.proofs.lemmas.List.{ext_get_or, get_or_past, length-replicate}
-use Rattle.std.proofs.lemmas.List.FromFn.{length-range_with_len}
+use Rattle.std.proofs.lemmas.List.FromFn.{length-range_with_len, get_or-range_with_len}
 use Rattle.std.proofs.lemmas.List.Elements.{All-from_get_or}
 use Rattle.rq_algebra.specs.Systems.{dot, at, IsColumn, rows_of}
 use Rattle.rq_algebra.specs.Symbols.{add_symbols, IsSymbol, IsSymbolColumn, slice_at}
@@ -17,8 +17,8 @@ use Rattle.rq_standard.specs.Equations.{precode_equations, symbol_coefficient, e
 use Rattle.rq_standard.specs.Headline.{IsNonsingular, IsIntermediateColumn, IsEncodingSymbol, SolvesZeros, known_ids}
 use Rattle.rq_standard.specs.Differences.{plain_sum}
 use Rattle.rq_standard.proofs.Columns.{sum_symbol, sum_at, only_column}
-use Rattle.rq_standard.proofs.FirstOctets.{first_octet}
-use Rattle.rq_standard.proofs.KnownIds.{known_source, known_padding, known_repair, range_at}
+use Rattle.rq_standard.proofs.FirstOctets.{first_octet_symbol}
+use Rattle.rq_standard.proofs.KnownIds.{known_source, known_padding, known_repair}
 
 -- ---- symbols are added
 
@@ -86,21 +86,21 @@ module _ (row : TableRow) (size : ℕ) (checked : IsChecked row) where
 -- ---- a plain column as one of symbols
 
 abbrev pub wide : ℕ → (ℕ → ℕ) → ℕ → List ℕ
-wide size x k = first_octet size (x k)
+wide size x k = first_octet_symbol size (x k)
 
 module _ (size : ℕ) (pos : 0 < size) where
-  octet_symbol : (v : ℕ) → v < 256 → IsSymbol octets size (first_octet size v)
+  octet_symbol : (v : ℕ) → v < 256 → IsSymbol octets size (first_octet_symbol size v)
   octet_symbol v small = record {
     size_is = omega (arith, length-zero (size - 1));
-    elements = All-from_get_or (λ n. n < 256) (first_octet size v) 0 (λ p l. by_place p);
+    elements = All-from_get_or (λ n. n < 256) (first_octet_symbol size v) 0 (λ p l. by_place p);
   } where
-    by_place : (p : ℕ) → get_or (first_octet size v) p 0 < 256
+    by_place : (p : ℕ) → get_or (first_octet_symbol size v) p 0 < 256
     by_place zero = small
     by_place (suc p) = omega (arith, at-zeros (size - 1) p)
 
-  pub zero_octet : first_octet size 0 ≡ zero_symbol size
-  zero_octet = ext_get_or 0 (first_octet size 0) (zero_symbol size) (omega (arith, length-zero (size - 1), length-zero size)) (λ p l. by_place p) where
-    by_place : (p : ℕ) → get_or (first_octet size 0) p 0 ≡ get_or (zero_symbol size) p 0
+  pub zero_octet : first_octet_symbol size 0 ≡ zero_symbol size
+  zero_octet = ext_get_or 0 (first_octet_symbol size 0) (zero_symbol size) (omega (arith, length-zero (size - 1), length-zero size)) (λ p l. by_place p) where
+    by_place : (p : ℕ) → get_or (first_octet_symbol size 0) p 0 ≡ get_or (zero_symbol size) p 0
     by_place zero = sym (at-zeros size 0)
     by_place (suc p) = at-zeros (size - 1) p ∙ sym (at-zeros size (suc p))
 
@@ -112,37 +112,37 @@ module _ (size : ℕ) (pos : 0 < size) where
     dot_later : (r : ℕ → ℕ) (p : ℕ) → dot octets (intermediate_symbols row) r (slice_at (suc p) (wide size x)) ≡ 0
     dot_later r p = dot_zero octets (intermediate_symbols row) r (slice_at (suc p) (wide size x)) (λ k l. ap (octets.mul (r k)) (at-zeros (size - 1) p) ∙ mul_zero octets (r k))
 
-    pub wide_sum : (e : ℕ) → tuple_sum row (wide size x) e ≡ first_octet size (plain_sum row x e)
+    pub wide_sum : (e : ℕ) → tuple_sum row (wide size x) e ≡ first_octet_symbol size (plain_sum row x e)
     wide_sum e =
-        same_symbol octets size (tuple_sum row (wide size x) e) (first_octet size (plain_sum row x e)) (sum_symbol row size e (wide size x) checked wide_symbols)
+        same_symbol octets size (tuple_sum row (wide size x) e) (first_octet_symbol size (plain_sum row x e)) (sum_symbol row size e (wide size x) checked wide_symbols)
         (octet_symbol (plain_sum row x e) (dot_below_size octets (intermediate_symbols row) (symbol_coefficient row e) x))
         (λ p. sum_at row size e (wide size x) checked wide_symbols p ∙ by_place p) where
-          by_place : (p : ℕ) → dot octets (intermediate_symbols row) (symbol_coefficient row e) (slice_at p (wide size x)) ≡ at (first_octet size (plain_sum row x e)) p
+          by_place : (p : ℕ) → dot octets (intermediate_symbols row) (symbol_coefficient row e) (slice_at p (wide size x)) ≡ at (first_octet_symbol size (plain_sum row x e)) p
           by_place zero = refl
           by_place (suc p) = dot_later (symbol_coefficient row e) p ∙ sym (at-zeros (size - 1) p)
 
     module _ (k : ℕ) (has : ℕ → Bool) (source : List (List ℕ)) (long : length source ≡ k) (solves : SolvesZeros row (known_ids row k has) x)
-        (reads : (e : ℕ) → e < k → get_or source e (zero_symbol size) ≡ first_octet size (plain_sum row x e)) where
+        (reads : (e : ℕ) → e < k → get_or source e (zero_symbol size) ≡ first_octet_symbol size (plain_sum row x e)) where
       -- the value of an equation, at the first octet and later
-      value_at : (i : ℕ) → i < equation_count row (extended_ids row) → equation_values row size source i ≡ first_octet size (dot octets (intermediate_symbols row) (equations row (extended_ids row) i) x)
+      value_at : (i : ℕ) → i < equation_count row (extended_ids row) → equation_values row size source i ≡ first_octet_symbol size (dot octets (intermediate_symbols row) (equations row (extended_ids row) i) x)
       value_at i below =
           let f : ℕ = row.ldpc_symbols + row.hdpc_symbols in
           let n = intermediate_symbols row in
           elim (cases_lt i f) [
             | inl lt ↦ stacked_above f (λ _. zero_symbol size) (λ j. get_or source j (zero_symbol size)) i lt ∙ sym zero_octet
-                ∙ ap (first_octet size) (sym (ap (λ (r : ℕ → ℕ). dot octets n r x) (stacked_above f (precode_equations row) (rows_of (symbol_coefficient row) (extended_ids row)) i lt) ∙ solves.precode.at i lt))
+                ∙ ap (first_octet_symbol size) (sym (ap (λ (r : ℕ → ℕ). dot octets n r x) (stacked_above f (precode_equations row) (rows_of (symbol_coefficient row) (extended_ids row)) i lt) ∙ solves.precode.at i lt))
             | inr past ↦
                 let j : ℕ = i - f in
                 let e : f + j ≡ i = omega arith in
                 let in_ids : j < row.extended_symbols = omega (arith, length-range_with_len 0 row.extended_symbols) in
-                let id : at (extended_ids row) j ≡ j = range_at 0 row.extended_symbols j in_ids ∙ omega arith in
+                let id : at (extended_ids row) j ≡ j = get_or-range_with_len 0 row.extended_symbols j 0 in_ids ∙ omega arith in
                 rw (← e) (stacked_below f (λ _. zero_symbol size) (λ j. get_or source j (zero_symbol size)) j ∙ symbol_value j in_ids
-                ∙ ap (first_octet size) (sym (ap (λ (r : ℕ → ℕ). dot octets n r x) (stacked_below f (precode_equations row) (rows_of (symbol_coefficient row) (extended_ids row)) j ∙ ap (symbol_coefficient row) id))))
+                ∙ ap (first_octet_symbol size) (sym (ap (λ (r : ℕ → ℕ). dot octets n r x) (stacked_below f (precode_equations row) (rows_of (symbol_coefficient row) (extended_ids row)) j ∙ ap (symbol_coefficient row) id))))
           ] where
-            symbol_value : (j : ℕ) → j < row.extended_symbols → get_or source j (zero_symbol size) ≡ first_octet size (plain_sum row x j)
+            symbol_value : (j : ℕ) → j < row.extended_symbols → get_or source j (zero_symbol size) ≡ first_octet_symbol size (plain_sum row x j)
             symbol_value j in_ids = elim (cases_lt j k) [
               | inl lt ↦ reads j lt
-              | inr past ↦ get_or_past source j (zero_symbol size) (omega (arith, long)) ∙ sym zero_octet ∙ ap (first_octet size) (sym (solves.each j (known_padding row k j has past in_ids)))
+              | inr past ↦ get_or_past source j (zero_symbol size) (omega (arith, long)) ∙ sym zero_octet ∙ ap (first_octet_symbol size) (sym (solves.each j (known_padding row k j has past in_ids)))
             ]
 
       wide_column : IsIntermediateColumn row size source (wide size x)
@@ -150,7 +150,7 @@ module _ (size : ℕ) (pos : 0 < size) where
         symbols = wide_symbols;
         solves = record { at_place = λ p. record { at = λ i l. by_place p (equations row (extended_ids row) i) ∙ ap (λ s. at s p) (sym (value_at i l)) } };
       } where
-        by_place : (p : ℕ) (r : ℕ → ℕ) → dot octets (intermediate_symbols row) r (slice_at p (wide size x)) ≡ at (first_octet size (dot octets (intermediate_symbols row) r x)) p
+        by_place : (p : ℕ) (r : ℕ → ℕ) → dot octets (intermediate_symbols row) r (slice_at p (wide size x)) ≡ at (first_octet_symbol size (dot octets (intermediate_symbols row) r x)) p
         by_place zero r = refl
         by_place (suc p) r = dot_later r p ∙ sym (at-zeros (size - 1) p)
 
@@ -159,7 +159,7 @@ module _ (size : ℕ) (pos : 0 < size) where
       known_are_zeros nonsingular fits e came = record {
         column = wide size x;
         is_only = only_column row size source (wide size x) nonsingular wide_column;
-        is_sum = sym (wide_sum (internal_id row (length source) e) ∙ ap (first_octet size) (ap (λ n. plain_sum row x (internal_id row n e)) long ∙ solves.each (internal_id row k e) known) ∙ zero_octet);
+        is_sum = sym (wide_sum (internal_id row (length source) e) ∙ ap (first_octet_symbol size) (ap (λ n. plain_sum row x (internal_id row n e)) long ∙ solves.each (internal_id row k e) known) ∙ zero_octet);
       } where
         known : known_ids row k has (internal_id row k e) ≡ true
         known = elim (cases_lt e k) [
@@ -186,7 +186,7 @@ zeros_are_octets row k l = omega arith
 pub zeros_encode : (row : TableRow) (size k : ℕ) (source : List (List ℕ)) (e : ℕ) → 0 < size → IsChecked row → IsNonsingular row → k ≤ row.extended_symbols → length source ≡ k → ((i : ℕ) → i < k → get_or source i (zero_symbol size) ≡ zero_symbol size) → IsEncodingSymbol row size source e (zero_symbol size)
 zeros_encode row size k source e pos checked nonsingular fits long zeros =
     known_are_zeros size pos row checked (λ _. 0) (zeros_are_octets row) k (λ _. true) source long (zeros_solve row (known_ids row k (λ _. true)))
-    (λ i below. zeros i below ∙ sym (zero_octet size pos) ∙ ap (first_octet size) (sym (zero_dot row (symbol_coefficient row i)))) nonsingular fits e refl
+    (λ i below. zeros i below ∙ sym (zero_octet size pos) ∙ ap (first_octet_symbol size) (sym (zero_dot row (symbol_coefficient row i)))) nonsingular fits e refl
 
 -- ---- over a row that isn't singular, a column that isn't zero changes a source symbol
 

@@ -18,8 +18,8 @@ use Rattle.rq_standard.proofs.Interleaved.{IsSubBlock, at_byte, place_in, place_
 use Rattle.rq_standard.proofs.StandingSteps.{length-symbol_of_block}
 
 -- a symbol of which only the first octet may be nonzero
-abbrev pub first_octet : ℕ → ℕ → List ℕ
-first_octet size octet = octet ∷ zero_symbol (size - 1)
+abbrev pub first_octet_symbol : ℕ → ℕ → List ℕ
+first_octet_symbol size octet = octet ∷ zero_symbol (size - 1)
 
 module _ (c : Configuration) (k : ℕ) (octet : ℕ → ℕ) (n : ℕ) where
   below_at : (i : ℕ) → i < k * c.symbol_size → get_or (first_octets_below c k octet n) i 0 ≡ cond (eqb (i % sub_block_size c 0) 0 && ltb (i / sub_block_size c 0) n) (octet (i / sub_block_size c 0)) 0
@@ -100,13 +100,13 @@ module _ (c : Configuration) (pos : 0 < c.symbol_size) (aligned : IsAligned c) w
           past_all q true past = ap (λ b. cond b (octet q) 0) (le-ltb q k past)
           past_all q false past = refl
 
-    pub symbol_of_first_octets : symbol_of_block c k (first_octets_block c k octet) e ≡ first_octet c.symbol_size (octet e)
+    pub symbol_of_first_octets : symbol_of_block c k (first_octets_block c k octet) e ≡ first_octet_symbol c.symbol_size (octet e)
     symbol_of_first_octets =
         let size = c.symbol_size in
-        ext_get_or 0 (symbol_of_block c k (first_octets_block c k octet) e) (first_octet size (octet e)) (length-symbol_of_block c k (first_octets_block c k octet) e ∙ omega (arith, length-replicate {A = ℕ} (size - 1) 0))
+        ext_get_or 0 (symbol_of_block c k (first_octets_block c k octet) e) (first_octet_symbol size (octet e)) (length-symbol_of_block c k (first_octets_block c k octet) e ∙ omega (arith, length-replicate {A = ℕ} (size - 1) 0))
         (λ t lt. let below : t < size = omega (arith, length-symbol_of_block c k (first_octets_block c k octet) e) in
         get_or-symbol_of_block c k (first_octets_block c k octet) e t below ∙ by_place t below) where
-          by_place : (t : ℕ) → t < c.symbol_size → get_or (first_octets_block c k octet) (place_in_block c k e t) 0 ≡ get_or (first_octet c.symbol_size (octet e)) t 0
+          by_place : (t : ℕ) → t < c.symbol_size → get_or (first_octets_block c k octet) (place_in_block c k e t) 0 ≡ get_or (first_octet_symbol c.symbol_size (octet e)) t 0
           by_place zero below = ap (λ n. get_or (first_octets_block c k octet) n 0) (first_place k e) ∙ at_first
           by_place (suc t) below = at_later (suc t) (omega arith) below (place_below c k e (suc t) aligned in_block below) ∙ sym (at-zeros (c.symbol_size - 1) t)
 
@@ -195,7 +195,7 @@ module _ (c : Configuration) (octet : ℕ → ℕ → ℕ) where
           | inr past ↦ get_or_past object (o + i) 0 (omega (arith, length-first_octets_object)) ∙ sym (zero_past b i below within past)
         ])
 
-    pub symbol_of_object : (b e : ℕ) → b < c.source_blocks → e < block_symbols c b → source_symbol c (first_octets_object c octet) b e ≡ first_octet c.symbol_size (octet b e)
+    pub symbol_of_object : (b e : ℕ) → b < c.source_blocks → e < block_symbols c b → source_symbol c (first_octets_object c octet) b e ≡ first_octet_symbol c.symbol_size (octet b e)
     symbol_of_object b e below in_block = ap (λ block. symbol_of_block c (block_symbols c b) block e) (block_of_first_octets b below) ∙ symbol_of_first_octets c pos aligned (block_symbols c b) (octet b) e in_block
 
     -- and it isn't all zeros where an octet isn't zero

@@ -9,17 +9,13 @@ use Rattle.rq_standard.specs.declared.row.TableRow.{TableRow}
 use Rattle.rq_standard.specs.Octets.{octet_double, octet_mul, octet_power, octet_inverse}
 use Rattle.rq_standard.specs.OctetField.{octets, octet_laws}
 use Rattle.rq_standard.specs.OctetFacts.{one-mul}
-use Rattle.rq_standard.specs.OctetProducts.{mul-double_left}
+use Rattle.rq_standard.specs.OctetProducts.{cond-lt, mul-double_left}
 use Rattle.rq_standard.specs.Equations.{one_if, before_hdpc, mt, gamma, hdpc_coefficient}
 use Rattle.rq_standard.proofs.Powers.{power-lt}
 
 pub one_if-lt : (b : Bool) → one_if b < 256
 one_if-lt true = omega arith
 one_if-lt false = omega arith
-
-pub cond-lt : (b : Bool) (x y : ℕ) → x < 256 → y < 256 → cond b x y < 256
-cond-lt true x y hx hy = hx
-cond-lt false x y hx hy = hy
 
 mt-lt : (row : TableRow) (i j : ℕ) → mt row i j < 256
 unfolding mt

@@ -18,7 +18,8 @@ use Rattle.rq_standard.specs.Equations.{precode_equations, symbol_coefficient, e
 use Rattle.rq_standard.specs.IdLists.{IsListOf, HasDeterminedRows}
 use Rattle.rq_standard.specs.Headline.{IsNonsingular, SolvesZeros, AreDetermined, known_ids, DetermineBlock}
 use Rattle.rq_standard.specs.Received.{HasSourceSymbols}
-use Rattle.rq_standard.proofs.HdpcLaws.{cond-lt, one_if-lt}
+use Rattle.rq_standard.specs.OctetProducts.{cond-lt}
+use Rattle.rq_standard.proofs.HdpcLaws.{one_if-lt}
 
 module _ (row : TableRow) (known : ℕ → Bool) (ids : List ℕ) (column : ℕ → ℕ) where
   both : Solves octets (equation_count row ids) (intermediate_symbols row) (equations row ids) column (stacked (row.ldpc_symbols + row.hdpc_symbols) (λ _. 0) (λ _. 0))
@@ -95,19 +96,16 @@ block_more row k f g within = determined_more row (known_ids row k f) (known_ids
 pub block_same : (row : TableRow) (k : ℕ) (f g : ℕ → Bool) → ((e : ℕ) → f e ≡ g e) → DetermineBlock row k f → DetermineBlock row k g
 block_same row k f g same = block_more row k f g (λ e h. sym (same e) ∙ h)
 
-pub range_at : (a n i : ℕ) → i < n → at (range_with_len a n) i ≡ a + i
-range_at a n i lt = get_or-range_with_len a n i 0 lt
-
 -- the ids of source and padding symbols, as a list
 source_list : (row : TableRow) → IsListOf (λ x. ltb x row.extended_symbols) (extended_ids row)
 source_list row = record {
   listed = λ j below.
       let lt : j < row.extended_symbols = omega (arith, length-range_with_len 0 row.extended_symbols) in
-      let is : at (extended_ids row) j ≡ j = range_at 0 row.extended_symbols j lt ∙ omega arith in
+      let is : at (extended_ids row) j ≡ j = get_or-range_with_len 0 row.extended_symbols j 0 lt ∙ omega arith in
       ap (λ x. ltb x row.extended_symbols) is ∙ lt-ltb j row.extended_symbols lt;
   place = λ x known.
       let lt : x < row.extended_symbols = ltb-true x row.extended_symbols known in
-      (x, omega (arith, length-range_with_len 0 row.extended_symbols), range_at 0 row.extended_symbols x lt ∙ omega arith);
+      (x, omega (arith, length-range_with_len 0 row.extended_symbols), get_or-range_with_len 0 row.extended_symbols x 0 lt ∙ omega arith);
 }
 
 -- a row is nonsingular where the equations of these ids are determined
@@ -169,11 +167,11 @@ padding_list row k fits =
     record {
       listed = λ j below.
           let lt : j < n = omega (arith, length-range_with_len k n) in
-          ap (known_ids row k (λ _. false)) (range_at k n j lt) ∙ known_padding row k (k + j) (λ _. false) (omega arith) (omega arith);
+          ap (known_ids row k (λ _. false)) (get_or-range_with_len k n j 0 lt) ∙ known_padding row k (k + j) (λ _. false) (omega arith) (omega arith);
       place = λ x known. elim (cases_lt x k) [
         | inl lt ↦ absurd (cc (sym (known_source row k x (λ _. false) lt) ∙ known))
         | inr ge ↦ elim (cases_lt x row.extended_symbols) [
-          | inl lt ↦ (x - k, (omega (arith, length-range_with_len k n)), range_at k n (x - k) (omega arith) ∙ omega arith)
+          | inl lt ↦ (x - k, (omega (arith, length-range_with_len k n)), get_or-range_with_len k n (x - k) 0 (omega arith) ∙ omega arith)
           | inr past ↦ absurd (cc (sym (known_repair row k x (λ _. false) ge past) ∙ known))
         ]
       ];

@@ -16,6 +16,7 @@ pub mod LeastNumbers
 pub mod MorePackets
 pub mod ObjectAnswers
 pub mod OneObject
+pub mod OptionValues
 pub mod OtherObjects
 pub mod PacketBytes
 pub mod PartSums

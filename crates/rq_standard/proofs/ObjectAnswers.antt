@@ -1,7 +1,7 @@
 -- What a decoder that stands for a list of packets answers.
 use Rattle.std.proofs.Common.{◌≡◌, ℕ, zero, suc, ◌<◌, Bool, false, List, take, Option, Some, None, refl, sym, ap, ◌∙◌, subst, arith, inl, inr}
 use Rattle.std.specs.Prelude.{option_map, is_some, IsSome, IsNone, IfSome}
-use Rattle.std.proofs.lemmas.Bool.{cases_lt}
+use Rattle.std.proofs.lemmas.Bool.{cases_lt, true_from_ne_false}
 use Rattle.std.proofs.lemmas.Option.{same_Some}
 use Rattle.rq_standard.specs.declared.row.TableRow.{TableRow}
 use Rattle.rq_standard.specs.Packet.{Packet}
@@ -14,6 +14,7 @@ use Rattle.rq_standard.specs.Standing.{BlockStandsFor, StandsForButLate, Answers
 use Rattle.rq_standard.specs.Differences.{AreUnansweredDetermined, IsNoneWhereAnswered}
 use Rattle.rq_standard.proofs.BlockCuts.{pieces, whole_object}
 use Rattle.rq_standard.proofs.KnownIds.{block_same}
+use Rattle.rq_standard.proofs.OptionValues.{is_some-mapped, none_is}
 
 -- blocks are joined where each has an answer
 pub joined_some : (f : ℕ → List ℕ) (answer : ℕ → Option (List ℕ)) (n : ℕ) → ((b : ℕ) → b < n → answer b ≡ Some (f b)) → first_blocks n answer ≡ Some (pieces f n)
@@ -33,10 +34,6 @@ joined_each answer (suc n) h b below =
       | inl lt ↦ joined_each answer n q.0 b lt
       | inr past ↦ let here : n ≡ b = omega arith in subst (λ m. IsSome (answer m)) here q.1
     ]
-
-pub some_of : (f : List ℕ → List ℕ) (o : Option (List ℕ)) → IsSome (option_map f o) → IsSome o
-some_of f None h = h
-some_of f (Some xs) h = refl
 
 module _ (table : List TableRow) (object : List ℕ) (packets : List Packet) (s : State) where
   -- the ids that were received determine a block, by its row and by what was received
@@ -65,7 +62,7 @@ module _ (table : List TableRow) (object : List ℕ) (packets : List Packet) (s 
         ∙ ap (λ xs. Some xs) (whole_object s.configuration object some pos st.run.long)
 
     each_of : IsSome (result_of s) → (b : ℕ) → b < s.configuration.source_blocks → IsSome (s.answer b)
-    each_of h = joined_each s.answer s.configuration.source_blocks (some_of (take s.configuration.transfer_length) (first_blocks s.configuration.source_blocks s.answer) h)
+    each_of h = joined_each s.answer s.configuration.source_blocks (sym (is_some-mapped (take s.configuration.transfer_length) (first_blocks s.configuration.source_blocks s.answer)) ∙ h)
 
     the_object : (r : Option (List ℕ)) → r ≡ result_of s → IfSome r (λ bytes. bytes ≡ object)
     the_object None is = tt
@@ -82,24 +79,12 @@ not_determined : (packets : List Packet) (block : List ℕ) (b : ℕ) (h : Recei
 not_determined packets block b h None st none d = st.1 refl (block_same h.row h.source_symbols (has_received h) (has_id b packets) (λ e. ap is_some (st.0 e)) d)
 not_determined packets block b h (Some bytes) st none d = absurd (cc none)
 
-is_answered : (a : Option (List ℕ)) → (a ≡ None → ⊥) → IsSome a
-is_answered None some = absurd (some refl)
-is_answered (Some xs) some = refl
-
-some_is_some : (a : Option (List ℕ)) → IsSome a → a ≡ None → ⊥
-some_is_some None some none = cc some
-some_is_some (Some xs) some none = cc none
-
-is_none_where : (a : Option (List ℕ)) → IsNone a → a ≡ None
-is_none_where None h = refl
-is_none_where (Some xs) h = absurd (cc h)
-
 -- a decoder whose difference is none where what was received of each open block determines it, and that stands for a list, has it none where it answers
 pub none_where_answered : (s : State) (difference : Option (List ℕ)) → 0 < s.configuration.source_blocks → 0 < s.configuration.symbol_size → (difference ≡ None → AreUnansweredDetermined s) → (AreUnansweredDetermined s → difference ≡ None) → IsNoneWhereAnswered s difference
 none_where_answered s difference some pos told tells table object packets st = (
-  λ none. subst IsSome (sym (from_all table object packets s (λ _. false) some pos st (λ b below. is_answered (s.answer b) (λ unanswered.
-      not_determined packets (block_bytes s.configuration object b) b (s.received b) (s.answer b) (st.block b below) unanswered (told (is_none_where difference none) b below unanswered))))) refl,
-  λ answered. subst IsNone (sym (tells (λ b below unanswered. absurd (some_is_some (s.answer b) (each_of table object packets s (λ _. false) some pos st answered b below) unanswered)))) refl,
+  λ none. subst IsSome (sym (from_all table object packets s (λ _. false) some pos st (λ b below. true_from_ne_false (is_some (s.answer b)) (λ unanswered.
+      not_determined packets (block_bytes s.configuration object b) b (s.received b) (s.answer b) (st.block b below) (none_is (s.answer b) unanswered) (told (none_is difference none) b below (none_is (s.answer b) unanswered)))))) refl,
+  λ answered. subst IsNone (sym (tells (λ b below unanswered. absurd (cc (ap is_some unanswered, each_of table object packets s (λ _. false) some pos st answered b below))))) refl,
 )
 
 pub answers_object : (s : State) (r : Option (List ℕ)) → 0 < s.configuration.source_blocks → 0 < s.configuration.symbol_size → r ≡ result_of s → AnswersObject s r

@@ -19,7 +19,7 @@ use Rattle.rq_standard.specs.Received.{or_later, first_payload, has_id}
 use Rattle.rq_standard.specs.Headline.{SolvesZeros, DetermineBlock, block_row, block_source, known_ids, IsEncodingSymbol, IsPacketOf, IsHonestRun, IsAnswerable}
 use Rattle.rq_standard.specs.ReceivedBlock.{ReceivedBlock, has_received, SolvesReceived, ReceivedDetermine}
 use Rattle.rq_standard.proofs.BlockCuts.{pieces_same, whole_object}
-use Rattle.rq_standard.proofs.Columns.{sum_at, sum_same, source_sum, solves_received}
+use Rattle.rq_standard.proofs.Columns.{sum_at, tuple_sum-same, source_sum, solves_received}
 use Rattle.rq_standard.proofs.Interleaved.{same_symbols}
 use Rattle.rq_standard.proofs.KnownIds.{known_source, known_repair, none_determined, block_same}
 use Rattle.rq_standard.proofs.PlainCut.{length-block_bytes}
@@ -118,7 +118,7 @@ module _ (table : List TableRow) (c : Configuration) (one other : List ℕ) (b :
         let same = received_unique came x y has_row.checked has_row.fits solves_x solves_y determined in
         same_symbols c k (block_bytes c one b) (block_bytes c other b) aligned (length-block_bytes c one b) (length-block_bytes c other b) (λ e l.
         sym (source_at c one b e l) ∙ sym (source_sum row c.symbol_size e (block_source c one b) x has_row.checked s.is_only.is (source_sized c one b) (omega (arith, has_row.fits)))
-        ∙ sum_same row e x y has_row.checked same
+        ∙ tuple_sum-same row e x y has_row.checked same
         ∙ source_sum row c.symbol_size e (block_source c other b) y has_row.checked t.is_only.is (source_sized c other b) (omega (arith, has_row.fits)) ∙ source_at c other b e l)
 
     -- the bytes of a determined block are the same

@@ -25,7 +25,7 @@ use Rattle.rq_standard.specs.Differences.{xor_bytes, HasNonsingularBlocks, IsDif
 use Rattle.rq_standard.proofs.BlockCuts.{block_byte}
 use Rattle.rq_standard.proofs.Columns.{sum_symbol}
 use Rattle.rq_standard.proofs.DifferenceColumns.{length-zero, add_zero_symbols, encoding-add, known_are_zeros, zeros_solve, zeros_are_octets, zeros_encode, no_change_is_zero, some_change}
-use Rattle.rq_standard.proofs.FirstOctets.{first_octet, first_octets_object, zero_octets, length-first_octets_object, block_of_first_octets, symbol_of_object, object_at_first, first_is_before_end}
+use Rattle.rq_standard.proofs.FirstOctets.{first_octet_symbol, first_octets_object, zero_octets, length-first_octets_object, block_of_first_octets, symbol_of_object, object_at_first, first_is_before_end}
 use Rattle.rq_standard.proofs.Interleaved.{get_or-symbol_of_block}
 use Rattle.rq_standard.proofs.OneObject.{one_object}
 use Rattle.rq_standard.proofs.PlainCut.{length-block_bytes}
@@ -135,7 +135,7 @@ module _ (c : Configuration) (row : ℕ → TableRow) (columns : ℕ → ℕ →
   pub length-bytes_of : length (bytes_of c row columns) ≡ c.transfer_length
   length-bytes_of = length-first_octets_object c (λ b e. plain_sum (row b) (columns b) e) pos some aligned
 
-  source_of : (b e : ℕ) → b < c.source_blocks → e < block_symbols c b → get_or (block_source c (bytes_of c row columns) b) e (zero_symbol c.symbol_size) ≡ first_octet c.symbol_size (plain_sum (row b) (columns b) e)
+  source_of : (b e : ℕ) → b < c.source_blocks → e < block_symbols c b → get_or (block_source c (bytes_of c row columns) b) e (zero_symbol c.symbol_size) ≡ first_octet_symbol c.symbol_size (plain_sum (row b) (columns b) e)
   source_of b e below in_block = source_at c (bytes_of c row columns) b e in_block ∙ symbol_of_object c (λ n i. plain_sum (row n) (columns n) i) pos some aligned b e below in_block
 
   -- their symbols are zero for all ids that are known

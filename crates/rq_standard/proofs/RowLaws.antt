@@ -1,11 +1,12 @@
 -- What the checks give: the built-in rows pass them, and a look-up in a checked table answers a checked row.
 use Rattle.std.proofs.Common.{◌≡◌, ℕ, zero, suc, ◌+◌, ◌≤◌, ◌<◌, Bool, true, false, cond, not, leb, min, ◌&&◌, List, [], ◌∷◌, ◌++◌, length, take, Option, None, Some, refl, ap, subst, ◌∙◌, arith, ⊎_elim, slice_get, is_none, IsSome, ◌↔◌, lit<}
 use Rattle.std.specs.List.{list_all}
-use Rattle.std.proofs.lemmas.Bool.{and_parts, eqb-true, ltb-true, leb-true, le-leb, cases_Bool}
+use Rattle.std.proofs.lemmas.Bool.{and_parts, not-true, eqb-true, ltb-true, leb-true, le-leb, cases_Bool}
 use Rattle.std.proofs.lemmas.List.{length-take, take-append-le}
 use Rattle.rq_standard.specs.declared.row.TableRow.{TableRow}
 use Rattle.rq_standard.specs.declared.p1_table.TheConstants.{P1_TABLE}
 use Rattle.rq_standard.specs.TableRows.{first_failing_check, has_size, is_odd, fits_ldpc, fits_hdpc, fits_pi, fits_columns, fits_index, IsChecked, RowNumbers, row_of_numbers, rows_from, first_failure, first_refused, built_in_rows, IsTable, greatest_size, row_of, first_size, extended_size}
+use Rattle.rq_standard.proofs.OptionValues.{none_is}
 
 -- ---- the checks
 
@@ -60,10 +61,6 @@ passes_checked place row e =
 
 -- ---- tables
 
-is_none_true : (o : Option ℕ) → is_none o ≡ true → o ≡ None
-is_none_true None e = refl
-is_none_true (Some x) e = absurd (cc)
-
 -- each row passes the checks, from a place of a table on
 abbrev all_pass : ℕ → List TableRow → Bool
 all_pass place [] = true
@@ -75,7 +72,7 @@ all_pass_at place (first ∷ rows) e zero row is =
     let both = and_parts (is_none (first_failing_check place first)) (all_pass (place + 1) rows) e in
     let here : first ≡ row = cc in
     subst (λ (r : TableRow). first_failing_check (place + 0) r ≡ None) here
-    (subst (λ (n : ℕ). first_failing_check n first ≡ None) (let same : place ≡ place + 0 = omega arith in same) (is_none_true _ both.0))
+    (subst (λ (n : ℕ). first_failing_check n first ≡ None) (let same : place ≡ place + 0 = omega arith in same) (none_is _ (not-true _ both.0)))
 all_pass_at place (first ∷ rows) e (suc i) row is =
     let both = and_parts (is_none (first_failing_check place first)) (all_pass (place + 1) rows) e in
     subst (λ (n : ℕ). first_failing_check n row ≡ None) (let same : place + 1 + i ≡ place + suc i = omega arith in same)

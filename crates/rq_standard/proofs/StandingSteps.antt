@@ -19,15 +19,16 @@ use Rattle.rq_standard.specs.ReceivedBlock.{ReceivedBlock, with_received, CanAns
 use Rattle.rq_standard.specs.DecoderState.{State, IsReceivedOf, new_received, new_answer, IsNewState}
 use Rattle.rq_standard.specs.DecoderSteps.{kept_of, AddsToBlock, IsSameElsewhere, Adds, RecordsOnly, StopsEarly}
 use Rattle.rq_standard.specs.Standing.{HoldsFirst, BlockStandsFor, StandsForButLate, StandsForNone, StandsForMore, IsHonestPacket, AnswersLateBlock, LeavesBlockLate}
+use Rattle.rq_standard.proofs.OptionValues.{by_option}
 use Rattle.rq_standard.proofs.KnownIds.{block_more, block_same, block_of_source, none_determined}
 use Rattle.rq_standard.proofs.Columns.{source_sum, solves_received}
 use Rattle.rq_standard.proofs.Firsts.{first_payload-here, first_payload-elsewhere, first_payload-packet, has_id-push}
 use Rattle.rq_standard.proofs.PlainCut.{length-block_bytes}
 use Rattle.rq_standard.proofs.Interleaved.{same_symbols}
 
-pub push-all : (P : Packet → Type 0) (packets : List Packet) (p : Packet) → AllByRecursion P packets → P p → AllByRecursion P (packets ++ p ∷ [])
-push-all P [] p h x = (x, tt)
-push-all P (y ∷ packets) p h x = (h.0, push-all P packets p h.1 x)
+pub AllByRecursion-append : {X : Type 0} (P : X → Type 0) (xs ys : List X) → AllByRecursion P xs → AllByRecursion P ys → AllByRecursion P (xs ++ ys)
+AllByRecursion-append P [] ys all more = more
+AllByRecursion-append P (x ∷ xs) ys all more = (all.0, AllByRecursion-append P xs ys all.1 more)
 
 -- ---- a block of an object
 
@@ -46,10 +47,6 @@ source_sized c object b e = elim (cases_lt e (block_symbols c b)) [
   | inl lt ↦ ap length (source_at c object b e lt) ∙ length-symbol_of_block c (block_symbols c b) (block_bytes c object b) e
   | inr past ↦ ap length (get_or_past (block_source c object b) e (zero_symbol c.symbol_size) (omega (arith, length-block_source c object b))) ∙ length-replicate {A = ℕ} c.symbol_size 0
 ]
-
-by_option : (o : Option (List ℕ)) (P : List ℕ → Type 0) → ((x : List ℕ) → o ≡ Some x → P x) → IfSome o P
-by_option None P h = tt
-by_option (Some x) P h = h x refl
 
 -- ---- what was received of it
 
@@ -172,7 +169,7 @@ moved p old new honest now other shape_here block_here =
     let after : State = record { configuration = c; received = new.received; answer = new.answer } in
     let is : after ≡ new = λ i. record { configuration = sym other.configuration i; received = new.received; answer = new.answer } in
     subst (StandsForButLate late honest.table honest.object more) is (record {
-      run = record { long = st.run.long; nonsingular = st.run.nonsingular; honest = push-all (IsPacketOf honest.table c honest.object) honest.packets p st.run.honest honest.of_object };
+      run = record { long = st.run.long; nonsingular = st.run.nonsingular; honest = AllByRecursion-append (IsPacketOf honest.table c honest.object) honest.packets (p ∷ []) st.run.honest (honest.of_object, tt) };
       shape = λ b below. elim (cases_eq here b) [
         | inl e ↦ subst (λ n. IsReceivedOf honest.table c n (new.received n)) e shape_here
         | inr ne ↦ subst (IsReceivedOf honest.table c b) (sym (other.other b below (λ e. ne (sym e))).0) (st.shape b below)
@@ -199,7 +196,7 @@ answers_late p old new aligned add honest =
     let shape_here = shape_step table c here p (old.received here) (new.received here) (old.answer here) (new.answer here) (st.shape here pk.block) add.here in
     moved p old new honest false add.elsewhere shape_here
     (own_step table c honest.object honest.packets p (honest.late here) (old.received here) (new.received here) (old.answer here) (new.answer here) aligned (st.run.nonsingular here pk.block)
-    (push-all (IsPacketOf table c honest.object) honest.packets p st.run.honest pk) pk (st.shape here pk.block) (st.block here pk.block) add.here)
+    (AllByRecursion-append (IsPacketOf table c honest.object) honest.packets (p ∷ []) st.run.honest (pk, tt)) pk (st.shape here pk.block) (st.block here pk.block) add.here)
 
 -- fewer blocks are late
 stands_later : (late more : ℕ → Bool) (table : List TableRow) (object : List ℕ) (packets : List Packet) (s : State) → ((b : ℕ) → more b ≡ false → late b ≡ false) → StandsForButLate late table object packets s → StandsForButLate more table object packets s

@@ -3,6 +3,7 @@ use Rattle.std.proofs.Common.{◌≡◌, ℕ, zero, suc, ◌+◌, add-one, ◌/�
 use Rattle.std.proofs.Math.Nat.{pow-suc}
 use Rattle.std.proofs.lemmas.Nat.{xor_comm, xor_lt, mod-pow-add, field_of}
 use Rattle.std.specs.Int.Bits.{bit_xor, xor_assoc, xor_zero_r}
+use Rattle.std.proofs.lemmas.Bool.{cond_both}
 use Rattle.rq_standard.specs.Octets.{octet_double, octet_times, octet_mul, octet_inverse}
 use Rattle.rq_standard.specs.OctetFacts.{double-lt, double-xor, one-mul, by_halves, mul-inverse}
 
@@ -24,15 +25,17 @@ xor-octet a b ha hb = xor_lt 8 a b ha hb
 abbrev pub if_set : ℕ → ℕ → ℕ
 if_set b a = cond (eqb (b % 2) 1) a 0
 
-cond_octet : (t : Bool) (a : ℕ) → a < 256 → cond t a 0 < 256
-cond_octet true a h = h
-cond_octet false a h = omega arith
+pub cond-lt : (t : Bool) (x y : ℕ) → x < 256 → y < 256 → cond t x y < 256
+cond-lt t x y hx hy = cond_both t x y (λ v. v < 256) (λ _. hx) (λ _. hy)
+
+if_set-lt : (b a : ℕ) → a < 256 → if_set b a < 256
+if_set-lt b a ha = cond-lt (eqb (b % 2) 1) a 0 ha (omega arith)
 
 pub times-lt : (n a b : ℕ) → a < 256 → octet_times n a b < 256
 unfolding octet_times
 times-lt zero a b ha = omega arith
 times-lt (suc n) a b ha =
-    xor-octet (if_set b a) (octet_double (octet_times n a (b / 2))) (cond_octet (eqb (b % 2) 1) a ha)
+    xor-octet (if_set b a) (octet_double (octet_times n a (b / 2))) (if_set-lt b a ha)
     (double-lt (octet_times n a (b / 2)) (times-lt n a (b / 2) ha))
 
 -- a sum on the left
@@ -63,7 +66,7 @@ times-double_left (suc n) a b ha =
     let s = octet_times n a (b / 2) in
     ap (λ x. bit_xor (if_set b (octet_double a)) (octet_double x)) (times-double_left n a (b / 2) ha)
     ∙ ap (λ x. bit_xor x (octet_double (octet_double s))) (cond-double (eqb (b % 2) 1) a)
-    ∙ sym (double-xor (if_set b a) (octet_double s) (cond_octet (eqb (b % 2) 1) a ha) (double-lt s (times-lt n a (b / 2) ha)))
+    ∙ sym (double-xor (if_set b a) (octet_double s) (if_set-lt b a ha) (double-lt s (times-lt n a (b / 2) ha)))
 
 -- 0 on the left
 pub times-zero_left : (n b : ℕ) → octet_times n 0 b ≡ 0
@@ -116,7 +119,7 @@ times-comm (suc n) a b ha hb small =
     ap (λ x. bit_xor (if_set b a) (octet_double x)) (times-comm n a (b / 2) ha half (omega (arith, pow-suc 2 n)))
     ∙ ap (bit_xor (if_set b a)) (sym (mul-double_left (b / 2) a half))
     ∙ ap (λ x. bit_xor x (octet_mul (octet_double (b / 2)) a)) (sym (term (eqb (b % 2) 1) b a ha))
-    ∙ sym (mul-xor_left low (octet_double (b / 2)) a (cond_octet (eqb (b % 2) 1) 1 (omega arith)) (double-lt (b / 2) half))
+    ∙ sym (mul-xor_left low (octet_double (b / 2)) a (if_set-lt b 1 (omega arith)) (double-lt (b / 2) half))
     ∙ ap (λ x. octet_mul x a) (sym (by_halves b hb))
 
 pub mul-comm : (a b : ℕ) → a < 256 → b < 256 → octet_mul a b ≡ octet_mul b a
@@ -150,7 +153,7 @@ times-assoc (suc n) a b c ha hb =
     ap (λ x. bit_xor (if_set c (octet_mul a b)) (octet_double x)) (times-assoc n a b (c / 2) ha hb)
     ∙ ap (bit_xor (if_set c (octet_mul a b))) (sym (mul-double_right a t ha small))
     ∙ ap (λ x. bit_xor x (octet_mul a (octet_double t))) (sym (mul-cond (eqb (c % 2) 1) a b ha))
-    ∙ sym (mul-xor_right a (if_set c b) (octet_double t) ha (cond_octet (eqb (c % 2) 1) b hb) (double-lt t small))
+    ∙ sym (mul-xor_right a (if_set c b) (octet_double t) ha (if_set-lt c b hb) (double-lt t small))
 
 pub mul-assoc : (a b c : ℕ) → a < 256 → b < 256 → octet_mul (octet_mul a b) c ≡ octet_mul a (octet_mul b c)
 unfolding octet_mul

@@ -1,6 +1,6 @@
 -- How a run ends with what was refused or made.
-use Rattle.std.proofs.Common.{◌≡◌, ℕ, drop, List, Option, Some, None, Result, Ok, Err, refl, sym, subst, ◌⊎◌, inl, inr}
-use Rattle.std.specs.Prelude.{IfSome, MatchResult}
+use Rattle.std.proofs.Common.{◌≡◌, ℕ, drop, List, Option, Result, Ok, Err, refl, sym, subst, ◌⊎◌, inl, inr}
+use Rattle.std.specs.Prelude.{MatchResult}
 use Rattle.std.proofs.KnownBytes.{Keeps-refl}
 use Rattle.rq_bytes.specs.declared.error.Error.{Error}
 use Rattle.rq_bytes.specs.declared.error.Error.TheVariants.{OutOfMemory}
@@ -39,7 +39,3 @@ stopped_as P stop old (inr h) = subst (λ s. EndsAs (Err s) old old P) (sym h) (
 
 pub stopped_ends : (wanted : Wanted) (stop : Stop) (old : Option (List ℕ)) → (stop ≡ Fault) ⊎ (stop ≡ Refused OutOfMemory) → Ends (Err stop) old old wanted
 stopped_ends wanted = stopped_as (λ w. wanted ≡ w)
-
-pub if_some_all : (o : Option (List ℕ)) (P : List ℕ → Type 0) → ((xs : List ℕ) → P xs) → IfSome o P
-if_some_all None P h = tt
-if_some_all (Some xs) P h = h xs

@@ -1,8 +1,8 @@
 -- Of a mixed stream nothing is refused, and its packets are what is kept.
 use Rattle.std.proofs.Common.{◌≡◌, ℕ, ◌%◌, ◌<◌, false, cond, ltb, eqb, List, [], ◌∷◌, length, take, drop, Result, Ok, Err, Option, Some, None, refl, sym, ap, ◌∙◌, subst, arith, inl, eq-eqb}
-use Rattle.std.specs.Prelude.{IsSome, IfSome}
+use Rattle.std.specs.Prelude.{IfSome, is_some}
 use Rattle.std.specs.List.{AllByRecursion}
-use Rattle.std.proofs.lemmas.Bool.{le-ltb, ne_eqb}
+use Rattle.std.proofs.lemmas.Bool.{le-ltb, ne_eqb, false_from_ne_true}
 use Rattle.std.proofs.lemmas.Option.{IfSome_then}
 use Rattle.std.proofs.KnownBytes.{Keeps-refl}
 use Rattle.rq_bytes.specs.declared.error.Error.{Error}
@@ -13,6 +13,7 @@ use Rattle.rq_standard.specs.declared.row.TableRow.{TableRow}
 use Rattle.rq_standard.specs.TableRows.{IsTable, greatest_size}
 use Rattle.rq_standard.specs.Headline.{IsAnswerable, IsObjectAnswer, IsOnlyObject, IsPacketOf}
 use Rattle.rq_standard.proofs.BlockRows.{block_has_row, answerable_only}
+use Rattle.rq_standard.proofs.OptionValues.{none_is, by_option}
 use Rattle.rq_base.specs.RefusedInput.{checked_configuration}
 use Rattle.rq_streams.specs.declared.run.Outcome.{Outcome}
 use Rattle.rq_streams.specs.declared.run.Stop.{Stop}
@@ -21,7 +22,6 @@ use Rattle.rq_streams.specs.MixedStreams.{Frame, packets_among, other_count, IsM
 use Rattle.rq_streams.specs.declared.run.Stop.TheVariants.{Refused}
 use Rattle.rq_streams.specs.ReceivedStreams.{header_configuration, IsWantedOf, WantsWhere, AnswersStream, RefusesStream, RefusesFirst, ReceivesExactly, ReceivesWhereAnyCan, CountsOthers}
 use Rattle.rq_streams.specs.Ends.{Wanted, Ends, EndsAs, outcome_of}
-use Rattle.rq_streams.proofs.Refusing.{if_some_all}
 use Rattle.rq_streams.proofs.Skipping.{FillsFrame, kept_packets-mixed, skipped_count-mixed}
 
 abbrev taken : Configuration → Result Configuration Error
@@ -46,10 +46,6 @@ fills table c object p checked accepted fits source = record {
 all_fills : (table : List TableRow) (c : Configuration) (object : List ℕ) (packets : List Packet) → IsTable table → IsAccepted (greatest_size table) c → IsConfiguration c → AllByRecursion (IsPacketOf table c object) packets → AllByRecursion (FillsFrame table c object) packets
 all_fills table c object [] checked accepted fits honest = tt
 all_fills table c object (p ∷ packets) checked accepted fits honest = (fills table c object p checked accepted fits honest.0, all_fills table c object packets checked accepted fits honest.1)
-
-none_of : (a : Option (List ℕ)) → (IsSome a → ⊥) → a ≡ None
-none_of None h = refl
-none_of (Some x) h = absurd (h refl)
 
 module _ (table : List TableRow) (c : Configuration) (object : List ℕ) (frames : List Frame) (rest bytes : List ℕ) (s : IsMixedStream table c object frames rest bytes) where
   pub stream_header : header_configuration bytes ≡ Ok c
@@ -81,7 +77,7 @@ module _ (table : List TableRow) (c : Configuration) (object : List ℕ) (frames
   wants_by : (answer : Option (List ℕ)) (result : Result Outcome Stop) (old new : Option (List ℕ)) → IsObjectAnswer table c object (packets_among frames) answer → Ends result old new (Ok answer) → WantsWhere (IsAnswerable table c (packets_among frames)) object (Ends result old new)
   wants_by answer result old new a ends = record {
     holds = λ d. subst (λ x. Ends result old new (Ok x)) (a.whole d) ends;
-    fails = λ u. subst (λ x. Ends result old new (Ok x)) (none_of answer (λ some. u (a.only some))) ends;
+    fails = λ u. subst (λ x. Ends result old new (Ok x)) (none_is answer (false_from_ne_true (is_some answer) (λ some. u (a.only some)))) ends;
   }
 
   -- an object is determined exactly where no other one fits
@@ -95,7 +91,7 @@ module _ (table : List TableRow) (c : Configuration) (object : List ℕ) (frames
 module _ (table : List TableRow) (result : Result (Outcome × ℕ) Stop) (input old new : Option (List ℕ)) where
   -- whatever is wanted, where it stopped before
   pub receives_stopped : ((wanted : Wanted) → Ends (outcome_of result) old new wanted) → ReceivesExactly table result input old new
-  receives_stopped ends = if_some_all input _ (λ bytes c object frames rest s. record {
+  receives_stopped ends = by_option input _ (λ bytes _ c object frames rest s. record {
     holds = λ d. ends (Ok (Some object));
     fails = λ u. ends (Ok None);
   })

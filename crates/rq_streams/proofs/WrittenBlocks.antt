@@ -1,6 +1,6 @@
 -- What blocks that are written one after another leave behind a writer.
-use Rattle.std.proofs.Common.{◌≡◌, ℕ, zero, suc, ◌+◌, ◌<◌, ◌≤◌, min, List, [], ◌++◌, length, take, Option, Some, None, refl, sym, ap, ◌∙◌, subst, arith, inl, inr, append-nil, append_assoc}
-use Rattle.std.specs.Prelude.{Ok, Err, IsSome, option_map, unwrap_or}
+use Rattle.std.proofs.Common.{◌≡◌, ℕ, zero, suc, ◌+◌, ◌<◌, ◌≤◌, min, List, [], ◌++◌, length, take, Option, Some, None, sym, ap, ◌∙◌, subst, arith, inl, inr, append-nil, append_assoc}
+use Rattle.std.specs.Prelude.{Ok, Err, IsSome, unwrap_or}
 use Rattle.std.specs.Io.KnownBytes.{Appends, Keeps}
 use Rattle.std.proofs.KnownBytes.{Appends-trans, Appends-kept}
 use Rattle.std.proofs.Math.Seq.{take-append-add}
@@ -75,11 +75,6 @@ written_beginning s n m count bytes old mid new below is so more =
     let all : (front ++ bytes) ++ q.0 ≡ written_parts s count = ap (λ xs. (front ++ xs) ++ q.0) part ∙ sym q.1 in
     let k = length front + min m (length bytes) in
     (k, subst (Appends old new) (sym (beginning_of front bytes q.0 m) ∙ ap (take k) all) (Appends-trans old mid new front (take m bytes) so more))
-
--- what is lent, where nothing is
-pub none_copied : {T : Type 0} (o : Option T) (f : T → List ℕ) → ((v : T) → o ≡ Some v → ⊥) → None ≡ option_map f o
-none_copied None f h = refl
-none_copied (Some v) f h = absurd (h v refl)
 
 -- ---- a last flush
 

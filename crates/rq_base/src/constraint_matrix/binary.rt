@@ -2,7 +2,8 @@
 ghost use Rattle.std.specs.Prelude.{◌≡◌, ℕ, ◌+◌, ◌^◌, ◌<◌, ◌≤◌, All, length, false, IfOk, OnOk, IfErr};
 ghost use Rattle.rq_bytes.specs.declared.error.Error.TheVariants.{OutOfMemory};
 ghost use Rattle.rq_standard.specs.TableRows.{b_of};
-ghost use Rattle.rq_base.specs.BinaryRows.{HasRows, HasLdpc1Columns, HasLdpcRows, HasSymbolRows, SetsParityRow, IsZeroFrom};
+ghost use Rattle.rq_standard.specs.ConstraintMatrix.{HasBinaryRows};
+ghost use Rattle.rq_base.specs.BinaryRows.{HasRows, HasLdpc1Columns, HasLdpcRows, SetsParityRow, IsZeroFrom};
 
 use crate::indices::{Indices, sum_modulo};
 use rq_bytes::error::Error;
@@ -21,7 +22,7 @@ pub(crate) fn binary_rows<T: BinaryMatrix>(
 ) -> Result<T, Error>
     requires after_ldpc { row.now.numbers.ldpc_symbols ≤ first_symbol_row }
     requires fits { first_symbol_row + length internal_symbol_ids.now < 2 ^ 31 }
-    ensures rows { IfOk result (λ m. HasSymbolRows row.now.numbers first_symbol_row internal_symbol_ids.now (length internal_symbol_ids.now) (T.content m)) }
+    ensures rows { IfOk result (λ m. HasBinaryRows row.now.numbers first_symbol_row internal_symbol_ids.now (T.content m)) }
     ensures memory { IfErr result (λ e. e ≡ OutOfMemory) }
 {
     let mut matrix = zero_rows(alloc, row, first_symbol_row + internal_symbol_ids.len())?;

@@ -2,11 +2,12 @@ use Rattle.std.proofs.Common.{Ok, Err, refl}
 use Rattle.std.proofs.lemmas.Result.{err_from_is_err_and}
 use Rattle.std.proofs.KnownBytes.{Keeps-refl}
 use Rattle.rq_standard.specs.DecoderState.{result_of}
+use Rattle.rq_standard.proofs.OptionValues.{by_option}
 use Rattle.raptorq.specs.Decoder.{state_of}
 use Rattle.rq_streams.specs.Counted.{inner}
 use Rattle.rq_streams.specs.declared.run.Stop.TheVariants.{Refused}
 use Rattle.rq_streams.specs.ReceivedStreams.{IsWantedOf}
-use Rattle.rq_streams.proofs.Refusing.{stopped_ends, stopped_as, ends_wanted, if_some_all}
+use Rattle.rq_streams.proofs.Refusing.{stopped_ends, stopped_as, ends_wanted}
 use Rattle.rq_streams.proofs.Streaming.{receives_stopped, receives_wanted, receives_refused, receives_by, receives_where_any_can, counts_others}
 use Rattle.rq_streams.proofs.receive.run_receive.Goals as goal
 
@@ -27,7 +28,7 @@ pub returns-in_err-bytes-clause-refused : goal.returns-in_err-bytes-clause-refus
 returns-in_err-bytes-clause-refused g c =
     let stop = c.in_err-bytes.field-0.0 in
     let p = err_from_is_err_and c.from_residual.result c.from_residual.ensures.1 in
-    rw (p.1, p.2) (if_some_all (g.R.Read.remaining (inner c.args.reader.now)) _ (λ bytes. stopped_as (IsWantedOf c.args.table.now bytes) stop (g.W.Write.contents (inner c.args.writer.now)) c.in_err-bytes.ensures.err))
+    rw (p.1, p.2) (by_option (g.R.Read.remaining (inner c.args.reader.now)) _ (λ bytes _. stopped_as (IsWantedOf c.args.table.now bytes) stop (g.W.Write.contents (inner c.args.writer.now)) c.in_err-bytes.ensures.err))
 
 pub returns-in_err-decoder-clause-refused : goal.returns-in_err-decoder-clause-refused
 returns-in_err-decoder-clause-refused g c =

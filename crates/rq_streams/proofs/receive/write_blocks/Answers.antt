@@ -1,9 +1,10 @@
 use Rattle.std.proofs.Common.{◌≡◌, ◌+◌, ◌<◌, take, ap, ◌∙◌, subst, sym, arith}
 use Rattle.std.proofs.lemmas.Result.{err_from_is_err_and}
 use Rattle.std.specs.Io.KnownBytes.{Appends}
+use Rattle.rq_standard.proofs.OptionValues.{none_otherwise}
 use Rattle.raptorq.specs.Decoder.{state_of}
 use Rattle.rq_streams.specs.Counted.{inner}
-use Rattle.rq_streams.proofs.WrittenBlocks.{written_parts, written_object, written_next, written_not, written_beginning, none_copied}
+use Rattle.rq_streams.proofs.WrittenBlocks.{written_parts, written_object, written_next, written_not, written_beginning}
 use Rattle.rq_streams.proofs.receive.write_blocks.Goals as goal
 use Rattle.rq_streams.proofs.receive.write_blocks.Goals.{in-Some+in_ok-write_bytes, in_default}
 
@@ -34,7 +35,7 @@ loop-number-preserved g c =
       }
       | in_default w ↦ record {
         bytes = subst (λ x. Appends old (g.W.Write.contents (inner x)) (written_parts s (n + 1))) (sym w.writer-is)
-            (written_not s n old mid (none_copied c.block_bytes.result (λ x. x.now) (λ v is. w.in_default.not-Some v is) ∙ c.block_bytes.ensures.bytes) done.bytes);
+            (written_not s n old mid (sym (none_otherwise (λ x. x.now) c.block_bytes.result (λ v is. w.in_default.not-Some v is)) ∙ c.block_bytes.ensures.bytes) done.bytes);
         count = ap (λ x. x.failed) w.writer-is ∙ done.count;
       }
     ]

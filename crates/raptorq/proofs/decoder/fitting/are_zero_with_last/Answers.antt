@@ -3,7 +3,8 @@ use Rattle.rq_algebra.specs.Systems.{at}
 use Rattle.rq_bytes.specs.SymbolSlab.{symbol_in}
 use Rattle.rq_standard.specs.OctetField.{octets}
 use Rattle.rq_standard.specs.Octets.{octet_power}
-use Rattle.raptorq.proofs.HdpcSumSteps.{AddsMultiple, multiple_added, multiple_at, zeros_at, zeros_from}
+use Rattle.rq_bytes.proofs.ZeroRows.{zeros_read, zeros_made}
+use Rattle.raptorq.proofs.HdpcSumSteps.{AddsMultiple, multiple_added, multiple_at}
 use Rattle.raptorq.proofs.Summing.{place_of_plain}
 use Rattle.raptorq.proofs.decoder.fitting.are_zero_with_last.Goals as goal
 use Rattle.raptorq.proofs.decoder.fitting.are_zero_with_last.Goals.{After-fma}
@@ -28,7 +29,7 @@ pub returns-then-not-is_zero : goal.returns-then-not-is_zero
 returns-then-not-is_zero c =
     let sum = sum (goal.at.returns-then-not-is_zero c).After-fma in (
       λ t. absurd (cc t),
-      λ zero. sym c.if-not-is_zero.true ∙ c.is_zero.ensures.1 (zeros_from c.get.result.now (λ p. ap (λ xs. at xs p) c.get.ensures.symbol ∙ sum p ∙ zero c.loop-i.i (omega arith) p)),
+      λ zero. sym c.if-not-is_zero.true ∙ c.is_zero.ensures.1 (zeros_made c.get.result.now (λ p _. ap (λ xs. at xs p) c.get.ensures.symbol ∙ sum p ∙ zero c.loop-i.i (omega arith) p)),
     )
 
 pub loop-i-preserved : goal.loop-i-preserved
@@ -40,5 +41,5 @@ loop-i-preserved c =
       order = write.order;
       count = write.count ∙ invariant.count;
       kept = λ k le. write.elsewhere k (λ same. omega arith) ∙ invariant.kept k (omega arith);
-      zeros = below_more _ _ invariant.zeros (λ p. sym (sum state p) ∙ sym (ap (λ xs. at xs p) c.get.ensures.symbol) ∙ zeros_at c.get.result.now (c.is_zero.ensures.0 c.if-not-is_zero.false) p);
+      zeros = below_more _ _ invariant.zeros (λ p. sym (sum state p) ∙ sym (ap (λ xs. at xs p) c.get.ensures.symbol) ∙ zeros_read c.get.result.now (c.is_zero.ensures.0 c.if-not-is_zero.false) p);
     }

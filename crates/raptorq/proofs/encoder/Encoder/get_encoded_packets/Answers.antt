@@ -7,7 +7,7 @@ use Rattle.rq_standard.proofs.BlockCuts.{first_is_largest}
 use Rattle.raptorq.specs.SourceBlockEncoder.{block_encoded_of}
 use Rattle.raptorq.specs.Encoder.{encoded_of}
 use Rattle.raptorq.proofs.EncodedBlocks.{encoder_number, source_count, encoded_more, encoded_all, enough_ids, block_at}
-use Rattle.raptorq.proofs.Numbered.{IsTurn, turn_of, length-numbered, mapped_at, number_at}
+use Rattle.raptorq.proofs.Numbered.{IsTurn, turn_of, length-numbered, mapped_at, numbered_at}
 use Rattle.raptorq.proofs.encoder.Encoder.get_encoded_packets.Goals as goal
 use Rattle.raptorq.proofs.encoder.Encoder.get_encoded_packets.Goals.{After-source_symbol_count}
 
@@ -41,7 +41,7 @@ loop-block-preserved c =
     let grown : c.extend.new.self.items ≡ c.loop-block.packets.items ++ more = fact_from_extend (λ p. p) (ok_of c.in_ok-extend.field-0) c.in_ok-extend.ensures.ran (λ it made. YieldsList-from_vec more made.0 (made.1 ∙ c.in_ok-packets.field-0.ok.0))
     (λ xs are grows. grows.0 ∙ ap (λ l. c.loop-block.packets.items ++ l) (sym (map-id xs) ∙ are)) in
     encoded_more (encoded_of s) c.args.repair_packets_per_block n (c.source_symbol_count.result + c.args.repair_packets_per_block - 0) (block_encoded_of x) c.loop-block.packets.items more c.extend.new.self.items (within at)
-    (block_at s.config items n x (turn at).below (turn at).is) (number_at encoder_number s.config.source_blocks items s.numbered n x (within at) (turn at).is) (count at) (omega (arith, c.source_symbol_count.ensures)) c.loop-block.invariant c.in_ok-packets.ensures.packets grown
+    (block_at s.config items n x (turn at).below (turn at).is) (numbered_at encoder_number s.config.source_blocks items s.numbered n x (within at) (turn at).is) (count at) (omega (arith, c.source_symbol_count.ensures)) c.loop-block.invariant c.in_ok-packets.ensures.packets grown
 
 pub returns-clause-packets : goal.returns-clause-packets
 returns-clause-packets c =

@@ -5,7 +5,7 @@ use Rattle.raptorq.specs.Encoder.{encoded_of}
 use Rattle.raptorq.specs.SourceBlockEncoder.{block_encoded_of}
 use Rattle.raptorq.proofs.EncodedBlocks.{encoder_number, block_at, packet_in}
 use Rattle.raptorq.proofs.Encodes.{new_id-in}
-use Rattle.raptorq.proofs.Numbered.{length-numbered, number_at}
+use Rattle.raptorq.proofs.Numbered.{length-numbered, numbered_at}
 use Rattle.raptorq.proofs.encoder.Encoder.packet.Goals as goal
 use Rattle.raptorq.proofs.encoder.Encoder.packet.Goals.{After-from}
 
@@ -25,7 +25,7 @@ returns-clause-id c =
     let s = c.args.self.now in
     let at = (goal.at.returns-clause-id c).After-from in
     let x = c.index.result.now in
-    let number = number_at encoder_number s.config.source_blocks s.blocks.items s.numbered c.from.result x (below at) c.index.ensures ∙ c.from.ensures ∙ c.source_block_number-number.ensures in
+    let number = numbered_at encoder_number s.config.source_blocks s.blocks.items s.numbered c.from.result x (below at) c.index.ensures ∙ c.from.ensures ∙ c.source_block_number-number.ensures in
     subst (IsAnswer (λ p. p.id) c.packet.result) (new_id-in s.config (encoder_number x) c.encoding_symbol_id.result c.args.id (omega (arith, below at, c.from.ensures, c.source_block_number-number.ensures)) c.encoding_symbol_id.ensures.below number c.encoding_symbol_id.ensures.value) c.packet.ensures.id
 
 pub returns-clause-packet : goal.returns-clause-packet

@@ -34,6 +34,7 @@ use Rattle.std.specs.contracts.alloc.Global as global
 use Rattle.std.specs.contracts.impls.GlobalAllocator.TheImpl.{ghosts, dict}
 use Rattle.std.proofs.alloc.Global.TheLaws as heap_laws
 use Rattle.std.proofs.impls.GlobalAllocator.TheImpl.Met.{passed}
+use Rattle.rq_standard.proofs.OptionValues.{value_of}
 use Rattle.std_alloc.specs.Box.Ownership.{box_owns}
 use Rattle.std_alloc.proofs.BoxSteps.Form as box
 use Rattle.std_alloc.proofs.BoxSteps.Steps.{box_out, box_in}
@@ -47,7 +48,7 @@ use Rattle.raptorq_c.proofs.owned.Coder.TheLaws as coder_laws
 use Rattle.raptorq_c.specs.contracts.owned.Owned.into_box.{ended, clauses}
 use Rattle.raptorq_c.specs.contracts.owned.Owned.into_box.Key.{name as #self}
 use Rattle.raptorq_c.proofs.Boxes.{T, A, LT, LA, dd, E, B}
-use Rattle.raptorq_c.proofs.Pointers.{word, word_typed, told, one_of}
+use Rattle.raptorq_c.proofs.Pointers.{word, word_typed, told}
 use Rattle.raptorq_c.proofs.owned.Owned.into_box.Statement.{statement}
 use Rattle.raptorq_c.proofs.owned.Owned.into_box.Code as compiled
 
@@ -66,7 +67,7 @@ into_box_spec 𝓤 𝓛 𝓜 𝓡 wired =
     let k = triple_of 𝓛 (callee.signature T A ghosts dict dd) (callee.spec T A ghosts dict dd 𝓛 𝓜.mem 𝓡.returns) in
     let token = ‵ (flft [] full_share) in let toks = token ⊛ token ⊛ ‵ ftrue in
     qed 𝓛 ((raw (alive 𝓛 ended.signature z.0.0 z.0.1) ⊛ ‵ (owns (types_at ended.signature.params z.0.0) z.0.3 z.0.4)) ∷ raw (fact 𝓤 (IsSome v.value)) ∷ []) ∵
-    move ! (1 ∷ []) $ heard ! (IsSome v.value) (λ some_is. let held = one_of v.value some_is in let x = held.0 in
+    move ! (1 ∷ []) $ heard ! (IsSome v.value) (λ some_is. let held = value_of v.value some_is in let x = held.0 in
     split ! $ move ! (1 ∷ []) $ fsplit ! $ fsplit ! $ drop ! $ rewrite ! 0 (λ (o : Option Coder). ‵ (owned_at p o)) held.1 refl $
     in_a_block ! p (λ q. box_owns (ghosts.dealloc_token a) coder.the_row q x) (fst∗ 𝓤 (never 𝓤) (sem 𝓛 (ghosts.dealloc_token a (bare (layout coder.the_row)) null_ptr))) (λ b o e.
     -- [the block; the allocator, and no more; what is alive]

@@ -1,19 +1,11 @@
 -- What the check leaves to show of `symbol_slab::SymbolSlabPartialEq::eq`.
-use Rattle.std.proofs.Common.{◌≡◌, Bool, true, false, not, ◌&&◌, refl, ap, sym, ◌∙◌}
+use Rattle.std.proofs.Common.{true, false, ◌&&◌, refl, ap, sym, ◌∙◌}
 use Rattle.std.specs.Prelude.{◌==◌}
 use Rattle.std.specs.Option.{option_eq}
 use Rattle.std.specs.Cmp.Lexicographic.{pointwise}
-use Rattle.std.proofs.lemmas.Bool.{eq-eqb, ne_eqb}
+use Rattle.std.proofs.lemmas.Bool.{eq-eqb, ne_eqb, and_right, not-false}
 use Rattle.rq_bytes.proofs.SlabFacts.{compared_slabs}
 use Rattle.rq_bytes.proofs.symbol_slab.SymbolSlabPartialEq.eq.Goals as goal
-
-and-false : (b : Bool) → b && false ≡ false
-and-false true = refl
-and-false false = refl
-
-not-false : (b : Bool) → false ≡ not b → b ≡ true
-not-false true e = refl
-not-false false e = e
 
 pub returns-then-self-other-2 : goal.returns-then-self-other-2
 returns-then-self-other-2 c =
@@ -24,7 +16,7 @@ returns-then-self-other-2 c =
     compared_slabs a b c.args.self.now c.args.other.now c.self.view_is c.self.invariant c.other.view_is c.other.invariant
     ∙ ap (λ e. sizes && (e && (option_eq (λ x y. pointwise ◌==◌ x.items y.items) a.order b.order && pointwise ◌==◌ a.«data».items b.«data».items)))
     (ne_eqb a.count b.count c.if-self-other-2.true)
-    ∙ and-false sizes)
+    ∙ and_right sizes false refl)
 
 pub returns : goal.returns
 returns c =
@@ -37,4 +29,4 @@ returns c =
     compared_slabs a b c.args.self.now c.args.other.now c.self.view_is c.self.invariant c.other.view_is c.other.invariant
     ∙ ap (λ e. e && (a.count == b.count && (orders && octets))) (eq-eqb a.symbol_size b.symbol_size c.if-self-other.false)
     ∙ ap (λ e. true && (e && (orders && octets))) (eq-eqb a.count b.count c.if-self-other-2.false)
-    ∙ ap (λ e. true && (true && (e && octets))) (not-false orders (sym c.if-ne.false ∙ c.ne.ensures)))
+    ∙ ap (λ e. true && (true && (e && octets))) (not-false orders (sym c.ne.ensures ∙ c.if-ne.false)))

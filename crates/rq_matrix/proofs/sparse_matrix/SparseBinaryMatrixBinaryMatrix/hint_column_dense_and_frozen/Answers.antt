@@ -5,7 +5,7 @@ use Rattle.rq_standard.specs.BitTableSteps.{ArePlacesOfOnes}
 use Rattle.rq_parts.specs.SparseBinaryVec.{listed_bit}
 use Rattle.rq_matrix.specs.SparseTables.{stored-small}
 use Rattle.rq_matrix.proofs.SparseMatrixLaws.{made_dense}
-use Rattle.rq_matrix.proofs.SparseRowLaws.{value_of_some}
+use Rattle.rq_standard.proofs.OptionValues.{value_of}
 use Rattle.rq_matrix.proofs.sparse_matrix.SparseBinaryMatrixBinaryMatrix.hint_column_dense_and_frozen.Goals as goal
 use Rattle.rq_matrix.proofs.sparse_matrix.SparseBinaryMatrixBinaryMatrix.hint_column_dense_and_frozen.Goals.{After-indexed_rows-rows}
 
@@ -17,7 +17,7 @@ module _ (c : After-indexed_rows-rows) where
   listed : ArePlacesOfOnes (λ row. listed_bit (get_or c.args.self.now.rows.items row []) c.stored_column-column.result) 0 (length c.args.self.now.rows.items) c.indexed_rows-rows.result.now
   listed =
       let old = c.args.self.now in
-      let some = value_of_some old.index c.requires.indexed in
+      let some = value_of old.index c.requires.indexed in
       subst (ArePlacesOfOnes (λ row. listed_bit (get_or old.rows.items row []) c.stored_column-column.result) 0 (length old.rows.items)) (sym (c.indexed_rows-rows.ensures some.0 some.1)) ((old.index_is some.0 some.1).each c.stored_column-column.result c.stored_column-column.ensures.below)
 
 pub set_ones-requires-clause-rows : goal.set_ones-requires-clause-rows

@@ -6,7 +6,7 @@ use Rattle.std.proofs.lemmas.List.FromFn.{length-map-range_with_len, get_or-map-
 use Rattle.rq_algebra.specs.Systems.{at}
 use Rattle.rq_peeling.specs.SystemRows.{one_in}
 use Rattle.rq_peeling.specs.ColumnRows.{HasPlaced, rows_of_column, rows_with}
-use Rattle.rq_peeling.proofs.ColumnPlacing.{placed_same, length-rows_with, read_is, room_for, room_left, rows_with-more, starts_within, written_back}
+use Rattle.rq_peeling.proofs.ColumnPlacing.{placed_same, length-rows_with, rows_of_column-put, room_for, room_left, rows_with-more, starts_within, written_back}
 use Rattle.rq_peeling.proofs.column_rows.ColumnRows.of_rows.Goals as goal
 
 pub place_row-requires-clause-room : goal.place_row-requires-clause-room
@@ -67,4 +67,4 @@ returns-clause-lists c = λ k l.
     let full : (j : ℕ) → j < length counts → length (rows_with lists j (length lists)) ≡ at counts j = (λ (j : ℕ) (m : j < length counts).
     length-rows_with lists j (length lists) (omega arith) ∙ ap (sum_by (count_by (λ column. column == j))) (take_all (length lists) lists (omega arith)) ∙ sym (are.counted j m)) in
     get_or-map-range_with_len (rows_of_column starts rows) 0 (length starts) k k [] inside (omega arith)
-    ∙ read_is lists counts starts rows placed full k (omega (arith, placed.long, inside))
+    ∙ rows_of_column-put lists counts starts rows placed full k (omega (arith, placed.long, inside))

@@ -2,7 +2,7 @@ use Rattle.std.proofs.Common.{sym, ◌∙◌, vec_items}
 use Rattle.rq_bytes.specs.SymbolSlab.{symbol_in}
 use Rattle.rq_standard.specs.Equations.{tuple_sum}
 use Rattle.raptorq.specs.Missing.{payload_of}
-use Rattle.raptorq.proofs.OptionValues.{is_some-mapped}
+use Rattle.rq_standard.proofs.OptionValues.{is_some-mapped}
 use Rattle.raptorq.proofs.LostSymbols.{there-came, sums-more, there-more}
 use Rattle.raptorq.proofs.decoder.block.SourceBlockDecoder.lost_symbols.Goals as goal
 use Rattle.raptorq.proofs.decoder.block.SourceBlockDecoder.lost_symbols.Goals.{then-not-contains_key+in_ok-symbol+in_ok-_new, else-not-contains_key}

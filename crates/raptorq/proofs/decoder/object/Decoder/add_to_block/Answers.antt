@@ -4,7 +4,7 @@ use Rattle.std.proofs.Math.Seq.{map-set_same}
 use Rattle.rq_standard.specs.Cutting.{block_symbols}
 use Rattle.raptorq.specs.Stopping.{AddsOrStops}
 use Rattle.raptorq.specs.SourceBlockDecoder.{received_of}
-use Rattle.raptorq.proofs.Numbered.{length-numbered, number_at}
+use Rattle.raptorq.proofs.Numbered.{length-numbered, numbered_at}
 use Rattle.raptorq.proofs.ObjectBlocks.{state, block_number, IsBlockOf, block_of_packet, block_takes, IsCut, takes_at}
 use Rattle.raptorq.proofs.decoder.object.Decoder.add_to_block.Goals as goal
 use Rattle.raptorq.proofs.decoder.object.Decoder.add_to_block.Goals.{After-from, After-index_mut}
@@ -37,7 +37,7 @@ add_packet-requires c =
     let x = c.index_mut.result.now in
     let at = block (goal.at.add_packet-requires c).After-index_mut in
     let within = below (goal.at.add_packet-requires c).After-from in
-    block_takes s.config (received_of x.decoder) p (ap (λ b. (received_of b.decoder).configuration) at.is ∙ s.same p.id.block x at.below) (number_at block_number s.config.source_blocks s.blocks.items s.numbered p.id.block x (omega (arith, at.here, within)) at.is) c.in_ok-check_size.ensures.size
+    block_takes s.config (received_of x.decoder) p (ap (λ b. (received_of b.decoder).configuration) at.is ∙ s.same p.id.block x at.below) (numbered_at block_number s.config.source_blocks s.blocks.items s.numbered p.id.block x (omega (arith, at.here, within)) at.is) c.in_ok-check_size.ensures.size
 
 pub invariant_of-self : goal.invariant_of-self
 invariant_of-self c =

@@ -2,7 +2,7 @@ use Rattle.std.proofs.Common.{None, Some, take, ap, arith}
 use Rattle.std.specs.Prelude.{option_map, vec_items}
 use Rattle.raptorq.specs.Decoder.{state_of}
 use Rattle.raptorq.proofs.AnsweredParts.{answers_part, no_part, part_here, part_lent}
-use Rattle.raptorq.proofs.OptionValues.{none_otherwise}
+use Rattle.rq_standard.proofs.OptionValues.{none_otherwise}
 use Rattle.raptorq.proofs.decoder.object.Decoder.block_bytes.Goals as goal
 
 pub returns-in_default-clause-bytes : goal.returns-in_default-clause-bytes

@@ -2,7 +2,7 @@ use Rattle.std.proofs.Common.{Some, None, sym, ap, ◌∙◌}
 use Rattle.std.specs.Prelude.{is_some}
 use Rattle.rq_standard.specs.DecoderState.{result_of}
 use Rattle.raptorq.specs.Decoder.{state_of}
-use Rattle.raptorq.proofs.OptionValues.{none_is}
+use Rattle.rq_standard.proofs.OptionValues.{none_is}
 use Rattle.raptorq.proofs.ObjectBlocks.{not_complete}
 use Rattle.raptorq.proofs.ResultAnswers.{result_answers}
 use Rattle.raptorq.proofs.decoder.object.Decoder.get_result.Goals as goal

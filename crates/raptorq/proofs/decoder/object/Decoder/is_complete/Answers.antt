@@ -4,7 +4,7 @@ use borrow.Author.Count.{below_more}
 use Rattle.raptorq.specs.Decoder.{state_of, answer_at}
 use Rattle.raptorq.proofs.Numbered.{length-numbered, turn_of}
 use Rattle.raptorq.proofs.ObjectBlocks.{block_number, answer_here, not_complete, complete}
-use Rattle.raptorq.proofs.OptionValues.{is_some-mapped, none_is}
+use Rattle.rq_standard.proofs.OptionValues.{is_some-mapped, none_is}
 use Rattle.raptorq.proofs.decoder.object.Decoder.is_complete.Goals as goal
 
 pub returns-then-is_none : goal.returns-then-is_none

@@ -4,7 +4,7 @@ use Rattle.rq_standard.specs.DecoderState.{first_blocks}
 use Rattle.raptorq.specs.Decoder.{answer_at}
 use Rattle.raptorq.proofs.Numbered.{length-numbered, turn_of}
 use Rattle.raptorq.proofs.ObjectBlocks.{block_number, join_next, join_some}
-use Rattle.raptorq.proofs.OptionValues.{none_otherwise}
+use Rattle.rq_standard.proofs.OptionValues.{none_otherwise}
 use Rattle.raptorq.proofs.decoder.object.Decoder.join.Goals.{in-Some+in_ok-extend_from_slice, in_default}
 use Rattle.raptorq.proofs.decoder.object.Decoder.join.Goals as goal
 

@@ -5,7 +5,7 @@ use Rattle.rq_standard.specs.DecoderState.{IsReceivedOf, IsNewState, new_receive
 use Rattle.rq_standard.proofs.StandingSteps.{stands_new}
 use Rattle.raptorq.specs.SourceBlockDecoder.{received_of}
 use Rattle.raptorq.specs.Decoder.{answer_of}
-use Rattle.raptorq.proofs.FollowedRuns.{follows_none}
+use Rattle.raptorq.proofs.FollowedRuns.{follows_no_packets}
 use Rattle.raptorq.proofs.Numbered.{mapped_more, new_numbers}
 use Rattle.raptorq.proofs.ObjectBlocks.{state, new_each, IsCut, new_state}
 use Rattle.raptorq.proofs.decoder.object.Decoder.new.Goals as goal
@@ -60,4 +60,4 @@ returns-clause-stands c =
 pub returns-clause-follows : goal.returns-clause-follows
 returns-clause-follows c =
     let at = (goal.at.returns-clause-follows c).After-loop-number in
-    follows_none c.args.table.now c.args.config (state c.args.config c.loop-number.blocks.items) (λ b below. c.loop-number.invariant.shape b (omega (arith, all at))) (new at)
+    follows_no_packets c.args.table.now c.args.config (state c.args.config c.loop-number.blocks.items) (λ b below. c.loop-number.invariant.shape b (omega (arith, all at))) (new at)
