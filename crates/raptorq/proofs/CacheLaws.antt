@@ -3,10 +3,9 @@ use Rattle.std.proofs.Common.{◌≡◌, ℕ, suc, ◌+◌, ◌-◌, ◌<◌, �
 use Rattle.std.specs.Prelude.{is_some, slice_get, position, nat_lt, ◌==◌, Ok}
 use Rattle.std.specs.List.{list_any, position_or_len}
 use Rattle.std.proofs.lemmas.Bool.{cases_lt, lt-ltb, le-ltb, eqb-true}
-use Rattle.std.proofs.lemmas.List.{length-append, length-map, get_or-append_right, get_or_default}
+use Rattle.std.proofs.lemmas.List.{length-append, length-map, get_or-map, get_or-append_right}
 use Rattle.std.proofs.lemmas.List.Quantifiers.{position-Some}
 use Rattle.std.proofs.lemmas.Option.{slice_get_read, slice_get_within, get_or_from_slice_get}
-use Rattle.std.proofs.Math.ListN.{get_or-map}
 use Rattle.rq_standard.specs.declared.row.TableRow.{TableRow}
 use Rattle.raptorq.specs.declared.encoder.plan.SourceBlockEncodingPlan.{SourceBlockEncodingPlan}
 use Rattle.raptorq.specs.SourceBlockEncodingPlan.{plan_refusal}
@@ -56,8 +55,7 @@ counts_in plans = map (λ p. p.source_symbol_count) plans
 
 pub count_at : (plans : List SourceBlockEncodingPlan) (i : ℕ) (p : SourceBlockEncodingPlan) → i < length plans → p ≡ get_or plans i p → get_or (counts_in plans) i 0 ≡ p.source_symbol_count
 count_at plans i p below is =
-    get_or_default (counts_in plans) i 0 p.source_symbol_count (omega (arith, length-map plans (λ (q : SourceBlockEncodingPlan). q.source_symbol_count)))
-    ∙ get_or-map (λ (q : SourceBlockEncodingPlan). q.source_symbol_count) plans i p ∙ ap (λ (q : SourceBlockEncodingPlan). q.source_symbol_count) (sym is)
+    get_or-map (λ (q : SourceBlockEncodingPlan). q.source_symbol_count) plans i p 0 below ∙ ap (λ (q : SourceBlockEncodingPlan). q.source_symbol_count) (sym is)
 
 -- where a count was found
 module _ (table : List TableRow) (plans : List SourceBlockEncodingPlan) (counts : List ℕ) (count place : ℕ) (shown : counts_in plans ≡ counts) (over : All (IsPlanOver table) plans) (found : position (λ n. n == count) counts ≡ Some place) where

@@ -14,7 +14,8 @@ use Rattle.std.proofs.lemmas.List.Sums.{sum_by-append, sum_by-insert, sum_by-rem
 use Rattle.std.proofs.lemmas.List.{get_or_append_left, get_or_default, length-append, take-append-drop}
 use Rattle.std.proofs.lemmas.List.Edits.{length-insert, length-remove, get_or-insert_below, get_or-insert_at, get_or-insert_above, get_or-remove_below, get_or-remove_above}
 use Rattle.std.proofs.Math.Seq.{get_or-append_right}
-use Rattle.rq_parts.specs.ListedLaws.{listed-self, listed-other, rises-tail, listed-first, test-self, test-other, listed_more}
+use Rattle.rq_algebra.proofs.Choices.{if_same, if_apart}
+use Rattle.rq_parts.specs.ListedLaws.{listed-self, listed-other, rises-tail, listed-first, listed_more}
 use Rattle.rq_parts.specs.SparseBinaryVec.{listed_bit, listed_octet, SetsListed, IsListed, IsGap, IsInsertionPlace}
 use Rattle.rq_standard.specs.BitTableSteps.{bit_of}
 
@@ -89,16 +90,16 @@ sets-removed xs i at up found =
     let taken : (k : ℕ) → listed_bit (remove xs at) k + cond (get_or xs at 0 == k) 1 0 ≡ listed_bit xs k = λ k. sum_by-remove (λ one. cond (one == k) 1 0) xs at 0 found.within in
     let one = listed-found xs i at up found in
     record {
-      here = omega (arith, taken i, one, test-self (get_or xs at 0) i found.is);
-      elsewhere = λ k other. omega (arith, taken k, test-other (get_or xs at 0) k (λ same. other (sym same ∙ found.is)));
+      here = omega (arith, taken i, one, if_same (get_or xs at 0) i 1 0 found.is);
+      elsewhere = λ k other. omega (arith, taken k, if_apart (get_or xs at 0) k 1 0 (λ same. other (sym same ∙ found.is)));
     }
 
 pub sets-inserted : (xs : List ℕ) (i gap octet : ℕ) → octet ≢ 0 → IsGap xs i gap → SetsListed xs i octet (insert xs gap i)
 sets-inserted xs i gap octet some found =
     let put : (k : ℕ) → listed_bit (insert xs gap i) k ≡ listed_bit xs k + cond (i == k) 1 0 = λ k. sum_by-insert (λ one. cond (one == k) 1 0) xs gap i in
     record {
-      here = omega (arith, put i, listed-gap xs i gap found, test-self i i refl) ∙ sym (nonzero_bit octet some);
-      elsewhere = λ k other. omega (arith, put k, test-other i k (λ same. other (sym same)));
+      here = omega (arith, put i, listed-gap xs i gap found, if_same i i 1 0 refl) ∙ sym (nonzero_bit octet some);
+      elsewhere = λ k other. omega (arith, put k, if_apart i k 1 0 (λ same. other (sym same)));
     }
 
 pub sets-nonzero : (xs : List ℕ) (i octet : ℕ) (ys : List ℕ) → octet ≢ 0 → SetsListed xs i 1 ys → SetsListed xs i octet ys

@@ -1,6 +1,6 @@
 -- Two ascending lists of ones that are merged into their sum.
-use Rattle.std.proofs.Common.{◌≡◌, ◌≢◌, ℕ, ◌+◌, ◌-◌, ◌<◌, ◌≤◌, ◌⊎◌, List, [], ◌∷◌, ◌++◌, Bool, true, length, get_or, take, drop, refl, sym, ap, subst, ◌∙◌, inl, inr, arith, append-nil}
-use Rattle.std.proofs.lemmas.List.{drop_more, take_all, length-drop}
+use Rattle.std.proofs.Common.{◌≡◌, ◌≢◌, ℕ, ◌+◌, ◌-◌, ◌<◌, ◌≤◌, ◌⊎◌, List, [], ◌∷◌, ◌++◌, Bool, true, length, get_or, drop, refl, sym, ap, subst, ◌∙◌, inl, inr, arith, append-nil}
+use Rattle.std.proofs.lemmas.List.{drop_more}
 use Rattle.std.specs.List.Sorted.{IsStrictlyIncreasing}
 use Rattle.std.specs.Int.Bits.{bit_xor, xor_zero_l, xor_zero_r}
 use Rattle.std.proofs.lemmas.Bool.Decides.{eqb_tells}
@@ -174,7 +174,3 @@ module _ (row other sum : List ℕ) (added : Bool) (i j : ℕ) (m : Merges row o
 
   pub next_both : get_or row i 0 ≡ get_or other j 0 → Merges row other sum added (drop (i + 1) row) (drop (j + 1) other)
   next_both = merges_both row other sum added _ _ _ _ both_left
-
--- the rest of a list, as a slice of it
-pub rest_from : (xs : List ℕ) (i : ℕ) → take (length xs - i) (drop i xs) ≡ drop i xs
-rest_from xs i = take_all (length xs - i) (drop i xs) (omega (arith, length-drop i xs))

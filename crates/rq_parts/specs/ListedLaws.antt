@@ -2,25 +2,19 @@
 use Rattle.std.proofs.Common.{◌≡◌, ◌≢◌, ℕ, suc, ◌+◌, ◌<◌, ◌==◌, List, [], ◌∷◌, length, get_or, cond, refl, sym, ap, ◌∙◌, inl, inr, arith, zero-add}
 use Rattle.std.specs.List.Sorted.{IsStrictlyIncreasing}
 use Rattle.std.proofs.lemmas.Bool.{cases_eq}
-use Rattle.std.proofs.lemmas.Bool.Decides.{eqb_tells}
 use Rattle.std.proofs.lemmas.List.Sums.{sum_by-cons}
+use Rattle.rq_algebra.proofs.Choices.{if_same, if_apart}
 use Rattle.rq_parts.specs.SparseBinaryVec.{listed_bit}
-
-pub test-self : (x k : ℕ) → x ≡ k → ◌≡◌ {A = ℕ} (cond (x == k) 1 0) 1
-test-self x k same = elim (eqb_tells x k) [ inl e ↦ ap (λ b. cond b 1 0) e.0 | inr e ↦ absurd (e.1 same) ]
-
-pub test-other : (x k : ℕ) → x ≢ k → ◌≡◌ {A = ℕ} (cond (x == k) 1 0) 0
-test-other x k other = elim (eqb_tells x k) [ inl e ↦ absurd (other e.1) | inr e ↦ ap (λ b. cond b 1 0) e.0 ]
 
 module _ (x : ℕ) (xs : List ℕ) where
   pub listed_more : (k : ℕ) → listed_bit (x ∷ xs) k ≡ cond (x == k) 1 0 + listed_bit xs k
   listed_more k = sum_by-cons (λ one. cond (one == k) 1 0) x xs
 
   pub listed-self : (k : ℕ) → k ≡ x → listed_bit (x ∷ xs) k ≡ 1 + listed_bit xs k
-  listed-self k same = listed_more k ∙ ap (λ n. n + listed_bit xs k) (test-self x k (sym same))
+  listed-self k same = listed_more k ∙ ap (λ n. n + listed_bit xs k) (if_same x k 1 0 (sym same))
 
   pub listed-other : (k : ℕ) → k ≢ x → listed_bit (x ∷ xs) k ≡ listed_bit xs k
-  listed-other k other = listed_more k ∙ ap (λ n. n + listed_bit xs k) (test-other x k (λ same. other (sym same))) ∙ zero-add (listed_bit xs k)
+  listed-other k other = listed_more k ∙ ap (λ n. n + listed_bit xs k) (if_apart x k 1 0 (λ same. other (sym same))) ∙ zero-add (listed_bit xs k)
 
   pub rises-tail : IsStrictlyIncreasing (x ∷ xs) → IsStrictlyIncreasing xs
   rises-tail up j l =

@@ -2,8 +2,8 @@ use Rattle.std.proofs.Common.{◌≡◌, ◌<◌, ◌++◌, ◌⊎◌, length, d
 use mathlib.Core.Bool.{false≢true}
 use Rattle.std.specs.declared.cmp.Ordering.TheVariants.{Less, Equal, Greater}
 use Rattle.std.proofs.lemmas.Cmp.{ranked}
-use Rattle.std.proofs.lemmas.List.{length-drop}
-use Rattle.rq_parts.proofs.Merging.{IsMerged, next_row, next_other, next_both, merges_all, rest_from}
+use Rattle.std.proofs.lemmas.List.{length-drop, take_rest}
+use Rattle.rq_parts.proofs.Merging.{IsMerged, next_row, next_other, next_both, merges_all}
 use Rattle.rq_parts.proofs.sparse_vec.merged.Goals.{then-loop-i-test+else-j-other, else-loop-i-test, then-added, else-added}
 use Rattle.rq_parts.proofs.sparse_vec.merged.Goals as goal
 
@@ -49,7 +49,7 @@ ended c = elim c.loop-i-test.branch [
 all_merged : (c : goal.Joined-added) → IsMerged c.args.row.now c.args.other.now c.extend_from_slice-2.new.self.items c.loop-i.added (length (drop c.loop-i.j c.args.other.now))
 all_merged c =
     subst (λ xs. IsMerged c.args.row.now c.args.other.now xs c.loop-i.added (length (drop c.loop-i.j c.args.other.now)))
-    (sym (c.in_ok-extend_from_slice-2.ensures.ok ∙ ap (λ xs. c.extend_from_slice.new.self.items ++ xs) (rest_from c.args.other.now c.loop-i.j) ∙ ap (λ xs. xs ++ drop c.loop-i.j c.args.other.now) (c.in_ok-extend_from_slice.ensures.ok ∙ ap (λ xs. c.loop-i.sum.items ++ xs) (rest_from c.args.row.now c.loop-i.i))))
+    (sym (c.in_ok-extend_from_slice-2.ensures.ok ∙ ap (λ xs. c.extend_from_slice.new.self.items ++ xs) (take_rest c.args.other.now c.loop-i.j) ∙ ap (λ xs. xs ++ drop c.loop-i.j c.args.other.now) (c.in_ok-extend_from_slice.ensures.ok ∙ ap (λ xs. c.loop-i.sum.items ++ xs) (take_rest c.args.row.now c.loop-i.i))))
     (merges_all c.args.row.now c.args.other.now c.loop-i.sum.items c.loop-i.added (drop c.loop-i.i c.args.row.now) (drop c.loop-i.j c.args.other.now) c.loop-i.invariant.merges (ended c))
 
 pub returns-clause-increasing : goal.returns-clause-increasing
