@@ -4,7 +4,8 @@ use Rattle.std.proofs.lemmas.Bool.{cases_eq}
 use Rattle.std.proofs.lemmas.List.Elements.{All-head, All-tail}
 use Rattle.std.specs.Int.Bits.{bit_xor}
 use Rattle.rq_algebra.specs.Parities.{parity}
-use Rattle.rq_algebra.proofs.Parity.{unit, unit_same, unit_other, parity-cons, parity_cases}
+use Rattle.rq_algebra.proofs.Parity.{unit, parity-cons, parity_cases}
+use Rattle.rq_algebra.proofs.Choices.{if_same, if_apart}
 use Rattle.rq_standard.specs.BitTable.{BitTable}
 use Rattle.rq_standard.specs.BitTableSteps.{HasSameShape, SetsBit, bit_of}
 use Rattle.rq_base.specs.BinaryRows.{SetsParityRow}
@@ -69,10 +70,10 @@ flips_more {old} {middle} {new} {i} {index} {indices} {left} {rest} row flipping
       parity = λ k hk. elim (cases_eq k index) [
         | inl same ↦
             flip_parity (middle.bit i k) (new.bit i k) (parity left k) (parity rest k) (unit index k) (flipping.small k hk)
-            (ap (new.bit i) same ∙ flipped ∙ ap (λ n. bit_of (bit_xor (middle.bit i n) 1)) (sym same)) (unit_same index k (sym same)) (more k)
+            (ap (new.bit i) same ∙ flipped ∙ ap (λ n. bit_of (bit_xor (middle.bit i n) 1)) (sym same)) (if_same index k 1 0 (sym same)) (more k)
             ∙ flipping.parity k hk
         | inr other ↦
-            let zero = unit_other index k (λ s. other (sym s)) in
+            let zero = if_apart index k 1 0 (λ s. other (sym s)) in
             let left_is = more k in
             let same = there k hk other in
             let small = small_parity rest k in
