@@ -147,7 +147,7 @@ module _ (lists : List (List ℕ)) (lt_columns : ℕ) (rows : List ℕ) (row : �
       let was : is_left lists lt_columns rows k ≡ true = left k l ∙ active_true old k (takes.ends.left k l active).0 in
       let both = and_parts (nat_lt k lt_columns) (before == 0) was in
       let none = tested_zero before both.1 in
-      let absent = count_absent (ones_of lists row) k (λ is. takes.ended k is active) in
+      let absent = count_absent (ones_of lists row) k (λ is. (takes.ends.left k l active).1 is) in
       and_from (nat_lt k lt_columns) (after == 0) both.0 (zero_tested after (omega (arith, more, none, absent))))
 
   -- the row's pivot stands in a column that was left

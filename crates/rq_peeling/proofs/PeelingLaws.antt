@@ -3,7 +3,7 @@ use Rattle.std.proofs.Common.{◌≡◌, ℕ, ◌+◌, ◌<◌, ◌≤◌, ◌�
 use Rattle.std.specs.List.{Contains}
 use Rattle.std.proofs.lemmas.Bool.{cases_lt}
 use Rattle.std.proofs.lemmas.List.{length-append, get_or_push, get_or_default, take_more}
-use Rattle.std.proofs.lemmas.List.Elements.{All-contains, All-take, Contains-append_cases, Contains-append_left, Contains-push}
+use Rattle.std.proofs.lemmas.List.Elements.{All-contains, Contains-append_cases, Contains-append_left, Contains-push}
 use Rattle.std.proofs.Math.ListN.{get_or-append}
 use Rattle.rq_algebra.specs.Systems.{at}
 use Rattle.rq_peeling.specs.SystemRows.{AreRowsOfBits}
@@ -87,7 +87,10 @@ module _ (lists : List (List ℕ)) (rows : List ℕ) (old new : ColumnState) (co
               let in_old = subst (λ (r : ℕ). Contains (ones_of lists r) k) (row_kept p before) is in
               let below = All-contains (λ (c : ℕ). c < length old.order) (ones_of lists (at rows p)) k (columns (at rows p) [] (so.in_rows.below p before)) in_old in
               so.ended p k before in_old (takes.ends.left k below active).0
-          | inr after ↦ takes.ended k (subst (λ (r : ℕ). Contains (ones_of lists r) k) (row_new p (omega (arith, one_more))) is) active
+          | inr after ↦
+              let in_new = subst (λ (r : ℕ). Contains (ones_of lists r) k) (row_new p (omega (arith, one_more))) is in
+              let below = All-contains (λ (c : ℕ). c < length old.order) (ones_of lists row) k (columns row [] in_row) in_new in
+              (takes.ends.left k below active).1 in_new
         ];
   }
 
@@ -125,7 +128,6 @@ pub inactivates_none : (row : List ℕ) (state : ColumnState) → HasNoActive ro
 inactivates_none row state none = record {
   pivots = refl;
   ends = record { width = refl; before = λ p l. refl; left = λ k l active. (active, (λ is. none k is active)); kept = λ k l active out. active; fewer = omega arith };
-  ended = none;
 }
 
 -- a row's pivot, and then all its columns
@@ -137,7 +139,6 @@ takes_row row column old cur new there active next here ends others =
       own = subst (Contains row) same there;
       was = subst (IsActive old) same active;
       ends = ends_more (λ k. k ≡ column) (Contains row) (Contains row) old cur new (λ k e. subst (Contains row) (sym e) there) (λ k is. is) (λ k is apart out. out is) (omega (arith, next)) ends others.ends;
-      ended = others.ended;
     }
 
 module _ (row : List ℕ) (t : ℕ) (in_row : t < length row) where
@@ -158,18 +159,13 @@ module _ (row : List ℕ) (t : ℕ) (in_row : t < length row) where
         | inr last ↦ let first : last.0 ≡ 0 = omega (arith, last.1) in inr (ap (λ (i : ℕ). get_or (at row t ∷ []) i k) (sym first) ∙ last.2)
       ]
 
-  module _ (old cur new : ColumnState) (columns : All (λ column. column < length old.order) row) (so : InactivatesRow (take t row) old cur) where
+  module _ (old cur new : ColumnState) (so : InactivatesRow (take t row) old cur) where
     -- one column more isn't active any more
     pub inactivates_more : EndsActive (at row t) cur new → new.pivots ≡ cur.pivots → InactivatesRow (take (t + 1) row) old new
     inactivates_more ends pivots = record {
       pivots = pivots ∙ so.pivots;
       ends = ends_more (Contains (take t row)) (λ k. k ≡ at row t) (Contains (take (t + 1) row)) old cur new still_there (λ k e. subst (Contains (take (t + 1) row)) (sym e) now_there)
           (λ k is before last. elim (was_there k is) [ inl there ↦ before there | inr here ↦ last (sym here) ]) (omega (arith, so.pivots)) so.ends ends;
-      ended = λ k is active.
-          elim (was_there k is) [
-            | inl before ↦ so.ended k before (ends.left k (rw so.ends.width (All-contains (λ (c : ℕ). c < length old.order) (take t row) k (All-take (λ (c : ℕ). c < length old.order) t row columns) before)) active).0
-            | inr here ↦ (ends.left k (rw (so.ends.width, ← here) (columns t 0 in_row)) active).1 (sym here)
-          ];
     }
 
     -- the next column wasn't active
@@ -179,14 +175,10 @@ module _ (row : List ℕ) (t : ℕ) (in_row : t < length row) where
       ends = record {
         width = so.ends.width;
         before = so.ends.before;
-        left = λ k l active. ((so.ends.left k l active).0, (λ is. ended k is active));
+        left = λ k l active.
+            let was = so.ends.left k l active in
+            (was.0, (λ is. elim (was_there k is) [ inl before ↦ was.1 before | inr here ↦ none (subst (IsActive cur) (sym here) active) ]));
         kept = λ k l active out. so.ends.kept k l active (λ is. out (still_there k is));
         fewer = so.ends.fewer;
       };
-      ended = ended;
-    } where
-      ended : HasNoActive (take (t + 1) row) cur
-      ended k is active = elim (was_there k is) [
-        | inl before ↦ so.ended k before active
-        | inr here ↦ none (subst (IsActive cur) (sym here) active)
-      ]
+    }

@@ -61,7 +61,6 @@ EndsActive column old new = EndsThese (λ k. k ≡ column) old new
 pub record InactivatesRow (row : List ℕ) (old new : ColumnState) : Type 0 where
   pub pivots : new.pivots ≡ old.pivots
   pub ends : EndsThese (Contains row) old new
-  pub ended : HasNoActive row new
 
 -- none of a row's columns is active any more, and the row has the next pivot, in one of its columns that were active
 pub record TakesRow (row : List ℕ) (old new : ColumnState) : Type 0 where
@@ -69,4 +68,3 @@ pub record TakesRow (row : List ℕ) (old new : ColumnState) : Type 0 where
   pub own : Contains row (at new.order old.pivots)
   pub was : IsActive old (at new.order old.pivots)
   pub ends : EndsThese (Contains row) old new
-  pub ended : HasNoActive row new

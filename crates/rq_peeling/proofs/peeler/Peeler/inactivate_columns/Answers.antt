@@ -26,12 +26,12 @@ loop-column-preserved c =
           let lowered = leave_lowered cur w.inactivate.new.self (at row t) w.leave_column.new.self.degrees inside active w.inactivate.ensures.ended w.in_ok-leave_column.ensures.lowered in
           let here = subst (λ (s : Bor System). KeepsDegrees s.now.ones cur.columns w.inactivate.new.self cur.degrees w.leave_column.new.self.degrees) v.system lowered in
           rw (w.self-is, w.leave_column.ensures.columns) (record {
-            inactive = inactivates_more row t in_row first.columns cur.columns w.inactivate.new.self below v.inactive w.inactivate.ensures.ended w.inactivate.ensures.pivots;
+            inactive = inactivates_more row t in_row first.columns cur.columns w.inactivate.new.self v.inactive w.inactivate.ensures.ended w.inactivate.ensures.pivots;
             counted = λ counts. here (v.counted counts);
             system = w.leave_column.ensures.system ∙ v.system;
           })
       | else-is_active w ↦ rw w.self-is (record {
-        inactive = inactivates_same row t in_row first.columns cur.columns cur.columns below v.inactive (iff_false c.is_active.ensures w.if-is_active.false);
+        inactive = inactivates_same row t in_row first.columns cur.columns cur.columns v.inactive (iff_false c.is_active.ensures w.if-is_active.false);
         counted = v.counted;
         system = v.system;
       })
