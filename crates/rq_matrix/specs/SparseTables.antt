@@ -30,8 +30,8 @@ module _ (width boundary : ℕ) (rows : List (List ℕ)) (row_order column_order
       let row = get_or row_order.order i 0 in
       cond b (listed_bit (get_or rows row []) (get_or column_order.order k 0)) (tail_bit tail row (width - 1 - k))
 
-  pub bit-before : k < boundary
-      → sparse_bit width boundary rows row_order column_order tail i k ≡ listed_bit (get_or rows (get_or row_order.order i 0) []) (get_or column_order.order k 0)
+  pub bit-before : k < boundary → sparse_bit width boundary rows row_order column_order tail i k
+      ≡ listed_bit (get_or rows (get_or row_order.order i 0) []) (get_or column_order.order k 0)
   unfolding either
   bit-before before = ap either (lt-ltb k boundary before)
 
