@@ -13,9 +13,9 @@ use Rattle.rq_parts.specs.SparseBinaryVec.{listed_bit}
 use Rattle.rq_parts.proofs.BitPairLaws.{packed_bit-at, sum_of_bits}
 use Rattle.rq_parts.specs.ListedLaws.{listed-self, listed-other}
 use Rattle.rq_parts.proofs.ListedBits.{listed-append}
-use Rattle.rq_matrix.specs.BitRows.{with_word_added, IsLastOne}
-use Rattle.rq_matrix.specs.DenseTails.{Tail, tail_bit, IsTail, SetsTailBit, MarksRows, AddsTailRow, PushesColumn}
-use Rattle.rq_matrix.proofs.Words.{packed_bit-zeros}
+use Rattle.rq_parts.specs.PackedBits.{IsLastOne}
+use Rattle.rq_matrix.specs.DenseTails.{with_word_added, Tail, tail_bit, IsTail, SetsTailBit, MarksRows, AddsTailRow, PushesColumn}
+use Rattle.rq_parts.proofs.PackedBits.{packed_bit-zeros}
 
 -- ---- one word added to another one
 

@@ -1,12 +1,8 @@
 pub mod ColumnIndexLaws
 pub mod DenseTailLaws
 pub mod FoundOnes
-pub mod Ones
 pub mod OrderLaws
 pub mod Pairs
-pub mod RowBuffers
 pub mod SparseMatrixLaws
 pub mod SparseRowLaws
 pub mod StoredRows
-pub mod WordRows
-pub mod Words

@@ -10,7 +10,7 @@ use Rattle.rq_bytes.specs.BinaryOctetVec.{packed_bit}
 use Rattle.rq_standard.specs.BitTableSteps.{ones_at, AreOnesOf, IsPlaceAndBit, ArePlacesOfOnes}
 use Rattle.rq_standard.proofs.BitTableLaws.{is_one_at, is_one_at-other, is_one_at-one, is_one_at-zero, ones_at-cons}
 use Rattle.rq_parts.specs.BitPairs.{bit_pairs, ones_among}
-use Rattle.rq_matrix.proofs.Words.{packed_bit-lt}
+use Rattle.rq_parts.proofs.PackedBits.{packed_bit-lt}
 
 -- each pair is a place of the range with its bit
 bit_pairs-within : (words : List ℕ) (first end start count : ℕ) → first ≤ start → start + count ≤ end → All (IsPlaceAndBit (packed_bit words) first end) (bit_pairs words start start count)

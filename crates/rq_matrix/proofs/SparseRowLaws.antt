@@ -18,7 +18,7 @@ use Rattle.rq_parts.proofs.ListedBits.{listed-found, ones_below_all}
 use Rattle.rq_parts.proofs.SparsePairs.{in_range-true, range-from, range-below}
 use Rattle.rq_matrix.specs.Orders.{Order, IsPlacedOrder}
 use Rattle.rq_matrix.specs.SparseRows.{IsSparseRow, places_between}
-use Rattle.rq_matrix.proofs.Ones.{ones_below-same}
+use Rattle.rq_parts.proofs.CountedOnes.{ones_below-same}
 
 -- ---- stored rows
 

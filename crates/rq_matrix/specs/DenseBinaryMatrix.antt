@@ -4,7 +4,7 @@ use Rattle.std.proofs.Common.{ap}
 use Rattle.std.proofs.lemmas.Nat.Bits.{bit_at-lt}
 use Rattle.rq_standard.specs.BitTable.{BitTable, IsBitTable}
 use Rattle.rq_standard.specs.BitTableSteps.{IsUnchanged}
-use Rattle.rq_matrix.specs.BitRows.{bit_in}
+use Rattle.rq_matrix.specs.DenseRows.{bit_in}
 use Rattle.rq_matrix.specs.declared.matrix.DenseBinaryMatrix.{DenseBinaryMatrix}
 
 -- its rows, its columns and what it keeps beside them

@@ -1,5 +1,5 @@
 -- The last columns of a matrix of bits, the last of them first.
-use Rattle.std.specs.Prelude.{◌≡◌, ◌≢◌, ℕ, ◌+◌, ◌*◌, ◌/◌, ◌%◌, ◌^◌, ◌<◌, ◌≤◌, List, [], All, length, slice_index_or}
+use Rattle.std.specs.Prelude.{◌≡◌, ◌≢◌, ℕ, ◌+◌, ◌*◌, ◌/◌, ◌%◌, ◌^◌, ◌<◌, ◌≤◌, List, [], All, length, slice_index, slice_index_or, slice_set}
 use Rattle.std.specs.Int.Bits.{bit_xor}
 use Rattle.rq_bytes.specs.BinaryOctetVec.{packed_bit}
 use Rattle.rq_parts.specs.SparseBinaryVec.{listed_bit}
@@ -9,6 +9,10 @@ pub record Tail : Type 0 where
   pub rows : ℕ
   pub columns : ℕ
   pub blocks : List (List ℕ)
+
+-- words of which one has another one added
+abbrev pub with_word_added : List ℕ → ℕ → ℕ → List ℕ
+with_word_added words dest src = slice_set words dest (bit_xor (slice_index words dest) (slice_index words src))
 
 -- the bit of a row in a column, that column 0 being the last one
 abbrev pub tail_bit : Tail → ℕ → ℕ → ℕ

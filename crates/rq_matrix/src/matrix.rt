@@ -3,16 +3,18 @@ ghost use Rattle.std.specs.Prelude.{◌≡◌, ◌≢◌, ◌+◌, ◌*◌, ◌^
 ghost use Rattle.std.specs.List.Sorted.{IsStrictlyIncreasing};
 ghost use Rattle.std.specs.Int.Bits.{bit_xor};
 ghost use Rattle.rq_bytes.specs.declared.error.Error.TheVariants.{OutOfMemory};
-ghost use Rattle.rq_matrix.specs.BitRows.{word_count, AreSwappedFrom};
+ghost use Rattle.rq_parts.specs.PackedBits.{word_count};
+ghost use Rattle.rq_matrix.specs.DenseRows.{AreSwappedFrom};
 ghost use Rattle.rq_standard.specs.BitTable.{BitTable, IsBitTable};
 ghost use Rattle.rq_standard.specs.BitTableSteps.{ones_between, ArePlacesOfOnes, AreOnesOf, AreBitsOf, CanSet, CanAdd, IsUnchanged, IsZeroTable, SetsBit, SwapsRows, SwapsColumns, SetsIndexed, SetsBoundary, AddsRowFrom, KeepsLeading};
 
-use crate::bit_row::{count_ones, flip_bit, get_bit, ones_of, part_of, swap_bits, write_bit};
-use crate::bit_rows::BitRows;
+use crate::bit_row::part_of;
 use rq_bytes::error::Error;
 use rq_bytes::octet::Octet;
 use rq_bytes::octets::BinaryOctetVec;
+use rq_parts::bit_rows::BitRows;
 use rq_parts::iterators::OctetIter;
+use rq_parts::packed_bits::{count_ones, flip_bit, get_bit, swap_bits, write_bit};
 use std::alloc::{AllocError, Global};
 
 /// A matrix of bits. Its last columns, those from the boundary on, are dense, and its columns before
@@ -317,7 +319,7 @@ impl BinaryMatrix for DenseBinaryMatrix {
     }
 
     fn get_row_iter(&self, row: usize, start_col: usize, end_col: usize) -> OctetIter<'_> {
-        ones_of(self.rows.row(row), start_col, end_col)
+        OctetIter::new_dense_ones(start_col, end_col, self.rows.row(row))
     }
 
     fn get_ones_in_column_into(
@@ -349,7 +351,7 @@ impl BinaryMatrix for DenseBinaryMatrix {
     ) -> Result<(), Error> {
         out.reserve(self.width - start_col)?;
         out.clear();
-        for (column, _) in ones_of(self.rows.row(row), start_col, self.width) {
+        for (column, _) in OctetIter::new_dense_ones(start_col, self.width, self.rows.row(row)) {
             out.push_reserved(column);
         }
         Ok(())

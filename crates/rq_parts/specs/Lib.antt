@@ -1,9 +1,12 @@
 pub mod ArrayMaps
 pub mod BitPairs
+pub mod BitRows
 pub mod ConnectedComponentGraph
 pub mod ImmutableListMap
 pub mod ListedLaws
 pub mod OctetIter
+pub mod PackedBits
+pub mod RowLends
 pub mod SparseBinaryVec
 pub mod DenseOctetMatrix
 pub mod UndirectedGraph

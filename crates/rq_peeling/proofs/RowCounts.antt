@@ -7,7 +7,7 @@ use Rattle.rq_algebra.specs.Changes.{with_at}
 use Rattle.rq_algebra.proofs.ChangeLaws.{with_at_same, with_at_other}
 use Rattle.rq_standard.specs.BitTable.{BitTable, IsBitTable}
 use Rattle.rq_standard.specs.BitTableSteps.{ones_below, ones_between, HasSameShape, SwapsRows, SwapsPlaces, SwapsColumns}
-use Rattle.rq_matrix.proofs.Ones.{ones_below-same}
+use Rattle.rq_parts.proofs.CountedOnes.{ones_below-same}
 use Rattle.rq_peeling.specs.FirstPhaseRowSelectionStats.{RowCounts, IsLeftOf, KeepsCounts, ChangesRow, ones_in_range}
 use Rattle.rq_peeling.specs.RowDegrees.{HasLeastOnes}
 

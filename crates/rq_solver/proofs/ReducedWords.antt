@@ -5,7 +5,7 @@ use Rattle.std.proofs.lemmas.Nat.Bits.{bit_at-zero}
 use Rattle.std.proofs.lemmas.Bool.{cases_eq, cases_lt}
 use Rattle.std.proofs.lemmas.List.Elements.{All-append}
 use Rattle.rq_algebra.specs.Systems.{at}
-use Rattle.rq_matrix.proofs.Words.{low_bits, low-same, low-none}
+use Rattle.rq_parts.proofs.PackedBits.{low_bits, low-same, low-none}
 use Rattle.rq_standard.specs.OctetField.{octets}
 use Rattle.rq_solver.specs.SecondPhase.{AreUnits, ClearsColumns, IsStepTo}
 use Rattle.rq_elimination.specs.OperationCounts.{additions}

@@ -3,12 +3,13 @@ ghost use Rattle.std.specs.Prelude.{◌≡◌, ℕ, ◌+◌, ◌-◌, ◌*◌, �
 ghost use Rattle.std.specs.Int.Bits.{bit_xor};
 ghost use Rattle.rq_bytes.specs.BinaryOctetVec.{packed_bit};
 ghost use Rattle.rq_standard.specs.BitTableSteps.{bit_of};
-ghost use Rattle.rq_matrix.specs.BitRows.{word_count, with_word_added, HasNoOnes, IsLastOne};
-ghost use Rattle.rq_matrix.specs.DenseTails.{tail_bit, IsZeroTail, SetsTailBit, MarksRows, AddsTailRow, PushesColumn};
+ghost use Rattle.rq_parts.specs.PackedBits.{word_count, HasNoOnes, IsLastOne};
+ghost use Rattle.rq_matrix.specs.DenseTails.{with_word_added, tail_bit, IsZeroTail, SetsTailBit, MarksRows, AddsTailRow, PushesColumn};
 
-use crate::bit_row::{BitRow, last_one};
+use crate::bit_row::BitRow;
 use rq_bytes::octet::Octet;
 use rq_bytes::octets::WORD_BITS;
+use rq_parts::packed_bits::last_one;
 use std::alloc::{AllocError, Global};
 use std::marker::Model;
 

@@ -1,7 +1,7 @@
 -- What the loop keeps in `bit_row::part_of`.
 use Rattle.std.proofs.Common.{◌≡◌, ℕ, ◌+◌, ◌<◌, length}
 use Rattle.rq_bytes.specs.BinaryOctetVec.{packed_bit}
-use Rattle.rq_matrix.specs.BitRows.{word_count}
+use Rattle.rq_parts.specs.PackedBits.{word_count}
 use Rattle.rq_matrix.proofs.bit_row.part_of.Given as goal
 
 abbrev pub invariant-loop-k : goal.invariant-loop-k

@@ -4,7 +4,7 @@ use Rattle.std.proofs.Math.ListN.{get_or-eq_default}
 use Rattle.std.proofs.lemmas.Bool.Decides.{eqb_tells}
 use Rattle.rq_bytes.specs.BinaryOctetVec.{packed_bit}
 use Rattle.rq_standard.specs.BitTableSteps.{SwapsPlaces}
-use Rattle.rq_matrix.specs.BitRows.{AreSwappedFrom}
+use Rattle.rq_matrix.specs.DenseRows.{AreSwappedFrom}
 use Rattle.rq_matrix.proofs.matrix.swap_columns_from.Goals as goal
 
 -- one more row has the two columns exchanged

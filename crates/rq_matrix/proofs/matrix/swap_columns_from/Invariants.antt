@@ -1,5 +1,5 @@
 -- What the loop keeps in `matrix::swap_columns_from`.
-use Rattle.rq_matrix.specs.BitRows.{AreSwappedFrom}
+use Rattle.rq_matrix.specs.DenseRows.{AreSwappedFrom}
 use Rattle.rq_matrix.proofs.matrix.swap_columns_from.Given as goal
 
 abbrev pub invariant-loop-row : goal.invariant-loop-row

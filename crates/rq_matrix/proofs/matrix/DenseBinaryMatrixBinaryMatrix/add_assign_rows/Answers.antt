@@ -6,8 +6,9 @@ use Rattle.std.proofs.lemmas.List.Elements.{All-set}
 use Rattle.std.proofs.lemmas.Simd.{length-zip2}
 use Rattle.rq_bytes.specs.BinaryOctetVec.{packed_bit}
 use Rattle.rq_standard.specs.Rows.{row_sum}
-use Rattle.rq_matrix.specs.BitRows.{bit_in, word_count}
-use Rattle.rq_matrix.proofs.WordRows.{packed_bit-sum, word_inside}
+use Rattle.rq_parts.specs.PackedBits.{word_count}
+use Rattle.rq_matrix.specs.DenseRows.{bit_in}
+use Rattle.rq_parts.proofs.PackedBits.{packed_bit-sum, word_inside}
 use Rattle.rq_matrix.proofs.matrix.DenseBinaryMatrixBinaryMatrix.add_assign_rows.Goals as goal
 
 length-sum : (rows : List (List ℕ)) (dest src n : ℕ) → dest < length rows → src < length rows → All (λ row. length row ≡ n) rows → length (row_sum (get_or rows dest []) (get_or rows src [])) ≡ n

@@ -1,8 +1,8 @@
 -- What the check leaves to show of `matrix::DenseBinaryMatrix::get_ones_in_column_into`.
 use Rattle.std.proofs.Common.{ℕ, [], Vec, Global, vec_len, get_or, ap, ◌∙◌, inl, inr}
 use Rattle.std.specs.Prelude.{vec_capacity}
-use Rattle.rq_matrix.specs.BitRows.{bit_in}
-use Rattle.rq_matrix.proofs.Words.{packed_bit-lt}
+use Rattle.rq_matrix.specs.DenseRows.{bit_in}
+use Rattle.rq_parts.proofs.PackedBits.{packed_bit-lt}
 use Rattle.rq_matrix.proofs.FoundOnes.{found_next}
 use Rattle.rq_matrix.proofs.matrix.DenseBinaryMatrixBinaryMatrix.get_ones_in_column_into.Goals as goal
 use Rattle.rq_matrix.proofs.matrix.DenseBinaryMatrixBinaryMatrix.get_ones_in_column_into.Goals.{then-eq, else-eq}

@@ -1,5 +1,5 @@
 -- What the loop keeps in `matrix::DenseBinaryMatrix::get_ones_in_column_into`.
-use Rattle.rq_matrix.specs.BitRows.{bit_in}
+use Rattle.rq_matrix.specs.DenseRows.{bit_in}
 use Rattle.rq_matrix.proofs.FoundOnes.{AreFound}
 use Rattle.rq_matrix.proofs.matrix.DenseBinaryMatrixBinaryMatrix.get_ones_in_column_into.Given as goal
 

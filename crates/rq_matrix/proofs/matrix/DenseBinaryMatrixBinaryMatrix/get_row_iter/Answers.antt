@@ -12,5 +12,5 @@ returns c =
     let row = get_or rows c.args.row [] in
     let start = c.args.start_col in
     let end = c.args.end_col in
-    let ones = c.ones_of.ensures ∙ ap (λ words. ones_among (bit_pairs words start start (end - start))) c.row.ensures in
+    let ones = c.new_dense_ones.ensures ∙ ap (λ words. ones_among (bit_pairs words start start (end - start))) c.row.ensures in
     subst (λ pairs. AreOnesOf (packed_bit row) start end pairs) (sym ones) (are_ones_of row start end c.requires.range)

@@ -4,8 +4,9 @@ use Rattle.std.specs.List.{All}
 use Rattle.std.proofs.lemmas.List.{get_or-take, get_or-map, length-map, length-take-le}
 use Rattle.std.proofs.lemmas.List.Elements.{All-map}
 use Rattle.rq_bytes.specs.BinaryOctetVec.{packed_bit}
-use Rattle.rq_matrix.specs.BitRows.{bit_in, word_count}
-use Rattle.rq_matrix.proofs.WordRows.{packed_bit-take, word_inside, word_count-le}
+use Rattle.rq_parts.specs.PackedBits.{word_count}
+use Rattle.rq_matrix.specs.DenseRows.{bit_in}
+use Rattle.rq_parts.proofs.PackedBits.{packed_bit-take, word_inside, word_count-le}
 use Rattle.rq_matrix.proofs.matrix.DenseBinaryMatrixBinaryMatrix.resize.Goals as goal
 
 -- the first `height` rows, each with the words that `width` columns need

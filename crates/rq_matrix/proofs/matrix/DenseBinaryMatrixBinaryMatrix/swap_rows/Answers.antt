@@ -4,7 +4,7 @@ use Rattle.std.specs.List.{All}
 use Rattle.std.proofs.lemmas.List.Edits.{length-swap, swapped_from_swap}
 use Rattle.rq_bytes.specs.BinaryOctetVec.{packed_bit}
 use Rattle.rq_parts.proofs.ListChanges.{All-swap}
-use Rattle.rq_matrix.specs.BitRows.{word_count}
+use Rattle.rq_parts.specs.PackedBits.{word_count}
 use Rattle.rq_matrix.proofs.matrix.DenseBinaryMatrixBinaryMatrix.swap_rows.Goals as goal
 
 pub invariant_of-self : goal.invariant_of-self

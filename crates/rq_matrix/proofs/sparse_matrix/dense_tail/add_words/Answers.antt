@@ -2,7 +2,7 @@
 use Rattle.std.proofs.Common.{◌≡◌, ◌<◌, ℕ, List, [], length, set, get_or, ap, ◌∙◌, arith, sym, subst}
 use Rattle.std.proofs.lemmas.List.{get_or_default}
 use Rattle.rq_parts.proofs.ListChanges.{mapped_until-next, mapped_until-more}
-use Rattle.rq_matrix.specs.BitRows.{with_word_added}
+use Rattle.rq_matrix.specs.DenseTails.{with_word_added}
 use Rattle.rq_matrix.proofs.sparse_matrix.dense_tail.add_words.Goals as goal
 use Rattle.rq_matrix.proofs.sparse_matrix.dense_tail.add_words.Goals.{After-index-blocks-block}
 

@@ -1,6 +1,6 @@
 -- What the loop keeps in `sparse_matrix::dense_tail::zero_rows`.
 use Rattle.std.proofs.Common.{◌≡◌, replicate}
-use Rattle.rq_matrix.specs.BitRows.{word_count}
+use Rattle.rq_parts.specs.PackedBits.{word_count}
 use Rattle.rq_matrix.proofs.sparse_matrix.dense_tail.zero_rows.Given as goal
 
 abbrev pub invariant-loop : goal.invariant-loop

@@ -2,8 +2,7 @@
 use Rattle.std.proofs.Common.{◌≡◌, ℕ, List, map, ap, sym, subst, ◌∙◌}
 use Rattle.std.specs.Vec.{with_items}
 use Rattle.std.proofs.lemmas.List.{with_items_is}
-use Rattle.rq_matrix.specs.BitRows.{with_word_added}
-use Rattle.rq_matrix.specs.DenseTails.{Tail, IsTail, AddsTailRow}
+use Rattle.rq_matrix.specs.DenseTails.{with_word_added, Tail, IsTail, AddsTailRow}
 use Rattle.rq_matrix.proofs.DenseTailLaws.{tail_added, tail_adds, tail_added_is}
 use Rattle.rq_matrix.proofs.sparse_matrix.dense_tail.DenseTail.add.Goals as goal
 use Rattle.rq_matrix.proofs.sparse_matrix.dense_tail.DenseTail.add.Goals.{After-self-1}

@@ -1,7 +1,7 @@
 -- What the loop keeps in `sparse_matrix::dense_tail::DenseTail::row`.
 use Rattle.std.proofs.Common.{◌≡◌, ℕ, ◌-◌, ◌<◌, length}
 use Rattle.rq_bytes.specs.BinaryOctetVec.{packed_bit}
-use Rattle.rq_matrix.specs.BitRows.{word_count}
+use Rattle.rq_parts.specs.PackedBits.{word_count}
 use Rattle.rq_matrix.specs.DenseTails.{tail_bit}
 use Rattle.rq_matrix.proofs.sparse_matrix.dense_tail.DenseTail.row.Given as goal
 
