@@ -46,6 +46,20 @@ first_bit words row len padding n i word is lt e =
     ∙ ap (bit_at (get_or words ((padding + i) / 64) 0)) place
     ∙ packed_at words row len padding n i is (omega arith)
 
+-- products of the bits of four octets, which are elements of a row from a place on
+pub products_of_bits : (s at : ℕ) (half row : List ℕ) → at + 32 ≤ length row → ((i : ℕ) → i < 32 → octet_bit half i ≡ get_or row (at + i) 0)
+    → map (λ i. octet_mul s (octet_bit half i)) (range_with_len 0 32) ≡ map (octet_mul s) (chunk at 32 row)
+products_of_bits s at half row fits same =
+    let few = length-chunk at 32 row fits in
+    let count = length-map-range_with_len (λ i. octet_mul s (octet_bit half i)) 0 32 in
+    ext_get_or 0 (map (λ i. octet_mul s (octet_bit half i)) (range_with_len 0 32)) (map (octet_mul s) (chunk at 32 row))
+    (count ∙ sym (length-map (chunk at 32 row) (octet_mul s) ∙ few))
+    (λ k under.
+    let lt : k < 32 = omega arith in
+    get_or-map-range_with_len (λ i. octet_mul s (octet_bit half i)) 0 32 k k 0 lt (omega arith)
+    ∙ ap (octet_mul s) (same k lt ∙ sym (get_or-chunk at 32 row k 0 lt))
+    ∙ sym (get_or-map (octet_mul s) (chunk at 32 row) k 0 0 (omega arith)))
+
 -- the elements in half of a word, of which the whole is read
 pub half_word_bits : (s : ℕ) (words row : List ℕ) (len padding n at block word : ℕ) (half : List ℕ) → IsPacked words len row padding n → at + 32 ≤ n → at ≡ n % 64 + 32 * block
     → word ≡ get_or words ((padding + at) / 64) 0
@@ -54,22 +68,13 @@ pub half_word_bits : (s : ℕ) (words row : List ℕ) (len padding n at block wo
 half_word_bits s words row len padding n at block word half is le start e half_is =
     let bound = is.before in
     let long = is.long in
-    let few = length-chunk at 32 row (omega arith) in
-    let count = length-map-range_with_len (λ i. octet_mul s (octet_bit half i)) 0 32 in
-    ext_get_or 0 (map (λ i. octet_mul s (octet_bit half i)) (range_with_len 0 32)) (map (octet_mul s) (chunk at 32 row))
-    (count ∙ sym (length-map (chunk at 32 row) (octet_mul s) ∙ few))
-    (λ k under.
-    let lt : k < 32 = omega arith in
+    products_of_bits s at half row (omega arith) (λ k lt.
     let which : (padding + at) / 64 ≡ (padding + (at + k)) / 64 = omega arith in
     let place : 32 * (block % 2) + k ≡ (padding + (at + k)) % 64 = omega arith in
-    get_or-map-range_with_len (λ i. octet_mul s (octet_bit half i)) 0 32 k k 0 lt (omega arith)
-    ∙ ap (octet_mul s) (
     half_is k lt
     ∙ ap (λ w. bit_at w (32 * (block % 2) + k)) (e ∙ ap (λ j. get_or words j 0) which)
     ∙ ap (bit_at (get_or words ((padding + (at + k)) / 64) 0)) place
-    ∙ packed_at words row len padding n (at + k) is (omega arith)
-    ∙ sym (get_or-chunk at 32 row k 0 lt))
-    ∙ sym (get_or-map (octet_mul s) (chunk at 32 row) k 0 0 (omega arith)))
+    ∙ packed_at words row len padding n (at + k) is (omega arith))
 
 -- ---- lanes of bits
 
