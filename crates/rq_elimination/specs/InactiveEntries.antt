@@ -1,15 +1,16 @@
--- What rows have in the inactive columns: bits that are packed eight to an octet, or octets.
+-- What rows have in the inactive columns: packed bits, or octets.
 use Rattle.std.specs.Prelude.{◌≡◌, ◌≢◌, ℕ, zero, suc, ◌+◌, ◌*◌, ◌%◌, ◌^◌, ◌<◌, ◌≤◌, List, [], ◌∷◌, ◌++◌, All, Option, None, Some, drop, length, map, slice_index_or}
 use Rattle.std.specs.List.{range_with_len}
 use Rattle.std.specs.Simd.Lanes.{zip2}
 use Rattle.rq_algebra.specs.Systems.{at}
-use Rattle.rq_bytes.specs.OctetBits.{octet_bit}
+use Rattle.rq_bytes.specs.BinaryOctetVec.{packed_bit}
 use Rattle.rq_bytes.specs.SymbolSlab.{Slab}
 use Rattle.rq_parts.specs.DenseOctetMatrix.{IsOctetRow}
+use Rattle.rq_parts.specs.PackedBits.{word_count}
 
 -- the first bits as octets
 abbrev pub octets_of_bits : ℕ → List ℕ → List ℕ
-octets_of_bits n bits = map (octet_bit bits) (range_with_len 0 n)
+octets_of_bits n bits = map (packed_bit bits) (range_with_len 0 n)
 
 -- a row whose first octets are those that another one has in columns
 abbrev pub with_column_octets : List ℕ → List ℕ → List ℕ → List ℕ
@@ -23,16 +24,13 @@ entry_row width bits (o ∷ os) = o ∷ os
 abbrev pub entry_rows : ℕ → List (List ℕ) → List (List ℕ) → List (List ℕ)
 entry_rows width bits octets = zip2 (entry_row width) bits octets
 
--- as many bits as there are columns, in a buffer without an order, and octets for as many rows
-pub record AreEntries (width : ℕ) (bits : Slab) (octets : List (List ℕ)) : Type 0 where
-  pub fits : width < 2 ^ 63 + 32
+-- the words of as many bits as there are columns, and octets for as many rows
+pub record AreEntries (width : ℕ) (bits octets : List (List ℕ)) : Type 0 where
+  pub narrow : width < 2 ^ 17
   pub whole : width % 32 ≡ 0
-  pub room : width ≤ 8 * bits.symbol_size
-  pub vectors : bits.symbol_size % 32 ≡ 0
-  pub order : bits.order ≡ None
-  pub height : length octets ≡ length bits.values
-  pub symbols : All (λ symbol. length symbol ≡ bits.symbol_size) bits.values
-  pub rows : All (IsOctetRow width) (entry_rows width bits.values octets)
+  pub height : length octets ≡ length bits
+  pub words : All (λ row. length row ≡ word_count width) bits
+  pub rows : All (IsOctetRow width) (entry_rows width bits octets)
 
 -- the place, counted from 0, that is counted from 1, and none at 0
 abbrev pub place_before : ℕ → Option ℕ
@@ -66,11 +64,10 @@ pub record ArePlaced (octets : Slab) (places : List ℕ) : Type 0 where
   pub apart : (i j : ℕ) → i < length places → j < length places → at places i ≢ 0 → at places i ≡ at places j → i ≡ j
 
 -- the first place, from one on and before another, where there isn't 0
-abbrev pub IsNextEntry : (ℕ → ℕ) → ℕ → ℕ → Option ℕ → Type 0
-IsNextEntry entry from end None = (k : ℕ) → from ≤ k → k < end → entry k ≡ 0
-IsNextEntry entry from end (Some place) = (from ≤ place) × (place < end) × (entry place ≢ 0) × ((k : ℕ) → from ≤ k → k < place → entry k ≡ 0)
+abbrev pub IsNextPlace : (ℕ → ℕ) → ℕ → ℕ → ℕ → Type 0
+IsNextPlace entry from end place = (from ≤ place) × (place < end) × (entry place ≢ 0) × ((k : ℕ) → from ≤ k → k < place → entry k ≡ 0)
 
 -- that place with what is there
 abbrev pub IsNextOctet : (ℕ → ℕ) → ℕ → ℕ → Option (ℕ × ℕ) → Type 0
-IsNextOctet entry from end None = IsNextEntry entry from end None
-IsNextOctet entry from end (Some found) = IsNextEntry entry from end (Some found.0) × (found.1 ≡ entry found.0)
+IsNextOctet entry from end None = (k : ℕ) → from ≤ k → k < end → entry k ≡ 0
+IsNextOctet entry from end (Some found) = IsNextPlace entry from end found.0 × (found.1 ≡ entry found.0)

@@ -1,5 +1,5 @@
-//! `InactiveEntries`: the matrix U of RFC 6330 (section 5.4.2.2), rows of bits (`packed_bits`) or of
-//! octets (`own_octets`), each read by an `octet_row`.
+//! `InactiveEntries`: the matrix U of RFC 6330 (section 5.4.2.2), rows of bits or of octets
+//! (`own_octets`), each read by an `octet_row`.
 ghost use Rattle.std.specs.Prelude.{◌≡◌, ◌≢◌, ◌+◌, ◌*◌, ◌%◌, ◌^◌, ◌<◌, ◌≤◌, All, length, replicate, slice_set, IfSome, IfOk, OnOk, IfErr, OnErr};
 ghost use Rattle.rq_bytes.specs.declared.error.Error.TheVariants.{OutOfMemory};
 ghost use Rattle.rq_parts.specs.DenseOctetMatrix.{entry_of, HasOctets, row_at, with_row};
@@ -10,18 +10,17 @@ ghost use Rattle.rq_standard.specs.Rows.{row_sum, row_multiple};
 
 mod octet_row;
 mod own_octets;
-mod packed_bits;
 
 use crate::pivot_search::OctetRows;
 pub use octet_row::{next_in_vectors, nonzero_after_first};
 use octet_row::{EntryRow, count_octets, next_octet};
 use own_octets::OwnOctets;
-use packed_bits::{bit, count_ones, next_one, set_bit};
 use rq_bytes::error::Error;
 use rq_bytes::octet::Octet;
 use rq_bytes::products::LANES;
-use rq_bytes::symbol_slab::SymbolSlab;
+use rq_parts::bit_rows::BitRows;
 use rq_parts::octet_matrix::DenseOctetMatrix;
+use rq_parts::packed_bits::{count_ones, get_bit, next_one, set_bit};
 use std::alloc::Global;
 use std::marker::Model;
 
@@ -30,7 +29,7 @@ use std::marker::Model;
 /// where it takes what isn't bits. Contracts see octets alone.
 #[derive(Drop)]
 pub struct InactiveEntries {
-    bits: SymbolSlab,
+    bits: BitRows,
     octets: OwnOctets,
 }
 
@@ -40,7 +39,7 @@ impl Model for InactiveEntries {
 
     ghost Value = { OctetTable };
 
-    ghost view = { λ e. record { width = e.octets.width; rows = entry_rows e.octets.width e.bits.values e.octets.rows } };
+    ghost view = { λ e. record { width = e.octets.width; rows = entry_rows e.octets.width e.bits e.octets.rows } };
 
     ghost invariant = { λ e. AreEntries e.octets.width e.bits e.octets.rows };
 }
@@ -54,9 +53,8 @@ impl InactiveEntries {
         ensures zeros { IfOk result (λ entries. entries ≡ record { width = width; rows = replicate height (replicate width 0) }) }
         ensures err { IfErr result (λ e. e ≡ OutOfMemory) }
     {
-        let size = whole_vectors(width.div_ceil(8));
         Ok(InactiveEntries {
-            bits: SymbolSlab::with_zeros(alloc, height, size)?,
+            bits: BitRows::zeros(alloc, height, width)?,
             octets: OwnOctets::new(alloc, height, width)?,
         })
     }
@@ -77,7 +75,7 @@ impl InactiveEntries {
         ensures { self.new ≡ with_row self.old row (slice_set (row_at self.old row) column 1) }
     {
         if self.octets.is_bits(row) {
-            set_bit(self.bits.get_mut(row), column);
+            set_bit(self.bits.row_mut(row), column);
         } else {
             self.octets.set_one(row, column);
         }
@@ -115,7 +113,7 @@ impl InactiveEntries {
     {
         match self.row(row) {
             EntryRow::Octets(octets) => Octet::new(octets[column]),
-            EntryRow::Bits(bits) => Octet::new(bit(bits, column)),
+            EntryRow::Bits(bits) => get_bit(bits, column),
         }
     }
 
@@ -145,12 +143,11 @@ impl InactiveEntries {
     {
         match self.row(row) {
             EntryRow::Octets(_) => None,
-            EntryRow::Bits(bits) => Some(packed_bits::word(bits, word)),
+            EntryRow::Bits(bits) => Some(bits[word]),
         }
     }
 
-    /// How many of the first `count` entries of a row aren't 0. Of a row of bits later ones that share
-    /// a word with these may be counted too, up to `count` in all.
+    /// How many of the first `count` entries of a row aren't 0.
     pub fn count_entries(&self, row: usize, count: usize) -> usize
         requires row { row < length self.now.rows }
         requires count { count ≤ self.now.width }
@@ -158,7 +155,7 @@ impl InactiveEntries {
     {
         match self.row(row) {
             EntryRow::Octets(octets) => count_octets(octets, count),
-            EntryRow::Bits(bits) => count_ones(bits, count),
+            EntryRow::Bits(bits) => count_ones(bits, 0, count),
         }
     }
 
@@ -189,12 +186,12 @@ impl InactiveEntries {
         ensures err { IfErr result (λ e. e ≡ OutOfMemory) }
     {
         if scalar.byte() == 1 && self.octets.is_bits(dest) && self.octets.is_bits(src) {
-            self.bits.add_assign(dest, src);
+            self.bits.add(dest, src);
             return Ok(());
         }
         self.octets.unpack_row(dest, &self.bits)?;
         if self.octets.is_bits(src) {
-            self.octets.add_bits(dest, self.bits.get(src), scalar);
+            self.octets.add_bits(dest, self.bits.row(src), scalar);
         } else {
             self.octets.add_multiple(dest, src, scalar);
         }
@@ -207,10 +204,10 @@ impl InactiveEntries {
         requires { row < length self.now.rows }
         ensures octets { octets_of self.now.width result ≡ row_at self.now row }
         ensures width { HasWidth self.now.width result }
-        ensures fits { self.now.width < 2 ^ 63 + 32 }
+        ensures narrow { self.now.width < 2 ^ 17 }
     {
         if self.octets.is_bits(row) {
-            EntryRow::Bits(self.bits.get(row))
+            EntryRow::Bits(self.bits.row(row))
         } else {
             EntryRow::Octets(self.octets.row(row))
         }

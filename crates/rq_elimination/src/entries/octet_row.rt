@@ -13,7 +13,7 @@ use std::simd::prelude::*;
 #[derive(Drop)]
 pub enum EntryRow<'a> {
     Octets(&'a [u8]),
-    Bits(&'a [u8]),
+    Bits(&'a [u64]),
 }
 
 /// The first column, from one on and before another, where there isn't 0, and what is there.

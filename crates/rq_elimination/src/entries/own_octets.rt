@@ -1,22 +1,23 @@
 //! `OwnOctets`: one buffer for all rows of the matrix U (RFC 6330, section 5.4.2.2) that are
 //! octets, and the place of each row in it.
-ghost use Rattle.std.specs.Prelude.{◌≡◌, ◌≢◌, ◌*◌, ◌%◌, ◌+◌, ◌^◌, ◌<◌, ◌≤◌, ◌++◌, ◌∷◌, [], true, false, None, All, length, replicate, slice_set, IfOk, OnOk, IfErr, OnErr};
+ghost use Rattle.std.specs.Prelude.{◌≡◌, ◌≢◌, ◌*◌, ◌%◌, ◌+◌, ◌^◌, ◌<◌, ◌≤◌, ◌++◌, ◌∷◌, [], true, false, None, All, length, replicate, slice_index_or, slice_set, IfOk, OnOk, IfErr, OnErr};
 ghost use Rattle.rq_algebra.specs.Systems.{at};
 ghost use Rattle.rq_bytes.specs.declared.error.Error.TheVariants.{OutOfMemory};
-ghost use Rattle.rq_bytes.specs.SymbolSlab.{HasPlace, symbol_in};
 ghost use Rattle.rq_parts.specs.DenseOctetMatrix.{IsOctetRow, row_at, with_row};
 ghost use Rattle.rq_elimination.specs.InactiveEntries.{place_before, entry_row, octets_of_bits, with_column_octets};
 ghost use Rattle.rq_standard.specs.Rows.{row_sum, row_multiple};
 
-use super::packed_bits::add_bits;
 use rq_bytes::error::Error;
 use rq_bytes::factor::{add_row_multiple, multiply_row};
 use rq_bytes::octet::Octet;
 use rq_bytes::octets::are_octets;
+use rq_bytes::products::{LANES, bit_products, half_of_word};
 use rq_bytes::symbol_slab::SymbolSlab;
+use rq_parts::bit_rows::BitRows;
 use rq_parts::octet_matrix::DenseOctetMatrix;
 use std::alloc::Global;
 use std::marker::Model;
+use std::simd::prelude::*;
 
 // For how many rows room is made with the first. The standard's tables have no more HDPC rows; where
 // one's own have more, the buffer grows.
@@ -91,16 +92,16 @@ impl OwnOctets {
 
     /// Makes octets of a row's bits, where it has none.
     #[inline(always)]
-    pub(super) fn unpack_row(&mut self, row: usize, bits: &SymbolSlab) -> Result<(), Error>
+    pub(super) fn unpack_row(&mut self, row: usize, bits: &BitRows) -> Result<(), Error>
         requires row { row < length self.old.rows }
-        requires bits { HasPlace bits.now row }
-        requires room { self.old.width ≤ 8 * bits.now.symbol_size }
-        ensures row { OnOk result (self.new ≡ with_row self.old row (entry_row self.old.width (symbol_in bits.now row) (row_at self.old row))) }
+        requires bits { row < length bits.now }
+        requires room { self.old.width ≤ 64 * length (slice_index_or bits.now row []) }
+        ensures row { OnOk result (self.new ≡ with_row self.old row (entry_row self.old.width (slice_index_or bits.now row []) (row_at self.old row))) }
         ensures refused { OnErr result (self.new ≡ self.old) }
         ensures err { IfErr result (λ e. e ≡ OutOfMemory) }
     {
         if self.places[row] == 0 {
-            push_bits(&mut self.rows, bits.get(row))?;
+            push_bits(&mut self.rows, bits.row(row))?;
             self.places[row] = self.rows.len() as u32;
         }
         Ok(())
@@ -159,10 +160,10 @@ impl OwnOctets {
     }
 
     /// Adds a multiple of a row of bits to a row's octets.
-    pub(super) fn add_bits(&mut self, row: usize, bits: &[u8], scalar: &Octet)
+    pub(super) fn add_bits(&mut self, row: usize, bits: &[u64], scalar: &Octet)
         requires row { row < length self.old.rows }
         requires own { length (row_at self.old row) ≡ self.old.width }
-        requires room { self.old.width ≤ 8 * length bits.now }
+        requires room { self.old.width ≤ 64 * length bits.now }
         ensures sum { self.new ≡ with_row self.old row (row_sum (row_at self.old row) (row_multiple scalar.now (octets_of_bits self.old.width bits.now))) }
         ensures octets { IsOctetRow self.old.width (row_at self.new row) }
     {
@@ -217,10 +218,10 @@ fn copy_columns(own: &mut [u8], octets: &DenseOctetMatrix, from: usize, columns:
 }
 
 // Appends a row of bits as octets.
-fn push_bits(rows: &mut SymbolSlab, bits: &[u8]) -> Result<(), Error>
+fn push_bits(rows: &mut SymbolSlab, bits: &[u64]) -> Result<(), Error>
     requires no_order { rows.old.order ≡ None }
     requires few { length rows.old.values < 2 ^ 31 }
-    requires room { rows.old.symbol_size ≤ 8 * length bits.now }
+    requires room { rows.old.symbol_size ≤ 64 * length bits.now }
     requires narrow { rows.old.symbol_size < 2 ^ 17 }
     requires whole { rows.old.symbol_size % 32 ≡ 0 }
     ensures ok { OnOk result (rows.new ≡ record rows.old { values = rows.old.values ++ octets_of_bits rows.old.symbol_size bits.now ∷ [] }) }
@@ -234,4 +235,18 @@ fn push_bits(rows: &mut SymbolSlab, bits: &[u8]) -> Result<(), Error>
     rows.push_zeros()?;
     add_bits(rows.get_mut(place), bits, 1);
     Ok(())
+}
+
+// Adds a multiple of bits to as many octets, which fill whole vectors.
+fn add_bits(octets: &mut [u8], bits: &[u64], scalar: u8)
+    requires room { length octets.old ≤ 64 * length bits.now }
+    requires whole { length octets.old % 32 ≡ 0 }
+    ensures { octets.new ≡ row_sum octets.old (row_multiple scalar (octets_of_bits (length octets.old) bits.now)) }
+{
+    for block in 0..octets.len() / LANES {
+        let at = LANES * block;
+        let half = half_of_word(bits[block / 2], block % 2);
+        let sum = u8x32::from_slice(&octets[at..]) ^ bit_products(scalar, half);
+        sum.copy_to_slice(&mut octets[at..]);
+    }
 }

@@ -11,7 +11,7 @@ use Rattle.rq_elimination.proofs.entries.own_octets.OwnOctets.unpack_row.Goals a
 pub invariant_of-self-then-index-eq0 : goal.invariant_of-self-then-index-eq0
 invariant_of-self-then-index-eq0 c =
     let e = c.self.inside in
-    let bits = c.get.result.now in
+    let bits = c.row.result.now in
     let size = e.rows.symbol_size in
     let none = sym (get_or_default e.places.items c.args.row c.index.result.now 0 (in_places c.self.invariant c.self.view_is c.args.row c.requires.row)) ∙ sym c.index.ensures ∙ c.if-index-eq0.true in
     placed_next c.self.invariant c.self.view_is c.args.row c.requires.row none c.push_bits.new.rows (octets_of_bits size bits) (length-octets_of_bits size bits) c.in_ok-push_bits.ensures.ok c.len.result c.len.ensures.count
@@ -20,10 +20,10 @@ pub returns-in_ok-push_bits-clause-row : goal.returns-in_ok-push_bits-clause-row
 returns-in_ok-push_bits-clause-row c =
     let e = c.self.inside in
     let now = c.args.self.now in
-    let bits = c.get.result.now in
+    let bits = c.row.result.now in
     let size = e.rows.symbol_size in
     let row = row_at now c.args.row in
     let none = sym (get_or_default e.places.items c.args.row c.index.result.now 0 (in_places c.self.invariant c.self.view_is c.args.row c.requires.row)) ∙ sym c.index.ensures ∙ c.if-index-eq0.true in
     seen_next c.self.invariant c.self.view_is c.args.row c.requires.row none c.push_bits.new.rows (octets_of_bits size bits) (length-octets_of_bits size bits) c.in_ok-push_bits.ensures.ok c.len.result c.len.ensures.count
     ∙ ap (with_row now c.args.row) (ap (λ n. octets_of_bits n bits) (width_is c.self.invariant c.self.view_is) ∙ sym (row_of_none now.width bits row (is_bits c.self.invariant c.self.view_is c.args.row c.requires.row none)))
-    ∙ ap (λ (b : List ℕ). with_row now c.args.row (entry_row now.width b row)) c.get.ensures.symbol
+    ∙ ap (λ (b : List ℕ). with_row now c.args.row (entry_row now.width b row)) c.row.ensures

@@ -1,10 +1,10 @@
--- What the check leaves to show of `entries::packed_bits::add_bits`.
+-- What the check leaves to show of `entries::own_octets::add_bits`.
 use Rattle.std.proofs.Common.{◌≡◌, ◌+◌, ◌*◌, length, ◌∙◌, arith}
 use Rattle.rq_standard.specs.Octets.{octet_mul}
 use Rattle.rq_bytes.proofs.ZipUpto.{added_store, added_all}
 use Rattle.rq_elimination.specs.InactiveEntries.{octets_of_bits}
-use Rattle.rq_elimination.proofs.UnpackedBits.{block_bits, length-octets_of_bits}
-use Rattle.rq_elimination.proofs.entries.packed_bits.add_bits.Goals as goal
+use Rattle.rq_elimination.proofs.UnpackedBits.{length-octets_of_bits, products_of_half}
+use Rattle.rq_elimination.proofs.entries.own_octets.add_bits.Goals as goal
 
 pub loop-block-preserved : goal.loop-block-preserved
 loop-block-preserved c =
@@ -12,8 +12,8 @@ loop-block-preserved c =
     let n = length c.args.octets.now in
     let at = 32 * c.loop-block.block in
     let row = octets_of_bits n c.args.bits.now in
-    let bits = block_bits s n at c.args.bits.now (omega arith) (omega arith) c.requires.room in
-    added_store (octet_mul s) c.loop-block.octets c.args.octets.now row at c.loop-block.invariant (omega (arith, length-octets_of_bits n c.args.bits.now)) 32 (32 * (c.loop-block.block + 1)) _ (c.bit_products-multiple.ensures ∙ bits) (omega arith) (omega arith)
+    let bits = products_of_half s n c.loop-block.block c.args.bits.now c.half_of_word-half.result (omega arith) c.half_of_word-half.ensures.bits in
+    added_store (octet_mul s) c.loop-block.octets c.args.octets.now row at c.loop-block.invariant (omega (arith, length-octets_of_bits n c.args.bits.now)) 32 (32 * (c.loop-block.block + 1)) _ (c.bit_products.ensures ∙ bits) (omega arith) (omega arith)
 
 pub returns : goal.returns
 returns c =
