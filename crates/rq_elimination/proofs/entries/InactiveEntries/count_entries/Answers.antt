@@ -1,5 +1,5 @@
 -- What the check leaves to show of `entries::InactiveEntries::count_entries`.
-use Rattle.std.proofs.Common.{◌≤◌, ◌+◌, ◌-◌, ℕ, arith}
+use Rattle.std.proofs.Common.{◌≤◌, ◌+◌, ◌-◌, arith}
 use Rattle.rq_bytes.specs.BinaryOctetVec.{packed_bit}
 use Rattle.rq_standard.specs.BitTableSteps.{ones_between}
 use Rattle.rq_parts.proofs.CountedOnes.{ones_below-le}

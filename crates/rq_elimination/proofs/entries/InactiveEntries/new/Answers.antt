@@ -1,5 +1,5 @@
 -- What the check leaves to show of `entries::InactiveEntries::new`.
-use Rattle.std.proofs.Common.{◌≡◌, ℕ, List, [], replicate, refl, ap, sym, subst, ◌∙◌}
+use Rattle.std.proofs.Common.{ℕ, List, [], replicate, refl, ap, sym, subst, ◌∙◌}
 use Rattle.rq_parts.specs.DenseOctetMatrix.{OctetTable}
 use Rattle.rq_parts.specs.PackedBits.{word_count}
 use Rattle.rq_elimination.specs.InactiveEntries.{AreEntries}

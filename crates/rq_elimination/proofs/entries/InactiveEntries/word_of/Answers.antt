@@ -1,7 +1,5 @@
 -- What the check leaves to show of `entries::InactiveEntries::word_of`.
-use Rattle.std.proofs.Common.{◌+◌, ◌*◌, List, ℕ, get_or, sym, ap, ◌∙◌, arith}
-use Rattle.std.specs.Int.{bit_at}
-use Rattle.std.proofs.lemmas.List.{get_or_read}
+use Rattle.std.proofs.Common.{◌+◌, ◌*◌, List, ℕ, get_or, sym, ap, ◌∙◌}
 use Rattle.rq_parts.proofs.BitPairLaws.{packed_bit-at}
 use Rattle.rq_elimination.proofs.UnpackedBits.{at-octets_of_bits}
 use Rattle.rq_elimination.proofs.entries.InactiveEntries.word_of.Goals as goal
