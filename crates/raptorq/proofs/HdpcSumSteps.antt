@@ -202,7 +202,7 @@ module _ (row : TableRow) (column : ℕ → List ℕ) (size : ℕ) where
     becomes p = ap (λ xs. at xs p) w3.here ∙ doubled p ∙ ap (λ xs. octets.add (octets.mul 2 (at xs p)) (at (column (n + 1)) p)) same_last
 
     parts : (h : ℕ) → hdpc_coefficient row h n ≡ octets.add (octets.mul 2 (hdpc_coefficient row h (n + 1))) (mt row h n)
-    parts h = hdpc-step row h n more ∙ ap (λ x. octets.add x (mt row h n)) (sym (field_mul_is 8 octet_mul octet_inverse octet_laws 2 (hdpc_coefficient row h (n + 1)) (omega arith) (hdpc-lt row h (n + 1) more)))
+    parts h = hdpc-step row h n more ∙ ap (λ x. octets.add x (mt row h n)) (sym (field_mul_is 8 octet_mul octet_inverse octet_laws 2 (hdpc_coefficient row h (n + 1)) (omega arith) (hdpc-lt row h (n + 1))))
 
     pub column_added : AreHdpcSums row column size (n + 1) s3
     column_added = record {

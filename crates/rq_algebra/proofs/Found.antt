@@ -4,7 +4,7 @@ use Rattle.std.proofs.lemmas.List.{length-map}
 use Rattle.std.proofs.lemmas.List.Elements.{All-get_or}
 use Rattle.std.proofs.Math.ListN.{get_or-map}
 use Rattle.rq_algebra.specs.Field.{Field}
-use Rattle.rq_algebra.specs.Systems.{Solves, IsColumn, at}
+use Rattle.rq_algebra.specs.Systems.{Solves, at}
 use Rattle.rq_algebra.specs.Operations.{Operation, Reorder, Store, run, plain, unordered, AreAllowed, IsValues, found_by, FindsColumn}
 use Rattle.rq_algebra.specs.Symbols.{symbols, IsSymbolColumn, AreSymbols, symbol_at, slice_at, SolvesSymbols}
 use Rattle.rq_algebra.specs.OperationLaws.{FoundIsDetermined}
@@ -15,7 +15,7 @@ use Rattle.rq_algebra.proofs.OperationRuns.{zero_values, AreAllowed-middle}
 use Rattle.rq_algebra.proofs.Placewise.{place, place_linear, run_linear, read-run_linear, at-zeros, zeros_stay}
 use Rattle.rq_algebra.proofs.Pivots.{found-reorder}
 use Rattle.rq_algebra.proofs.SymbolColumns.{run_keeps_symbols}
-use Rattle.rq_algebra.proofs.SymbolSums.{symbol_elements, same_symbol, zeros_are_symbol}
+use Rattle.rq_algebra.proofs.SymbolSums.{slice_elements, same_symbol, zeros_are_symbol}
 
 -- the rows determine the column
 pub finds_determined : FoundIsDetermined
@@ -38,7 +38,7 @@ module _ (F : Field) (height width : ℕ) (rows : ℕ → ℕ → ℕ) (operatio
   values_at p i = get_or-map (place p) values i []
 
   are_values : (p : ℕ) → IsValues F height (map (place p) values)
-  are_values p = record { count = length-map values (place p) ∙ are.count_is; elements = λ i l. rw (values_at p i) (symbol_elements F size (symbol_at values i) (are.each i l) p) }
+  are_values p = record { count = length-map values (place p) ∙ are.count_is; elements = λ i l. rw (values_at p i) (slice_elements F size height (symbol_at values) are.each p i l) }
 
   -- what the operations leave of the symbols has at each place what they leave of the elements there
   left_placewise : (p i : ℕ) → at (symbol_at (run (symbols F) operations (unordered values)).values i) p ≡ at (run (plain F) operations (unordered (map (place p) values))).values i
@@ -51,9 +51,6 @@ module _ (F : Field) (height width : ℕ) (rows : ℕ → ℕ → ℕ) (operatio
       let e : found_by (symbols F) operations values k ≡ symbol_at (run (symbols F) finds.before (unordered values)).values (get_or finds.order k 0) =
       ap (λ (all : List Operation). found_by (symbols F) all values k) finds.ends ∙ found-reorder (symbols F) finds.before finds.order values k in
       rw e ((run_keeps_symbols F size height finds.before (unordered values) are).each (get_or finds.order k 0) (order_below k l))
-
-  column_at : (column : ℕ → List ℕ) → IsSymbolColumn F size width column → (p : ℕ) → IsColumn F width (slice_at p column)
-  column_at column is p k l = symbol_elements F size (column k) (is k l) p
 
   -- symbols that solve the rows do so at each place, and the other way round
   solves_at : (column : ℕ → List ℕ) → SolvesSymbols F height width rows column (symbol_at values) → (p : ℕ) → Solves F height width rows (slice_at p column) (at (map (place p) values))
@@ -69,10 +66,10 @@ module _ (F : Field) (height width : ℕ) (rows : ℕ → ℕ → ℕ) (operatio
   finds_symbols = record {
     are_symbols = found_are_symbols;
     only = λ column is s k l. same_symbol F size (column k) (found_by (symbols F) operations values k) (is k l) (found_are_symbols k l) (λ p.
-        finds.only (map (place p) values) (are_values p) (slice_at p column) (column_at column is p) (solves_at column s p) k l ∙ sym (placewise p k));
+        finds.only (map (place p) values) (are_values p) (slice_at p column) (slice_elements F size width column is p) (solves_at column s p) k l ∙ sym (placewise p k));
     solves = λ square. found_solves (λ p. finds.solves square (map (place p) values) (are_values p));
     leaves = λ column is s i unread. same_symbol F size _ (replicate size 0) ((run_keeps_symbols F size height operations (unordered values) are).each i unread.0) (zeros_are_symbol F size) (λ p.
-        left_placewise p i ∙ finds.leaves (map (place p) values) (are_values p) (slice_at p column) (column_at column is p) (solves_at column s p) i unread
+        left_placewise p i ∙ finds.leaves (map (place p) values) (are_values p) (slice_at p column) (slice_elements F size width column is p) (solves_at column s p) i unread
         ∙ sym (at-zeros size p));
     consistent = λ zeros. found_solves (λ p. finds.consistent (map (place p) values) (are_values p) (λ i unread.
         sym (left_placewise p i) ∙ ap (place p) (zeros i unread) ∙ at-zeros size p));

@@ -12,7 +12,7 @@ use Rattle.rq_algebra.proofs.Sums.{add_again, mul_zero, undo_mul, dot_same, dot_
 use Rattle.rq_algebra.specs.Changes.{with_at}
 use Rattle.rq_algebra.proofs.ChangeLaws.{with_at_same, with_at_other}
 use Rattle.rq_algebra.proofs.FewEquations.{few_rows}
-use Rattle.rq_algebra.proofs.SymbolSums.{symbol_elements}
+use Rattle.rq_algebra.proofs.SymbolSums.{slice_elements}
 
 module _ (F : Field) (n : ℕ) (rows : ℕ → ℕ → ℕ) where
   module _ (values : ℕ → ℕ) (elements : HasElements F n n rows) (are : IsColumn F n values) (determined : IsDetermined F n n rows) where
@@ -77,11 +77,8 @@ module _ (F : Field) (n : ℕ) (rows : ℕ → ℕ → ℕ) where
 
   -- a solution at each place, put together
   module _ (size : ℕ) (values : ℕ → List ℕ) (elements : HasElements F n n rows) (are : IsSymbolColumn F size n values) (determined : IsDetermined F n n rows) where
-    slices_are : (p : ℕ) → IsColumn F n (slice_at p values)
-    slices_are p k l = symbol_elements F size (values k) (are k l) p
-
     solution_at : (p : ℕ) → HasSolution F n n rows (slice_at p values)
-    solution_at p = square_solution (slice_at p values) elements (slices_are p) determined
+    solution_at p = square_solution (slice_at p values) elements (slice_elements F size n values are p) determined
 
     symbol : ℕ → List ℕ
     symbol k = map (λ p. (solution_at p).column k) (range_with_len 0 size)

@@ -7,13 +7,13 @@ use Rattle.rq_algebra.specs.Operations.{Operation, AddAssign, MulAssign, Fma, Re
 use Rattle.rq_algebra.specs.Symbols.{add_symbols, symbols, IsSymbol, AreSymbols, slice_at}
 use Rattle.rq_algebra.specs.SymbolLaws.{OperationsKeepSymbols, DeterminedHasOneSolutionInSymbols}
 use Rattle.rq_algebra.proofs.Solutions.{determined_unique}
-use Rattle.rq_algebra.proofs.SymbolSums.{symbol_elements, same_symbol, add_nothing, add_is_symbol, scale_is_symbol}
+use Rattle.rq_algebra.proofs.SymbolSums.{slice_elements, same_symbol, add_nothing, add_is_symbol, scale_is_symbol}
 
 -- a determined system has at most one solution in symbols
 pub symbols_unique : DeterminedHasOneSolutionInSymbols
 symbols_unique F size height width rows x y values determined are_x are_y solves_x solves_y k l = same_symbol F size (x k) (y k) (are_x k l) (are_y k l) (λ p.
     determined_unique F height width rows (slice_at p x) (slice_at p y) (slice_at p values) determined
-    (λ j m. symbol_elements F size (x j) (are_x j m) p) (λ j m. symbol_elements F size (y j) (are_y j m) p) (solves_x.at_place p) (solves_y.at_place p) k l)
+    (slice_elements F size width x are_x p) (slice_elements F size width y are_y p) (solves_x.at_place p) (solves_y.at_place p) k l)
 
 module _ (F : Field) (size count : ℕ) where
   symbols_set : (xs : List (List ℕ)) (i : ℕ) (x : List ℕ) → (i < count → IsSymbol F size x) → AreSymbols F size count xs → AreSymbols F size count (set xs i x)

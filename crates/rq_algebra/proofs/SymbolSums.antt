@@ -4,9 +4,9 @@ use Rattle.std.proofs.lemmas.Bool.{cases_lt}
 use Rattle.std.proofs.lemmas.List.{length-map, length-replicate, get_or_past, ext_get_or}
 use Rattle.std.proofs.lemmas.List.Elements.{All-get_or, All-from_get_or, All-head, All-tail}
 use Rattle.rq_algebra.specs.Field.{Field}
-use Rattle.rq_algebra.specs.Systems.{at}
+use Rattle.rq_algebra.specs.Systems.{IsColumn, at}
 use Rattle.rq_algebra.specs.Operations.{plain}
-use Rattle.rq_algebra.specs.Symbols.{add_symbols, symbols, IsSymbol, slice_at}
+use Rattle.rq_algebra.specs.Symbols.{add_symbols, symbols, IsSymbol, IsSymbolColumn, slice_at}
 use Rattle.rq_algebra.specs.Parities.{sum_listed}
 use Rattle.rq_algebra.specs.SymbolLaws.{SumIsSymbol, SymbolSumIsDotOfParities}
 use Rattle.rq_algebra.proofs.Placewise.{place, place_linear, add_symbols_at, scale_at, sum_listed-linear, at-zeros}
@@ -52,6 +52,9 @@ module _ (F : Field) (size : ℕ) where
     | inr l ↦ rw (get_or_past xs p 0 l) (omega (arith, F.one_below))
   ]
 
+  pub slice_elements : (n : ℕ) (column : ℕ → List ℕ) → IsSymbolColumn F size n column → (p : ℕ) → IsColumn F n (slice_at p column)
+  slice_elements n column are p k l = symbol_elements (column k) (are k l) p
+
   pub same_symbol : (xs ys : List ℕ) → IsSymbol F size xs → IsSymbol F size ys → ((p : ℕ) → at xs p ≡ at ys p) → xs ≡ ys
   same_symbol xs ys s t same = ext_get_or 0 xs ys (s.size_is ∙ sym t.size_is) (λ p l. same p)
 
@@ -88,4 +91,4 @@ sum_is_symbol F size width p (q ∷ places) column below are =
 pub sum_symbols_is : SymbolSumIsDotOfParities
 sum_symbols_is F size width places column below are p =
     sum_listed-linear (symbols F) (plain F) (place p) (place_linear F p) places column
-    ∙ sum_listed_is F width places (slice_at p column) below (λ k l. symbol_elements F size (column k) (are k l) p)
+    ∙ sum_listed_is F width places (slice_at p column) below (slice_elements F size width column are p)

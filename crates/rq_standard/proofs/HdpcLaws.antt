@@ -1,5 +1,5 @@
 -- The HDPC coefficients from the last column down: each column is alpha times the next one, and MT's column added.
-use Rattle.std.proofs.Common.{◌≡◌, ◌≢◌, ℕ, suc, ◌+◌, ◌-◌, ◌≤◌, ◌<◌, Bool, true, false, cond, eqb, refl, sym, ap, ◌∙◌, arith, inl, inr}
+use Rattle.std.proofs.Common.{◌≡◌, ◌≢◌, ℕ, suc, ◌+◌, ◌-◌, ◌≤◌, ◌<◌, Bool, true, false, cond, eqb, refl, sym, ap, ◌∙◌, arith, inl, inr, ltb}
 use Rattle.std.proofs.lemmas.Bool.{cases_eq, cases_lt, lt-ltb, le-leb, le-ltb, lt-leb, eq-eqb, ne_eqb}
 use Rattle.std.specs.Int.Bits.{bit_xor, xor_zero_l}
 use Rattle.rq_algebra.specs.Systems.{sum_below}
@@ -87,9 +87,9 @@ coefficient-is : (row : TableRow) (i k : ℕ) → k < before_hdpc row → hdpc_c
 unfolding hdpc_coefficient
 coefficient-is row i k lt = rw (lt-ltb k (before_hdpc row) lt) refl
 
-pub hdpc-lt : (row : TableRow) (i k : ℕ) → k < before_hdpc row → hdpc_coefficient row i k < 256
-hdpc-lt row i k lt =
-    rw (coefficient-is row i k lt) (sum_below_size octets (before_hdpc row) (term row i k) (λ j l. octets.mul_below (mt row i j) (gamma j k)))
+pub hdpc-lt : (row : TableRow) (i k : ℕ) → hdpc_coefficient row i k < 256
+unfolding hdpc_coefficient
+hdpc-lt row i k = cond-lt (ltb k (before_hdpc row)) _ _ (sum_below_size octets (before_hdpc row) (term row i k) (λ j l. octets.mul_below (mt row i j) (gamma j k))) (one_if-lt _)
 
 -- column K' + S - 1 is that of MT
 pub hdpc-last : (row : TableRow) (i : ℕ) → 0 < before_hdpc row → hdpc_coefficient row i (before_hdpc row - 1) ≡ octet_power i
@@ -112,7 +112,7 @@ hdpc-step row i k lt =
     let own_sum : sum_below octets n (own row i k) ≡ mt row i k =
     sum_one octets n (own row i k) k (omega arith) (λ j l d. rw (ne_eqb j k d) refl) ∙ rw (eq-eqb k k refl) refl in
     let scaled : sum_below octets n (λ j. octets.mul 2 (term row i (k + 1) j)) ≡ octet_mul 2 next =
-    sum_mul octets n 2 (term row i (k + 1)) ∙ ap (octets.mul 2) (sym (coefficient-is row i (k + 1) lt)) ∙ alpha_mul next (hdpc-lt row i (k + 1) lt) in
+    sum_mul octets n 2 (term row i (k + 1)) ∙ ap (octets.mul 2) (sym (coefficient-is row i (k + 1) lt)) ∙ alpha_mul next (hdpc-lt row i (k + 1)) in
     coefficient-is row i k (omega arith)
     ∙ sum_same octets n (term row i k) (λ j. bit_xor (octets.mul 2 (term row i (k + 1) j)) (own row i k j)) (λ j l. term-step row i k j)
     ∙ sum_add octets n (λ j. octets.mul 2 (term row i (k + 1) j)) (own row i k)

@@ -4,22 +4,21 @@ use Rattle.std.specs.Prelude.{◌||◌}
 use Rattle.std.specs.List.{range_with_len}
 use Rattle.std.proofs.lemmas.Bool.{cases_lt, lt-ltb, le-ltb, ltb-true}
 use Rattle.std.proofs.lemmas.List.FromFn.{length-range_with_len, get_or-range_with_len}
-use Rattle.rq_algebra.specs.Systems.{sum_below, dot, Solves, at, stacked, rows_of}
+use Rattle.rq_algebra.specs.Systems.{dot, Solves, at, stacked, rows_of}
 use Rattle.rq_algebra.specs.Parities.{parity}
 use Rattle.rq_algebra.proofs.Stacks.{stacked_all, solves_stacked}
 use Rattle.rq_algebra.proofs.Solutions.{solves_same}
 use Rattle.rq_algebra.proofs.FewEquations.{few_rows}
 use Rattle.rq_algebra.proofs.Solutions.{homogeneous_not_determined}
-use Rattle.rq_algebra.proofs.Sums.{sum_below_size}
 use Rattle.rq_standard.specs.declared.row.TableRow.{TableRow}
 use Rattle.rq_standard.specs.OctetField.{octets}
 use Rattle.rq_standard.specs.TableRows.{intermediate_symbols, b_of, pi_symbols}
-use Rattle.rq_standard.specs.Equations.{precode_equations, symbol_coefficient, equations, equation_count, ldpc_coefficient, hdpc_coefficient, before_hdpc, mt, gamma, is_ldpc_row, row_indices, one_if, extended_ids}
+use Rattle.rq_standard.specs.Equations.{precode_equations, symbol_coefficient, equations, equation_count, ldpc_coefficient, hdpc_coefficient, is_ldpc_row, row_indices, one_if, extended_ids}
 use Rattle.rq_standard.specs.IdLists.{IsListOf, HasDeterminedRows}
 use Rattle.rq_standard.specs.Headline.{IsNonsingular, SolvesZeros, AreDetermined, known_ids, DetermineBlock}
 use Rattle.rq_standard.specs.Received.{HasSourceSymbols}
 use Rattle.rq_standard.specs.OctetProducts.{cond-lt}
-use Rattle.rq_standard.proofs.HdpcLaws.{one_if-lt}
+use Rattle.rq_standard.proofs.HdpcLaws.{one_if-lt, hdpc-lt}
 
 module _ (row : TableRow) (known : ℕ → Bool) (ids : List ℕ) (column : ℕ → ℕ) where
   both : Solves octets (equation_count row ids) (intermediate_symbols row) (equations row ids) column (stacked (row.ldpc_symbols + row.hdpc_symbols) (λ _. 0) (λ _. 0))
@@ -135,13 +134,6 @@ ldpc_below row m k =
     let two = eqb k (row.lt_symbols + m % pi_symbols row) || eqb k (row.lt_symbols + (m + 1) % pi_symbols row) in
     cond-lt (ltb k (b_of row)) (one_if ldpc_1) (cond (ltb k row.lt_symbols) (one_if own) (one_if two)) (one_if-lt ldpc_1) (cond-lt (ltb k row.lt_symbols) (one_if own) (one_if two) (one_if-lt own) (one_if-lt two))
 
-hdpc_below : (row : TableRow) (i k : ℕ) → hdpc_coefficient row i k < 256
-unfolding hdpc_coefficient
-hdpc_below row i k =
-    let own = eqb k (before_hdpc row + i) in
-    let product : ℕ → ℕ = λ j. octets.mul (mt row i j) (gamma j k) in
-    cond-lt (ltb k (before_hdpc row)) (sum_below octets (before_hdpc row) product) (one_if own) (sum_below_size octets (before_hdpc row) product (λ j l. octets.mul_below (mt row i j) (gamma j k))) (one_if-lt own)
-
 parity_below : (places : List ℕ) (k : ℕ) → parity places k < 256
 unfolding parity
 parity_below places k = omega arith
@@ -150,7 +142,7 @@ equations_below : (row : TableRow) (ids : List ℕ) (i k : ℕ) → equations ro
 equations_below row ids i k =
     let small : (ℕ → ℕ) → Type 0 = λ r. r k < 256 in
     stacked_all (row.ldpc_symbols + row.hdpc_symbols) (precode_equations row) (rows_of (symbol_coefficient row) ids) small
-    (λ m _. stacked_all row.ldpc_symbols (ldpc_coefficient row) (hdpc_coefficient row) small (λ n _. ldpc_below row n k) (λ n. hdpc_below row n k) m)
+    (λ m _. stacked_all row.ldpc_symbols (ldpc_coefficient row) (hdpc_coefficient row) small (λ n _. ldpc_below row n k) (λ n. hdpc-lt row n k) m)
     (λ j. parity_below (row_indices row (at ids j)) k) i
 
 -- fewer equations than intermediate symbols determine nothing
