@@ -1,10 +1,10 @@
 -- The blocks of an object in a list, in the order of their numbers.
-use Rattle.std.proofs.Common.{◌≡◌, ◌≢◌, ℕ, suc, ◌+◌, ◌<◌, Bool, true, false, List, [], ◌++◌, length, get_or, set, take, drop, map, All, Option, Some, None, Result, Ok, Err, refl, sym, ap, ◌∙◌, subst, arith, eq-eqb, append-nil, length-drop}
+use Rattle.std.proofs.Common.{◌≡◌, ◌≢◌, ℕ, suc, ◌+◌, ◌<◌, Bool, true, false, List, [], ◌++◌, length, get_or, set, take, map, All, Option, Some, None, Result, Ok, Err, refl, sym, ap, ◌∙◌, subst, arith, eq-eqb}
 use Rattle.std.specs.Prelude.{is_some, IsSome, option_map, unwrap_or, ltb, IfSome}
 use denote.Ref.{Bor}
 use Rattle.std.specs.List.{range_with_len}
 use Rattle.std.specs.Option.{option_copied}
-use Rattle.std.proofs.lemmas.List.{length-map, get_or-map, get_or-set_same, get_or-set_other, length-set, map-set, nil_from_length, take_all}
+use Rattle.std.proofs.lemmas.List.{length-map, get_or-map, get_or-set_same, get_or-set_other, length-set, map-set}
 use Rattle.std.proofs.Math.Seq.{map-set_same}
 use Rattle.std.proofs.lemmas.Bool.{ltb-true, ltb-false}
 use Rattle.std.proofs.lemmas.Simd.{map-map}
@@ -189,7 +189,3 @@ module _ (c : Configuration) (old new : List ObjectBlock) (received : map (λ b.
       let within : i < length old = omega (arith, below, same_length) in
       let is : received_of (get_or new i d).decoder ≡ received_of (get_or old i d).decoder = sym (get_or-map (λ b. received_of b.decoder) new i d (received_of d.decoder) below) ∙ ap (λ l. get_or l i (received_of d.decoder)) received ∙ get_or-map (λ b. received_of b.decoder) old i d (received_of d.decoder) within in
       subst P (sym is) (all i d within)
-
--- a list written over one of its length
-pub written_over : (n : ℕ) (new old : List ObjectBlock) → length new ≡ n → length old ≡ n → take n (new ++ drop (length new) old) ≡ new
-written_over n new old long was = ap (λ l. take n (new ++ l)) (nil_from_length (drop (length new) old) (omega (arith, length-drop (length new) old))) ∙ ap (take n) (append-nil new) ∙ take_all n new (omega (arith, long))

@@ -1,8 +1,8 @@
 -- How many ones rows have in active columns.
-use Rattle.std.proofs.Common.{◌≡◌, ℕ, zero, suc, ◌+◌, ◌<◌, ◌≤◌, ◌==◌, cond, Bool, true, false, List, [], ◌∷◌, ◌++◌, All, length, take, get_or, replicate, count_by, refl, sym, ap, ◌∙◌, arith, inl, inr, zero-add}
+use Rattle.std.proofs.Common.{◌≡◌, ℕ, zero, suc, ◌+◌, ◌<◌, ◌≤◌, ◌==◌, cond, true, List, [], ◌∷◌, ◌++◌, All, length, take, get_or, replicate, count_by, refl, sym, ap, ◌∙◌, arith, inl, inr, zero-add}
 use Rattle.std.specs.Prelude.{nat_lt, slice_index_or}
 use Rattle.std.specs.List.{Contains, sum_by, range_with_len}
-use Rattle.std.proofs.lemmas.Bool.{and_from, and_parts, cases_lt, ltb-true, lt-ltb, false_from_ne_true, true≢false}
+use Rattle.std.proofs.lemmas.Bool.{and_from, and_parts, cases_lt, ltb-true, lt-ltb, false_from_ne_true, eqb-true, eq-eqb}
 use Rattle.std.proofs.lemmas.Bool.Decides.{eqb_tells, nat_tests}
 use Rattle.std.proofs.lemmas.List.{length-append, get_or_push, take_all, take-append-le}
 use Rattle.std.proofs.lemmas.List.Elements.{All-contains}
@@ -10,6 +10,7 @@ use Rattle.std.proofs.lemmas.List.FromFn.{get_or-range_with_len}
 use Rattle.std.proofs.lemmas.List.Sums.{sum_by-append, sum_by_push, get_or-le-sum_by}
 use Rattle.std.proofs.Math.Bool.{and-true}
 use Rattle.std.proofs.Math.ListN.{get_or-append}
+use Rattle.std.specs.Cmp.{both_ways}
 use Rattle.rq_algebra.specs.Systems.{at}
 use Rattle.rq_peeling.specs.SystemRows.{one_in}
 use Rattle.rq_peeling.specs.ColumnRows.{ColumnLists, ListsColumns, rows_with}
@@ -20,20 +21,11 @@ use Rattle.rq_peeling.proofs.Counting.{count-replicate, count_contains, count_sa
 
 -- ---- tests
 
--- two tests that pass alike are the same
-pub bool_same : (a b : Bool) → (a ≡ true → b ≡ true) → (b ≡ true → a ≡ true) → a ≡ b
-bool_same true b to from = sym (to refl)
-bool_same false true to from = from refl
-bool_same false false to from = refl
-
 pub active_true : (state : ColumnState) (k : ℕ) → IsActive state k → is_active state k ≡ true
 active_true state k active = let from = active.from in let below = active.below in grind (arith, nat_tests, from, below)
 
 pub true_active : (state : ColumnState) (k : ℕ) → is_active state k ≡ true → IsActive state k
 true_active state k e = record { from = grind (arith, nat_tests, e); below = grind (arith, nat_tests, e) }
-
-pub not_both : (b : Bool) → b ≡ true → b ≡ false → ⊥
-not_both b e f = true≢false (sym e ∙ f)
 
 -- ---- a column's rows
 
@@ -73,7 +65,7 @@ active_split row old new column below inside active ends =
     count_split (is_active old) (is_active new) column row
     (λ k is d.
     let within = All-contains (λ (c : ℕ). c < length old.order) row k below is in
-    bool_same (is_active old k) (is_active new k) (λ e. active_true new k (ends.kept k within (true_active old k e) d)) (λ e. active_true old k (ends.left k within (true_active new k e)).0))
+    both_ways (is_active old k) (is_active new k) (λ e. active_true new k (ends.kept k within (true_active old k e) d)) (λ e. active_true old k (ends.left k within (true_active new k e)).0))
     (active_true old column active) (false_from_ne_true (is_active new column) (λ e. (ends.left column inside (true_active new column e)).1 refl))
 
 -- where a column isn't active any more, and its rows' degrees are lowered
@@ -100,12 +92,6 @@ none_behind row old new column below is active ends few k there still =
 
 -- ---- columns that are left
 
-zero_tested : (n : ℕ) → n ≡ 0 → (n == 0) ≡ true
-zero_tested n e = elim (eqb_tells n 0) [ inl is ↦ is.0 | inr is ↦ absurd (is.1 e) ]
-
-tested_zero : (n : ℕ) → (n == 0) ≡ true → n ≡ 0
-tested_zero n e = elim (eqb_tells n 0) [ inl is ↦ is.1 | inr is ↦ absurd (not_both (n == 0) e is.0) ]
-
 -- one more row is taken: what holds of each row beside those before it holds of each again
 pub each_taken_more : (P : ℕ → List ℕ → ℕ → Type 0) (taken : List ℕ) (row : ℕ) → ((p : ℕ) → p < length taken → P p (take p taken) (at taken p)) → P (length taken) taken row
     → (p : ℕ) → p < length (taken ++ row ∷ []) → P p (take p (taken ++ row ∷ [])) (at (taken ++ row ∷ []) p)
@@ -123,7 +109,7 @@ each_taken_more P taken row each is p l =
 active_first : (width lt_columns k : ℕ) → k < width → is_active (first_columns width lt_columns) k ≡ nat_lt k lt_columns
 active_first width lt_columns k l =
     let own : at (range_with_len 0 width) k ≡ k = get_or-range_with_len 0 width k 0 l ∙ zero-add k in
-    bool_same (is_active (first_columns width lt_columns) k) (nat_lt k lt_columns)
+    both_ways (is_active (first_columns width lt_columns) k) (nat_lt k lt_columns)
     (λ e. lt-ltb k lt_columns (rw own at (true_active (first_columns width lt_columns) k e).below))
     (λ e. active_true (first_columns width lt_columns) k (record { from = omega arith; below = rw own (ltb-true k lt_columns e) }))
 
@@ -136,19 +122,19 @@ module _ (lists : List (List ℕ)) (lt_columns : ℕ) (rows : List ℕ) (row : �
       let before = sum_by (λ r. one_in lists r k) rows in
       let after = sum_by (λ r. one_in lists r k) (rows ++ row ∷ []) in
       let more : after ≡ before + one_in lists row k = sum_by_push (λ r. one_in lists r k) rows row in
-      bool_same (is_left lists lt_columns (rows ++ row ∷ []) k) (is_active new k)
+      both_ways (is_left lists lt_columns (rows ++ row ∷ []) k) (is_active new k)
       (λ e.
       let both = and_parts (nat_lt k lt_columns) (after == 0) e in
-      let none = tested_zero after both.1 in
-      let was : is_left lists lt_columns rows k ≡ true = and_from (nat_lt k lt_columns) (before == 0) both.0 (zero_tested before (omega (arith, none, more))) in
+      let none = eqb-true after 0 both.1 in
+      let was : is_left lists lt_columns rows k ≡ true = and_from (nat_lt k lt_columns) (before == 0) both.0 (eq-eqb before 0 (omega (arith, none, more))) in
       active_true new k (takes.ends.kept k l (true_active old k (sym (left k l) ∙ was)) (λ is. let some = count_contains (ones_of lists row) k is in omega (arith, none, more, some))))
       (λ e.
       let active = true_active new k e in
       let was : is_left lists lt_columns rows k ≡ true = left k l ∙ active_true old k (takes.ends.left k l active).0 in
       let both = and_parts (nat_lt k lt_columns) (before == 0) was in
-      let none = tested_zero before both.1 in
+      let none = eqb-true before 0 both.1 in
       let absent = count_absent (ones_of lists row) k (λ is. (takes.ends.left k l active).1 is) in
-      and_from (nat_lt k lt_columns) (after == 0) both.0 (zero_tested after (omega (arith, more, none, absent))))
+      and_from (nat_lt k lt_columns) (after == 0) both.0 (eq-eqb after 0 (omega (arith, more, none, absent))))
 
   -- the row's pivot stands in a column that was left
   column_left : All (λ row. All (λ column. column < length old.order) row) lists → row < length lists → is_left lists lt_columns rows (at new.order old.pivots) ≡ true

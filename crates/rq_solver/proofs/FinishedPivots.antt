@@ -1,6 +1,6 @@
 -- The pivots' rows: some take back what they took, and all are finished one after another.
 use Rattle.std.proofs.Common.{◌≡◌, ◌≢◌, ℕ, ◌+◌, ◌<◌, ◌≤◌, ◌==◌, if◌then◌else◌, Bool, true, false, List, [], ◌++◌, All, Contains, get_or, length, sym, ap, ◌∙◌, arith, inl, inr}
-use Rattle.std.proofs.lemmas.Bool.{cases_eq, cases_lt}
+use Rattle.std.proofs.lemmas.Bool.{cases_eq, cases_lt, both_ways}
 use Rattle.std.proofs.lemmas.List.Elements.{All-append, All-nil, Contains-get_or}
 use Rattle.rq_algebra.specs.Operations.{Operation}
 use Rattle.rq_algebra.specs.Systems.{at}
@@ -16,7 +16,6 @@ use Rattle.rq_elimination.specs.RecordedRows.{Performs, Records}
 use Rattle.rq_elimination.specs.declared.recorded.RecordedRows.{RecordedRows}
 use Rattle.rq_elimination.specs.RowSteps.{AreRows, IsEchelon, rows_after}
 use Rattle.rq_elimination.proofs.Performing.{performs_none, performs_more, records_none, records_more}
-use Rattle.rq_peeling.proofs.ActiveOnes.{not_both}
 use Rattle.rq_elimination.proofs.StepColumns.{rows_after-none, rows_after-next}
 use Rattle.rq_solver.proofs.PivotsTaken.{own_and_taken, own_is_left}
 use Rattle.rq_solver.proofs.StepsToRows.{steps_to, sums_to}
@@ -86,7 +85,7 @@ module _ (lists : List (List ℕ)) (rows order places : List ℕ) (width : ℕ) 
         | inr d ↦ v.unmarked m p k (omega arith) l (sym (same p d) ∙ e)
       ];
       uncleared = λ m pivots p late l e. elim (cases_eq p q) [
-        | inl f ↦ absurd (not_both (get_or now p false) e (ap (λ (n : ℕ). get_or now n false) f ∙ unset))
+        | inl f ↦ absurd (both_ways (get_or now p false) (ap (λ (n : ℕ). get_or now n false) f ∙ unset) e)
         | inr d ↦ v.uncleared m pivots p (omega arith) l (sym (same p d) ∙ e)
       ];
     }
@@ -114,7 +113,7 @@ module _ (lists : List (List ℕ)) (rows order places : List ℕ) (width : ℕ) 
         within = All-append (IsStepTo (Contains rows)) v.steps taken.steps v.within (sums_to (Contains rows) (at rows q) (Contains-get_or rows q 0 in_rows) (length cur.table.rows) taken.steps taken.sums);
         elsewhere = λ m r k out. after_both m r k ∙ taken.elsewhere (rows_after octets v.steps m) r k (λ e. out q (omega arith) in_rows (sym e)) ∙ v.elsewhere m r k (λ p late l. out p (omega arith) l);
         unmarked = λ m p k late l e. elim (cases_eq p q) [
-          | inl f ↦ absurd (not_both (get_or now q false) yes (ap (λ (n : ℕ). get_or now n false) (sym f) ∙ e))
+          | inl f ↦ absurd (both_ways (get_or now q false) (ap (λ (n : ℕ). get_or now n false) (sym f) ∙ e) yes)
           | inr d ↦ other_stays m p k l d ∙ v.unmarked m p k (omega arith) l (sym (same p d) ∙ e)
         ];
         uncleared = λ m pivots p late l e. elim (cases_eq p q) [

@@ -1,5 +1,5 @@
 -- An elimination stays under way while phases record more.
-use Rattle.std.proofs.Common.{◌≡◌, ◌≢◌, ℕ, ◌+◌, ◌-◌, ◌<◌, ◌≤◌, List, ◌++◌, Contains, Vec, length, drop, take, sym, ap, ◌∙◌, arith, length-append}
+use Rattle.std.proofs.Common.{◌≡◌, ◌≢◌, ℕ, ◌+◌, ◌-◌, ◌<◌, ◌≤◌, List, ◌++◌, Contains, Vec, length, drop, take, sym, ap, ◌∙◌, arith}
 use Rattle.std.specs.Global.{Global}
 use Rattle.std.specs.List.Sorted.{IsPermutation}
 use Rattle.std.proofs.lemmas.List.{get_or_default, get_or-drop, length-drop, take_rest}
@@ -101,9 +101,6 @@ module _ (old new : Elimination) (keeps : KeepsPivots old new) (under : IsUnderW
     }
 
 -- ---- where stretches end, once the list is longer
-
-pub longer_by : (old new more : List Operation) → new ≡ old ++ more → length old ≤ length new
-longer_by old new more is = let long : length new ≡ length old + length more = ap length is ∙ length-append old more in omega (arith, long)
 
 module _ (ends : PhaseEnds) (n m : ℕ) (in_order : AreInOrder ends n) (longer : n ≤ m) where
   pub ends_kept : AreInOrder ends m

@@ -1,6 +1,7 @@
 use Rattle.std.proofs.Common.{◌≡◌, All, length, map, take, drop, ◌++◌, sym, ap, ◌∙◌, subst}
+use Rattle.std.proofs.Math.Seq.{take-append_seam}
 use Rattle.raptorq.specs.SourceBlockDecoder.{received_of}
-use Rattle.raptorq.proofs.ObjectBlocks.{block_number, same_length, same_numbers, same_each, IsCut, written_over}
+use Rattle.raptorq.proofs.ObjectBlocks.{block_number, same_length, same_numbers, same_each, IsCut}
 use Rattle.raptorq.proofs.decoder.object.Decoder.set_sparse_threshold.Goals as goal
 
 pub invariant_of-self : goal.invariant_of-self
@@ -9,7 +10,8 @@ invariant_of-self c =
     let items = s.blocks.items in
     let new = c.set_sparse_thresholds.new.blocks in
     let received : map (λ b. received_of b.decoder) new ≡ map (λ b. received_of b.decoder) items = c.set_sparse_thresholds.ensures.received ∙ ap (map (λ b. received_of b.decoder)) c.as_mut_slice.ensures.value in
-    let is : take s.blocks.len (new ++ drop (length new) items) ≡ new = written_over s.blocks.len new items (same_length s.config items new received ∙ sym s.blocks.ok.0) (sym s.blocks.ok.0) in
+    let is : take s.blocks.len (new ++ drop (length new) items) ≡ new =
+    ap (λ n. take n (new ++ drop (length new) items)) (s.blocks.ok.0 ∙ sym (same_length s.config items new received)) ∙ take-append_seam new (drop (length new) items) in
     record {
       positive = s.positive;
       aligned = s.aligned;

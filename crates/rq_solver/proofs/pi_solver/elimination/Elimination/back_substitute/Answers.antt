@@ -1,10 +1,11 @@
 -- What the check leaves to show of `pi_solver::elimination::Elimination::back_substitute`.
 use Rattle.std.proofs.Common.{◌≡◌, ◌-◌, length, drop, take, refl, ap, arith}
+use Rattle.std.proofs.lemmas.List.Prefix.{front_fits}
 use Rattle.rq_parts.specs.DenseOctetMatrix.{OctetTable}
 use Rattle.rq_solver.specs.Elimination.{inactive_count, left_rows}
 use Rattle.rq_solver.specs.SecondPhase.{SubstitutesBack}
 use Rattle.rq_solver.proofs.Substitution.{reduces_as}
-use Rattle.rq_solver.proofs.UnderWay.{ends_substituted, left_slice, longer_by, still_under_way}
+use Rattle.rq_solver.proofs.UnderWay.{ends_substituted, left_slice, still_under_way}
 use Rattle.rq_solver.proofs.pi_solver.elimination.Elimination.back_substitute.Goals as goal
 
 pub returns-clause-under_way : goal.returns-clause-under_way
@@ -16,7 +17,7 @@ returns-clause-under_way c =
     let now = c.substitute_rows.new.recorded in
     rw c.len-self.ensures
     (still_under_way e _ (record { peeling = refl; additions = refl; limit = refl }) under
-    (ends_substituted e.ends (length e.recorded.operations) (length now.operations) under.in_order (longer_by e.recorded.operations now.operations steps done.recorded)) steps done.recorded (ap (λ (t : OctetTable). length t.rows) done.table) (ap (λ (t : OctetTable). t.width) done.table) refl)
+    (ends_substituted e.ends (length e.recorded.operations) (length now.operations) under.in_order (front_fits now.operations e.recorded.operations steps done.recorded)) steps done.recorded (ap (λ (t : OctetTable). length t.rows) done.table) (ap (λ (t : OctetTable). t.width) done.table) refl)
 
 pub returns-clause-reduced : goal.returns-clause-reduced
 returns-clause-reduced c =

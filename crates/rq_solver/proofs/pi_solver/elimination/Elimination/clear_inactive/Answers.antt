@@ -2,13 +2,14 @@
 use Rattle.rq_solver.proofs.FinishedPivots.{finish_none, finish_plain, finish_again}
 use Rattle.std.proofs.Common.{◌≡◌, ◌≢◌, ◌+◌, ◌-◌, ◌<◌, ℕ, length, refl, ap, arith}
 use Rattle.std.proofs.lemmas.List.{get_or_read}
+use Rattle.std.proofs.lemmas.List.Prefix.{front_fits}
 use Rattle.rq_algebra.specs.Systems.{at}
 use Rattle.rq_elimination.specs.RecordedRows.{Records}
 use Rattle.rq_solver.specs.Elimination.{inactive_count, left_rows}
 use Rattle.rq_solver.proofs.CountLaws.{one_turn_more}
 use Rattle.rq_solver.proofs.TakenAgain.{sums_between, taken_between, taken_recorded}
 use Rattle.rq_parts.specs.DenseOctetMatrix.{OctetTable}
-use Rattle.rq_solver.proofs.UnderWay.{ends_kept, left_slice, longer_by, still_under_way}
+use Rattle.rq_solver.proofs.UnderWay.{ends_kept, left_slice, still_under_way}
 use Rattle.rq_solver.proofs.pi_solver.elimination.Elimination.clear_inactive.Goals as goal
 use Rattle.rq_solver.proofs.pi_solver.elimination.Elimination.clear_inactive.Goals.{then-sparse-place+in_ok-redo_additions, else-sparse-place}
 
@@ -98,4 +99,4 @@ returns-clause-under_way c =
     let done = v.records in
     let now = c.loop-place.recorded in
     still_under_way e _ (record { peeling = refl; additions = refl; limit = refl }) under
-    (ends_kept e.ends (length e.recorded.operations) (length now.operations) under.in_order (longer_by e.recorded.operations now.operations v.steps done.recorded)) v.steps done.recorded (ap (λ (t : OctetTable). length t.rows) done.table) (ap (λ (t : OctetTable). t.width) done.table) refl
+    (ends_kept e.ends (length e.recorded.operations) (length now.operations) under.in_order (front_fits now.operations e.recorded.operations v.steps done.recorded)) v.steps done.recorded (ap (λ (t : OctetTable). length t.rows) done.table) (ap (λ (t : OctetTable). t.width) done.table) refl

@@ -4,8 +4,9 @@ use Rattle.std.specs.List.Sorted.{IsPermutation}
 use Rattle.std.proofs.lemmas.List.{with_items_is}
 use Rattle.std.specs.Vec.{with_items}
 use borrow.Rule.Slice.PartMut.{put_mid, same_len_mid}
+use Rattle.std.proofs.lemmas.List.Prefix.{front_fits}
 use Rattle.rq_solver.specs.Elimination.{left_rows}
-use Rattle.rq_solver.proofs.UnderWay.{ends_eliminated, left_slice, longer_by, reordered_under_way}
+use Rattle.rq_solver.proofs.UnderWay.{ends_eliminated, left_slice, reordered_under_way}
 use Rattle.rq_solver.proofs.pi_solver.elimination.Elimination.eliminate.Goals as goal
 
 pub returns-clause-under_way : goal.returns-clause-under_way
@@ -26,5 +27,5 @@ returns-clause-under_way c =
     let permuted : IsPermutation (left_rows e) inactive_rows = subst (λ (l : List ℕ). IsPermutation l inactive_rows) left_is made.permuted in
     rw c.len-end.ensures
     (reordered_under_way e _ (record { peeling = refl; additions = refl; limit = refl }) under
-    (ends_eliminated e.ends (length e.recorded.operations) (length now.operations) under.in_order (longer_by e.recorded.operations now.operations made.steps.steps done.recorded)) made.steps.steps done.recorded done.height done.width pivots c.pivots-pivots.ensures inactive_rows
+    (ends_eliminated e.ends (length e.recorded.operations) (length now.operations) under.in_order (front_fits now.operations e.recorded.operations made.steps.steps done.recorded)) made.steps.steps done.recorded done.height done.width pivots c.pivots-pivots.ensures inactive_rows
     placed permuted made.rows)

@@ -1,8 +1,9 @@
 -- What the check leaves to show of `pi_solver::elimination::Elimination::sparsify`.
 use Rattle.std.proofs.Common.{◌≡◌, length, refl, arith}
 use Rattle.std.proofs.lemmas.List.{take_at}
+use Rattle.std.proofs.lemmas.List.Prefix.{front_fits}
 use Rattle.rq_solver.proofs.FinishedPivots.{takes_back_as}
-use Rattle.rq_solver.proofs.UnderWay.{ends_sparsified, longer_by, still_under_way}
+use Rattle.rq_solver.proofs.UnderWay.{ends_sparsified, still_under_way}
 use Rattle.rq_solver.proofs.pi_solver.elimination.Elimination.sparsify.Goals as goal
 
 pub returns-clause-under_way : goal.returns-clause-under_way
@@ -14,7 +15,7 @@ returns-clause-under_way c =
     let now = c.sparsify_rows.new.recorded in
     rw c.len-end.ensures
     (still_under_way e _ (record { peeling = refl; additions = refl; limit = refl }) under
-    (ends_sparsified e.ends (length e.recorded.operations) (length now.operations) under.in_order (longer_by e.recorded.operations now.operations steps done.recorded)) steps done.recorded done.height done.width refl)
+    (ends_sparsified e.ends (length e.recorded.operations) (length now.operations) under.in_order (front_fits now.operations e.recorded.operations steps done.recorded)) steps done.recorded done.height done.width refl)
 
 pub returns-clause-taken : goal.returns-clause-taken
 returns-clause-taken c =
