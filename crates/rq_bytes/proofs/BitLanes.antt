@@ -180,7 +180,7 @@ byte_bits (suc octet) word i l =
     ∙ ap (λ x. x % 2) (shr-shr word (8 * suc octet) i)
 
 -- the bits of its octets
-pub bytes_bits : (word k : ℕ) → k < 64 → octet_bit (to_le_bytes w64 word) k ≡ bit_at word k
+bytes_bits : (word k : ℕ) → k < 64 → octet_bit (to_le_bytes w64 word) k ≡ bit_at word k
 bytes_bits word k l =
     let there : 8 * (0 + k / 8) + k % 8 ≡ k = omega arith in
     ap (λ x. bit_at x (k % 8)) (byte_of 0 8 (k / 8) word (omega arith))

@@ -1,5 +1,5 @@
 -- Rows of which some are packed bits, and the others octets.
-use Rattle.std.proofs.Common.{◌≡◌, ◌≢◌, ℕ, ◌*◌, ◌%◌, ◌<◌, ◌≤◌, ◌^◌, List, [], ◌∷◌, length, set, replicate, get_or, refl, sym, ap, subst, ◌∙◌, arith, inl, inr}
+use Rattle.std.proofs.Common.{◌≡◌, ◌≢◌, ℕ, ◌*◌, ◌<◌, ◌≤◌, ◌^◌, List, [], ◌∷◌, length, set, replicate, get_or, refl, sym, ap, subst, ◌∙◌, arith, inl, inr}
 use Rattle.std.proofs.lemmas.Bool.{cases_eq}
 use Rattle.std.proofs.lemmas.List.{ext_get_or, get_or-set_same, get_or-set_other, get_or-replicate, set-get_or, set-set, length-replicate, length-set}
 use Rattle.std.proofs.lemmas.List.Elements.{All-set, All-from_get_or}
@@ -80,7 +80,6 @@ module _ (width : ℕ) (bits owns : List (List ℕ)) (are : AreEntries width bit
     rows_are : (words own : List ℕ) → length words ≡ word_count width → IsOctetRow width (entry_row width words own) → AreEntries width (set bits i words) (set owns i own)
     rows_are words own long row = record {
       narrow = are.narrow;
-      whole = are.whole;
       height = length-set owns i own ∙ are.height ∙ sym (length-set bits i words);
       words = All-set (λ w. length w ≡ word_count width) bits i words long are.words;
       rows = rw (rows_with width bits owns are.height i inside words own) (All-set (IsOctetRow width) (entry_rows width bits owns) i _ row are.rows);
@@ -126,12 +125,11 @@ zero_rows width height size owns is =
     ∙ octets_of_bits-zeros width size
     ∙ sym (get_or-replicate height k (replicate width 0) [] inside))
 
-pub zeros_are : (width height : ℕ) → width < 2 ^ 17 → width % 32 ≡ 0 → (owns : List (List ℕ)) → owns ≡ replicate height [] → AreEntries width (replicate height (replicate (word_count width) 0)) owns
-zeros_are width height narrow whole owns is =
+pub zeros_are : (width height : ℕ) → width < 2 ^ 17 → (owns : List (List ℕ)) → owns ≡ replicate height [] → AreEntries width (replicate height (replicate (word_count width) 0)) owns
+zeros_are width height narrow owns is =
     let size = word_count width in
     record {
       narrow = narrow;
-      whole = whole;
       height = ap length is ∙ length-replicate {A = List ℕ} height [] ∙ sym (length-replicate {A = List ℕ} height (replicate size 0));
       words = All-from_get_or (λ w. length w ≡ size) (replicate height (replicate size 0)) [] (λ i l.
           let inside : i < height = omega (arith, length-replicate {A = List ℕ} height (replicate size 0)) in

@@ -27,7 +27,6 @@ entry_rows width bits octets = zip2 (entry_row width) bits octets
 -- the words of as many bits as there are columns, and octets for as many rows
 pub record AreEntries (width : ℕ) (bits octets : List (List ℕ)) : Type 0 where
   pub narrow : width < 2 ^ 17
-  pub whole : width % 32 ≡ 0
   pub height : length octets ≡ length bits
   pub words : All (λ row. length row ≡ word_count width) bits
   pub rows : All (IsOctetRow width) (entry_rows width bits octets)

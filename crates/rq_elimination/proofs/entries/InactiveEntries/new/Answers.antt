@@ -10,7 +10,7 @@ pub invariant_of-result : goal.invariant_of-result
 invariant_of-result c =
     let own = c.in_ok-new.field-0 in
     subst (λ (bits : List (List ℕ)). AreEntries own.width bits own.rows) (sym c.in_ok-zeros.ensures)
-    (rw c.in_ok-new.ensures.none (zeros_are c.args.width c.args.height c.requires.narrow c.requires.whole (replicate c.args.height []) refl))
+    (rw c.in_ok-new.ensures.none (zeros_are c.args.width c.args.height c.requires.narrow (replicate c.args.height []) refl))
 
 pub returns-clause-zeros : goal.returns-clause-zeros
 returns-clause-zeros c =
