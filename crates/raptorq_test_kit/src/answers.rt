@@ -6,28 +6,26 @@ use raptorq::{
 };
 use std::alloc::Global;
 
-/// After how many packets a decoder answers the wanted object; 0 for never, and `None` where it
-/// answers another one.
+/// How many packets there are, and after how many of them a decoder answers the wanted object; 0 for
+/// never, and `None` where it answers another one.
 pub fn answered(
     alloc: Global,
     table: &SystematicTable,
     config: ObjectTransmissionInformation,
     wanted: &[u8],
     packets: Vec<EncodingPacket>,
-) -> Result<Option<usize>, Error> {
+) -> Result<(usize, Option<usize>), Error> {
+    let length = packets.len();
     let mut decoder = Decoder::new(alloc, table, config)?;
     let mut count: usize = 0;
     for packet in packets {
         count = count.saturating_add(1);
         if let Some(answer) = decoder.decode(packet)? {
-            return Ok(if answer.as_slice() == wanted {
-                Some(count)
-            } else {
-                None
-            });
+            let is_wanted = answer.as_slice() == wanted;
+            return Ok((length, is_wanted.then_some(count)));
         }
     }
-    Ok(Some(0))
+    Ok((length, Some(0)))
 }
 
 /// What a decoder of block 0 answers to each of some packets, with one sparse threshold set before

@@ -6,11 +6,11 @@ use std::alloc::{AllocError, Global};
 /// In how many rounds calls are tried while memory is given back.
 pub const ROUNDS: usize = 512;
 
-/// What is given back at last, in bytes.
-pub const RESERVE: usize = 65536;
+// What is given back at last, in bytes.
+const RESERVE: usize = 65536;
 
-/// How many bytes more each round leaves: in all of them nearly the reserve.
-pub const MORE: usize = 127;
+// How many bytes more each round leaves: in all of them nearly the reserve.
+const MORE: usize = 127;
 
 // How many blocks of memory can be taken.
 const ROOM: usize = 1 << 20;
@@ -126,13 +126,13 @@ impl Endings {
         }
     }
 
-    /// Whether some calls were refused memory and some answered, and none ended otherwise.
-    pub fn are_both(&self) -> bool {
+    // Whether some calls were refused memory and some answered, and none ended otherwise.
+    fn are_both(&self) -> bool {
         self.refused > 0 && self.answered > 0 && self.others == 0
     }
 
-    /// Counts a call.
-    pub fn add(&mut self, ended: Ending) {
+    // Counts a call.
+    fn add(&mut self, ended: Ending) {
         match ended {
             Ending::Answered => self.answered = self.answered.saturating_add(1),
             Ending::Refused => self.refused = self.refused.saturating_add(1),
@@ -141,8 +141,15 @@ impl Endings {
     }
 }
 
-/// Whether each of some calls was refused memory, and answered, and never ended otherwise.
-pub fn are_all_both(endings: &[Endings]) -> bool {
+// Counts how calls ended.
+fn add_all(endings: &mut [Endings], ended: &[Ending]) {
+    for (endings, ending) in endings.iter_mut().zip(ended) {
+        endings.add(*ending);
+    }
+}
+
+// Whether each of some calls was refused memory, and answered, and never ended otherwise.
+fn are_all_both(endings: &[Endings]) -> bool {
     for ended in endings {
         if !ended.are_both() {
             return false;
@@ -151,10 +158,25 @@ pub fn are_all_both(endings: &[Endings]) -> bool {
     true
 }
 
-/// Gives the memory back. Answers whether all of it could be taken, and each of some calls was
-/// refused some and answered where there was enough.
-pub fn is_swept(shortage: Shortage, endings: &[Endings]) -> bool {
+/// Calls that are tried together, round by round.
+pub trait Attempts<const N: usize> {
+    /// Tries each of them once.
+    fn attempts(&mut self) -> [Ending; N];
+}
+
+/// Tries calls while memory is given back, and counts how they ended. Answers whether all of it could
+/// be taken, and each of them was refused some and answered where there was enough.
+pub fn is_swept<const N: usize, A: Attempts<N>>(
+    alloc: Global,
+    calls: &mut A,
+    endings: &mut [Endings; N],
+) -> Result<bool, AllocError> {
+    let mut shortage = Shortage::new(alloc, ROUNDS, RESERVE)?;
+    for _ in 0..ROUNDS {
+        add_all(endings.as_mut_slice(), calls.attempts().as_slice());
+        shortage.ease(MORE);
+    }
     let is_whole = shortage.is_whole();
     drop(shortage);
-    is_whole && are_all_both(endings)
+    Ok(is_whole && are_all_both(endings.as_slice()))
 }

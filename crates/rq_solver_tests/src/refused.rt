@@ -5,9 +5,8 @@ use rq_bytes::error::Error;
 use rq_bytes::operation_vector::SymbolOps;
 use rq_bytes::symbol_slab::SymbolSlab;
 use rq_matrix::matrix::DenseBinaryMatrix;
-use rq_memory_kit::{Ending, Endings, MORE, RESERVE, ROUNDS, Shortage};
+use rq_memory_kit::{Attempts, Ending, Endings, ROUNDS, is_swept};
 use rq_solver::pi_solver::IntermediateSymbolDecoder;
-use std::process::Abort;
 
 // How a slab with a solution is read: that takes memory too.
 fn reading(slab: SymbolSlab) -> Ending {
@@ -50,26 +49,31 @@ fn runs_once(solver: &mut IntermediateSymbolDecoder<DenseBinaryMatrix>) -> Endin
     }
 }
 
+// Solvers that weren't run yet, one for each attempt.
+#[derive(Drop)]
+struct Solvers {
+    left: Vec<IntermediateSymbolDecoder<DenseBinaryMatrix>>,
+}
+
+impl Attempts<1> for Solvers {
+    fn attempts(&mut self) -> [Ending; 1] {
+        match self.left.pop() {
+            Some(mut solver) => [runs_once(&mut solver)],
+            None => [Ending::Other],
+        }
+    }
+}
+
 #[test]
 fn solvers_are_refused_memory_in_turn(rt: HostRuntime) -> Result<(), Error> {
-    let alloc = rt.alloc();
-    let mut solvers = Vec::new(alloc);
+    let mut left = Vec::new(rt.alloc());
     for _ in 0..ROUNDS + 1 {
-        solvers.push(mirrored_solver(&rt, alloc)?)?;
+        left.push(mirrored_solver(&rt, rt.alloc())?)?;
     }
-    let mut endings = Endings::new();
-    let mut shortage = Shortage::new(alloc, ROUNDS, RESERVE)?;
-    for _ in 0..ROUNDS {
-        if let Some(mut solver) = solvers.pop() {
-            endings.add(runs_once(&mut solver));
-        }
-        shortage.ease(MORE);
-    }
-    let is_whole = shortage.is_whole();
-    drop(shortage);
-    holds!(rt; is_whole);
-    holds!(rt; endings.are_both(), endings);
-    let mut last = solvers.pop().expect(&rt, "no solver is left");
-    same!(rt; runs_once(&mut last), Ending::Answered);
+    let mut solvers = Solvers { left };
+    let mut endings = [Endings::new(); 1];
+    let is_swept = is_swept(rt.alloc(), &mut solvers, &mut endings)?;
+    holds!(rt; is_swept, endings.as_slice());
+    same!(rt; solvers.attempts(), [Ending::Answered]);
     Ok(())
 }

@@ -8,7 +8,7 @@ use raptorq::error::Error;
 use raptorq::{Decoder, EncodingPacket};
 use raptorq_test_kit::configurations::configured;
 use raptorq_test_kit::packets::packet;
-use rq_memory_kit::{Ending, Endings, MORE, RESERVE, ROUNDS, Shortage, is_swept};
+use rq_memory_kit::{Attempts, Ending, Endings, ROUNDS, Shortage, is_swept};
 use std::alloc::Global;
 use std::process::Abort;
 
@@ -30,8 +30,9 @@ impl Encoders {
             plans: Plans::new(alloc)?,
         })
     }
+}
 
-    // Each call once.
+impl Attempts<5> for Encoders {
     fn attempts(&mut self) -> [Ending; 5] {
         [
             self.rows.attempt(),
@@ -43,23 +44,12 @@ impl Encoders {
     }
 }
 
-// Counts how calls ended.
-fn add_all(endings: &mut [Endings], ended: &[Ending]) {
-    for (endings, ending) in endings.iter_mut().zip(ended) {
-        endings.add(*ending);
-    }
-}
-
 #[test]
 fn encoders_are_refused_memory_in_turn(rt: HostRuntime) -> Result<(), Error> {
     let mut encoders = Encoders::new(rt.alloc())?;
     let mut endings = [Endings::new(); 5];
-    let mut shortage = Shortage::new(rt.alloc(), ROUNDS, RESERVE)?;
-    for _ in 0..ROUNDS {
-        add_all(&mut endings, &encoders.attempts());
-        shortage.ease(MORE);
-    }
-    holds!(rt; is_swept(shortage, endings.as_slice()), endings.as_slice());
+    let is_swept = is_swept(rt.alloc(), &mut encoders, &mut endings)?;
+    holds!(rt; is_swept, endings.as_slice());
     same!(rt; encoders.attempts(), [Ending::Answered; 5]);
     Ok(())
 }
@@ -84,8 +74,9 @@ impl Decoders {
             results,
         })
     }
+}
 
-    // Each call once.
+impl Attempts<4> for Decoders {
     fn attempts(&mut self) -> [Ending; 4] {
         [
             self.blocks.attempt(),
@@ -103,12 +94,8 @@ fn decoders_are_refused_memory_in_turn(rt: HostRuntime) -> Result<(), Error> {
     let late = late(&rt, rt.alloc(), &packets[2..11], &packets[11])?;
     let mut decoders = Decoders::new(rt.alloc(), late)?;
     let mut endings = [Endings::new(); 4];
-    let mut shortage = Shortage::new(rt.alloc(), ROUNDS, RESERVE)?;
-    for _ in 0..ROUNDS {
-        add_all(&mut endings, &decoders.attempts());
-        shortage.ease(MORE);
-    }
-    holds!(rt; is_swept(shortage, endings.as_slice()), endings.as_slice());
+    let is_swept = is_swept(rt.alloc(), &mut decoders, &mut endings)?;
+    holds!(rt; is_swept, endings.as_slice());
     same!(rt; decoders.attempts(), [Ending::Answered; 4]);
     Ok(())
 }

@@ -83,16 +83,14 @@ fn answer_with_losses(
     lost: u64,
 ) -> Result<(usize, Option<usize>), Error> {
     let received = received(alloc, packets(alloc, table, config)?, seed, lost)?;
-    let length = received.len();
     let object = object(alloc, config.0)?;
-    let answer = answered(
+    answered(
         alloc,
         table,
         information(config)?,
         object.as_slice(),
         received,
-    )?;
-    Ok((length, answer))
+    )
 }
 
 #[test]
