@@ -128,7 +128,7 @@ source_count b = length (block_encoded_of b).source
 
 module _ (table : List TableRow) (c : Configuration) (object : List ℕ) (items : List SourceBlockEncoder) (encoded : map block_encoded_of items ≡ map (new_block_encoded table c object) (range_with_len 0 c.source_blocks)) where
   pub new_counts : map source_count items ≡ map (block_symbols c) (range_with_len 0 c.source_blocks)
-  new_counts = mapped_through block_encoded_of (new_block_encoded table c object) c.source_blocks items encoded (λ b. length b.source) ∙ (λ i. map (λ b. length-block_source c object b i) (range_with_len 0 c.source_blocks))
+  new_counts = mapped_through (λ b. length b.source) block_encoded_of (new_block_encoded table c object) items (range_with_len 0 c.source_blocks) encoded ∙ (λ i. map (λ b. length-block_source c object b i) (range_with_len 0 c.source_blocks))
 
   pub new_block : (b : ℕ) → b < c.source_blocks → (d : BlockEncoded) → get_or (map block_encoded_of items) b d ≡ new_block_encoded table c object b
   new_block b below d = ap (λ l. get_or l b d) encoded ∙ get_or-map-range_with_len (new_block_encoded table c object) 0 c.source_blocks b b d below (omega arith)

@@ -1,15 +1,15 @@
 -- An object of one block and its source packets.
-use Rattle.std.proofs.Common.{◌≡◌, ℕ, ◌+◌, ◌-◌, ◌<◌, ◌≤◌, ◌^◌, List, [], ◌∷◌, ◌++◌, All, length, get_or, map, Option, Result, Ok, refl, sym, ap, ◌∙◌, subst, arith, inl, inr}
+use Rattle.std.proofs.Common.{◌≡◌, ℕ, ◌+◌, ◌-◌, ◌<◌, ◌≤◌, ◌^◌, List, [], ◌∷◌, ◌++◌, All, length, get_or, map, Option, Ok, refl, sym, ap, ◌∙◌, subst, arith, inl, inr}
 use Rattle.std.specs.List.{range_with_len}
 use Rattle.std.proofs.lemmas.Bool.{cases_lt, lt-ltb}
 use Rattle.std.proofs.lemmas.List.{get_or_past, length-replicate, map-append, get_or_default}
 use Rattle.std.proofs.lemmas.List.Elements.{All-get_or}
 use Rattle.std.proofs.lemmas.List.FromFn.{map-range_with_len_more}
 use Rattle.rq_algebra.specs.Operations.{meant_at}
-use Rattle.rq_bytes.specs.declared.error.Error.{Error}
 use Rattle.rq_bytes.specs.SymbolSlab.{symbol_in}
 use Rattle.rq_standard.specs.Packet.{SymbolId, Packet}
 use Rattle.rq_base.specs.RefusedInput.{new_id}
+use Rattle.rq_base.proofs.Accepted.{ok_of, same_ok}
 use Rattle.rq_standard.specs.Configuration.{Configuration}
 use Rattle.rq_standard.specs.declared.row.TableRow.{TableRow}
 use Rattle.rq_standard.specs.TableRows.{IsChecked}
@@ -22,23 +22,17 @@ use Rattle.raptorq.specs.SourceBlockEncoder.{BlockEncoded, IsBlockPacket, AreBlo
 use Rattle.raptorq.proofs.ReceivedEquations.{internal_below}
 use Rattle.rq_standard.specs.Headline.{IsOnlyIntermediateColumn, IsEncodingSymbol}
 
-abbrev made : SymbolId → Result SymbolId Error
-made i = Ok i
-
-id_of : (i j : SymbolId) → made i ≡ made j → i ≡ j
-id_of i j e = cc
-
 pub new_id-is : (b e : ℕ) (i : SymbolId) → e < 2 ^ 24 → new_id b e ≡ Ok i → i ≡ record { block = b; esi = e }
 new_id-is b e i small h =
     let ok : new_id b e ≡ Ok (record { block = b; esi = e }) = rw (lt-ltb e (2 ^ 24) small) refl in
-    id_of i (record { block = b; esi = e }) (sym h ∙ ok)
+    same_ok i (record { block = b; esi = e }) (sym h ∙ ok)
 
 -- and where the object has the block, it is the id that was asked for
 pub new_id-in : (c : Configuration) (n e : ℕ) (i : SymbolId) → i.block < c.source_blocks → e < 2 ^ 24 → n ≡ i.block → e ≡ i.esi → new_id n e ≡ id_in c i
 new_id-in c n e i below small number esi =
-    let new : new_id n e ≡ made (record { block = n; esi = e }) = rw (lt-ltb e (2 ^ 24) small) refl in
-    let known : id_in c i ≡ made i = rw (lt-ltb i.block c.source_blocks below) refl in
-    new ∙ (λ j. made (record { block = number j; esi = esi j })) ∙ sym known
+    let new : new_id n e ≡ ok_of {X = SymbolId} (record { block = n; esi = e }) = rw (lt-ltb e (2 ^ 24) small) refl in
+    let known : id_in c i ≡ ok_of i = rw (lt-ltb i.block c.source_blocks below) refl in
+    new ∙ (λ j. ok_of {X = SymbolId} (record { block = number j; esi = esi j })) ∙ sym known
 
 -- ---- packets of a block
 

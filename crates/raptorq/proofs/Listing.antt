@@ -1,5 +1,5 @@
 -- The entries of a map of payloads, listed as ids and values.
-use Rattle.std.proofs.Common.{◌≡◌, ℕ, ◌+◌, ◌-◌, ◌<◌, ◌≤◌, true, List, [], ◌∷◌, ◌++◌, All, length, map, replicate, Some, Result, Ok, Vec, Global, refl, sym, ap, ◌∙◌, arith, append_assoc, vec_items}
+use Rattle.std.proofs.Common.{◌≡◌, ℕ, ◌+◌, ◌-◌, ◌<◌, ◌≤◌, true, List, [], ◌∷◌, ◌++◌, All, length, map, replicate, Some, Vec, Global, refl, sym, ap, ◌∙◌, arith, append_assoc, vec_items}
 use Rattle.std.specs.Prelude.{is_some, option_map}
 use Rattle.std.specs.List.{slice_get, range_with_len}
 use Rattle.std.specs.Ordering.{nat_cmp}
@@ -11,8 +11,6 @@ use Rattle.std.proofs.lemmas.List.Elements.{All-cons, All-map, All-nil}
 use Rattle.std.proofs.lemmas.List.FromFn.{length-range_with_len}
 use Rattle.std.proofs.lemmas.Map.Entries.{btree_map_get_place}
 use Rattle.std.proofs.lemmas.Map.Views.{length-le_from_below}
-use Rattle.rq_bytes.specs.declared.error.Error.{Error}
-use Rattle.rq_bytes.specs.SymbolSlab.{Slab}
 use Rattle.rq_standard.specs.declared.row.TableRow.{TableRow}
 use Rattle.rq_standard.specs.Equations.{zero_symbol, internal_id}
 use Rattle.raptorq.specs.Known.{known_list, known_values}
@@ -56,9 +54,3 @@ pub length-known_values : (row : TableRow) (k precode_rows size : ℕ) (done : L
 length-known_values row k precode_rows size done =
     let zeros : ℕ = precode_rows + (row.extended_symbols - k) in
     length-append (replicate zeros (zero_symbol size)) (map (λ e. e.1.items) done) ∙ omega (arith, length-replicate zeros (zero_symbol size), length-map done (λ e. e.1.items), length-known_list row k done)
-
-abbrev slab_made : Slab → Result Slab Error
-slab_made s = Ok s
-
-pub slab_answered : (x y : Slab) → slab_made x ≡ slab_made y → y ≡ x
-slab_answered x y e = cc

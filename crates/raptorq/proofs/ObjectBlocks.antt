@@ -7,7 +7,6 @@ use Rattle.std.specs.Option.{option_copied}
 use Rattle.std.proofs.lemmas.List.{length-map, get_or-map, get_or-set_same, get_or-set_other, length-set, map-set}
 use Rattle.std.proofs.Math.Seq.{map-set_same}
 use Rattle.std.proofs.lemmas.Bool.{ltb-true, ltb-false}
-use Rattle.std.proofs.lemmas.Simd.{map-map}
 use Rattle.std.proofs.lemmas.List.FromFn.{get_or-map-range_with_len}
 use Rattle.rq_standard.specs.declared.row.TableRow.{TableRow}
 use Rattle.rq_standard.specs.Packet.{Packet}
@@ -25,7 +24,7 @@ use Rattle.raptorq.specs.Refused.{block_refusal}
 use Rattle.raptorq.specs.Stopping.{AddsHereOrStops, AddsOrStops}
 use Rattle.raptorq.specs.declared.decoder.packet_stop.PacketStop.{PacketStop}
 use Rattle.raptorq.specs.declared.decoder.packet_stop.PacketStop.TheVariants.{Refused, NotRecorded, NotSolved, Contradicted, NotJoined}
-use Rattle.raptorq.proofs.Numbered.{length-mapped, length-numbered}
+use Rattle.raptorq.proofs.Numbered.{length-mapped, length-numbered, mapped_through}
 use Rattle.raptorq.specs.declared.decoder.object.ObjectBlock.{ObjectBlock}
 
 abbrev pub block_number : ObjectBlock → ℕ
@@ -181,7 +180,7 @@ module _ (c : Configuration) (old new : List ObjectBlock) (received : map (λ b.
   same_length = sym (length-map new (λ b. received_of b.decoder)) ∙ ap length received ∙ length-map old (λ b. received_of b.decoder)
 
   pub same_numbers : map block_number new ≡ map block_number old
-  same_numbers = sym (map-map (λ h. h.number) (λ b. received_of b.decoder) new) ∙ ap (map (λ h. h.number)) received ∙ map-map (λ h. h.number) (λ b. received_of b.decoder) old
+  same_numbers = mapped_through (λ h. h.number) (λ b. received_of b.decoder) (λ b. received_of b.decoder) new old received
 
   -- what each old one is, each new one is
   pub same_each : (P : ReceivedBlock → Type 0) → All (λ b. P (received_of b.decoder)) old → All (λ b. P (received_of b.decoder)) new

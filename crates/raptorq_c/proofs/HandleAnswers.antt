@@ -13,6 +13,7 @@ use Rattle.rq_standard.specs.DecoderSteps.{StopsEarly}
 use Rattle.rq_standard.specs.Standing.{LeavesBlockLate}
 use Rattle.rq_standard.specs.Streams.{frame_size, frames_in}
 use Rattle.rq_base.specs.RefusedInput.{read_packet}
+use Rattle.rq_base.proofs.Accepted.{ok_of}
 use Rattle.raptorq.specs.Refused.{packet_refusal, IsPacketRefusal}
 use Rattle.raptorq.specs.Runs.{IsRunRefusal, AnswersRun}
 use Rattle.raptorq.specs.TakesPacket.{TakesPacket}
@@ -26,7 +27,7 @@ use Rattle.raptorq_c.specs.Handles.{bytes_refusal, FillsWithAnswer, FillsWithBlo
 use Rattle.raptorq_c.specs.Numbers.{number_of, refusal_number}
 use Rattle.raptorq_c.proofs.Ending.{code_positive, code_small, is_memory, is_stopped}
 use Rattle.raptorq_c.proofs.PacketFrames.{packet_read}
-use Rattle.raptorq_c.proofs.Tables.{held_table, refused_over, row_refused}
+use Rattle.raptorq_c.proofs.Tables.{refused_over, row_refused}
 
 -- a buffer is filled with an answer, of which P
 pub answered_by : (P : Option (List ℕ) → Type 0) (answer : Option (List ℕ)) (number : ℕ) (before after : List ℕ) → P answer → Answered number before after (λ r. r ≡ answer) → Answered number before after P
@@ -163,7 +164,7 @@ refused_row rows header bytes e (inr is) =
     let r : Result (Unit {0}) Error = Err e in
     inr (r, row_refused (λ t. IsPacketsRefusal t header bytes r) (λ d. r ≡ Err d) (table_of rows) e is refl, inr refl)
 
-module _ (rows : List Row) (table : List TableRow) (header bytes : List ℕ) (made : table_of rows ≡ held_table table) where
+module _ (rows : List Row) (table : List TableRow) (header bytes : List ℕ) (made : table_of rows ≡ ok_of table) where
   over : (r : Result (Unit {0}) Error) → IsPacketsRefusal table header bytes r → IsDecodingRefusal rows header bytes r
   over r is = refused_over (λ t _. IsPacketsRefusal t header bytes r) (λ e. r ≡ Err e) (table_of rows) table (configuration_of_bytes header) (configuration_of_bytes header) made refl is
 

@@ -15,7 +15,7 @@ use Rattle.rq_standard.specs.TableRows.{IsTable, greatest_size}
 use Rattle.rq_standard.proofs.BlockCuts.{symbols_before-first, symbols_before-next, symbols_before-all}
 use Rattle.rq_standard.proofs.BlockRows.{block_has_row}
 use Rattle.rq_base.specs.RefusedInput.{checked_configuration}
-use Rattle.rq_base.proofs.Accepted.{both_ok, accepted_by}
+use Rattle.rq_base.proofs.Accepted.{both_ok, ok_of, accepted_by}
 use Rattle.rq_bytes.specs.Refusals.{and_then}
 use Rattle.raptorq.specs.Appended.{AppendsObject}
 use Rattle.raptorq.specs.Encoder.{packets_length}
@@ -63,11 +63,8 @@ module _ (c : Configuration) where
         sym (length-map h.packets (λ (p : Packet). p.id)) ∙ ap length h.encoded.ids ∙ count-ids repair z (omega arith) ∙ ap (λ n. n + z * repair) (symbols_before-all c accepted.blocks_positive) in
         ap length h.grown ∙ frames_long h.packets (each_long accepted h.packets h.encoded.each) ∙ ap (λ n. n * frame_size c) count
 
-abbrev pub wanted : ℕ → Result ℕ Error
-wanted n = Ok n
-
 -- so the call that says how many says this
-pub packets_room : (rows : List Row) (header object : List ℕ) (repair : ℕ) (bytes : List ℕ) → IsEncoding rows header object repair bytes → bytes_of_packets rows header repair ≡ wanted (length bytes)
+pub packets_room : (rows : List Row) (header object : List ℕ) (repair : ℕ) (bytes : List ℕ) → IsEncoding rows header object repair bytes → bytes_of_packets rows header repair ≡ ok_of (length bytes)
 packets_room rows header object repair bytes h =
     let c = configuration_of_bytes header in
     let found = table_in (λ t. AppendsObject t c object repair [] bytes) (table_of rows) h in
@@ -75,4 +72,4 @@ packets_room rows header object repair bytes h =
     let appended = found.2 in
     let checked : checked_header rows header ≡ Ok tt =
     ap (λ (r : Result (List TableRow) Error). and_then r (λ t. checked_configuration (greatest_size t) c)) found.1 ∙ (both_ok (checked_configuration (greatest_size table) c) _ tt appended.taken).1 in
-    rw (checked, appended.enough) (ap wanted (sym (encoding_length c table (table_checked (map numbers_of rows) table found.1) object repair bytes appended)))
+    rw (checked, appended.enough) (ap ok_of (sym (encoding_length c table (table_checked (map numbers_of rows) table found.1) object repair bytes appended)))

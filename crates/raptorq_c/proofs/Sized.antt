@@ -1,5 +1,5 @@
 -- What the calls on lengths answer.
-use Rattle.std.proofs.Common.{◌≡◌, ℕ, ◌<◌, Bool, true, false, cond, eqb, ltb, List, length, Result, Ok, Err, refl, sym, ap, ◌∙◌, subst}
+use Rattle.std.proofs.Common.{◌≡◌, ℕ, ◌<◌, cond, eqb, ltb, List, length, Result, Ok, Err, refl, sym, ap, ◌∙◌, subst}
 use Rattle.std.proofs.lemmas.Bool.{lt-ltb}
 use Rattle.std.proofs.lemmas.List.FromFn.{length-map-range_with_len}
 use Rattle.rq_bytes.specs.declared.error.Error.{Error}
@@ -10,56 +10,40 @@ use Rattle.rq_standard.specs.declared.systematic_indices.TheConstants.{MAX_SOURC
 use Rattle.rq_standard.specs.Configuration.{Configuration, configuration_of_bytes, largest_block}
 use Rattle.rq_standard.specs.TableRows.{greatest_size}
 use Rattle.rq_base.specs.RefusedInput.{checked_configuration}
+use Rattle.rq_base.proofs.Accepted.{ok_of, same_ok, passed}
 use Rattle.raptorq.specs.Encoder.{packets_length, packets_refusal}
 use Rattle.raptorq.specs.Offsets.{block_offsets, block_range, checked_offsets}
 use Rattle.raptorq_c.specs.declared.rows.Row.{Row}
 use Rattle.raptorq_c.specs.FurtherRows.{table_of}
 use Rattle.raptorq_c.specs.Sizes.{part_of_block, bytes_of_packets}
-use Rattle.raptorq_c.proofs.PacketLengths.{wanted}
-use Rattle.raptorq_c.proofs.Tables.{held_table}
-
-abbrev ranged : ℕ × ℕ → Result (ℕ × ℕ) Error
-ranged p = Ok p
-
-abbrev listed : List (ℕ × ℕ) → Result (List (ℕ × ℕ)) Error
-listed xs = Ok xs
-
-same_list : (xs ys : List (ℕ × ℕ)) → listed xs ≡ listed ys → xs ≡ ys
-same_list xs ys h = cc
-
-tested : (a b d : Bool) (e f g : Error) (xs ys : List (ℕ × ℕ)) → cond a (Err e) (cond b (Err f) (cond d (Err g) (listed xs))) ≡ Ok ys → ys ≡ xs
-tested true b d e f g xs ys h = absurd (cc h)
-tested false true d e f g xs ys h = absurd (cc h)
-tested false false true e f g xs ys h = absurd (cc h)
-tested false false false e f g xs ys h = same_list ys xs (sym h)
 
 -- what isn't refused are the places of all blocks
 pub offsets_of : (c : Configuration) (xs : List (ℕ × ℕ)) → checked_offsets c ≡ Ok xs → xs ≡ block_offsets c
-offsets_of c xs h = tested (eqb c.symbol_size 0) (eqb c.source_blocks 0) (ltb MAX_SOURCE_SYMBOLS_PER_BLOCK (largest_block c)) SymbolSizeZero SourceBlocksZero TooManySymbols (block_offsets c) xs h
+offsets_of c xs h =
+    let size = passed (eqb c.symbol_size 0) SymbolSizeZero _ xs h in
+    let blocks = passed (eqb c.source_blocks 0) SourceBlocksZero _ xs size.1 in
+    sym (same_ok (block_offsets c) xs (passed (ltb MAX_SOURCE_SYMBOLS_PER_BLOCK (largest_block c)) TooManySymbols _ xs blocks.1).1)
 
 pub offset_count : (c : Configuration) (xs : List (ℕ × ℕ)) → checked_offsets c ≡ Ok xs → length xs ≡ c.source_blocks
 offset_count c xs h = ap length (offsets_of c xs h) ∙ length-map-range_with_len (block_range c) 0 c.source_blocks
 
 -- of a block that the object has
-pub block_found : (header : List ℕ) (b : ℕ) (d : Configuration) (xs : List (ℕ × ℕ)) → d ≡ configuration_of_bytes header → checked_offsets d ≡ Ok xs → b < d.source_blocks → part_of_block header b ≡ ranged (block_range d b)
+pub block_found : (header : List ℕ) (b : ℕ) (d : Configuration) (xs : List (ℕ × ℕ)) → d ≡ configuration_of_bytes header → checked_offsets d ≡ Ok xs → b < d.source_blocks → part_of_block header b ≡ ok_of (block_range d b)
 block_found header b d xs same is below =
     subst (λ k. and_then (checked_offsets k) (λ _. cond (ltb b k.source_blocks) (Ok (block_range k b)) (Err UnknownBlock)) ≡ Ok (block_range d b)) same (rw (is, lt-ltb b d.source_blocks below) refl)
 
 -- ---- how many bytes packets take
 
-abbrev pub passed : Unit {0} → Result (Unit {0}) Error
-passed u = Ok u
-
 -- of a configuration that passes the tests over the table of these rows
-module _ (rows : List Row) (header : List ℕ) (table : List TableRow) (d : Configuration) (made : table_of rows ≡ held_table table) (same : d ≡ configuration_of_bytes header) (checked : passed tt ≡ checked_configuration (greatest_size table) d) where
-  over_rows : and_then (table_of rows) (λ t. checked_configuration (greatest_size t) d) ≡ passed tt
+module _ (rows : List Row) (header : List ℕ) (table : List TableRow) (d : Configuration) (made : table_of rows ≡ ok_of table) (same : d ≡ configuration_of_bytes header) (checked : ok_of tt ≡ checked_configuration (greatest_size table) d) where
+  over_rows : and_then (table_of rows) (λ t. checked_configuration (greatest_size t) d) ≡ ok_of tt
   over_rows = ap (λ (r : Result (List TableRow) Error). and_then r (λ t. checked_configuration (greatest_size t) d)) made ∙ sym checked
 
   abbrev counted : Configuration → ℕ → Result ℕ Error
-  counted k repair = and_then (and_then (table_of rows) (λ t. checked_configuration (greatest_size t) k)) (λ _. and_then (packets_refusal k repair) (λ _. wanted (packets_length k repair)))
+  counted k repair = and_then (and_then (table_of rows) (λ t. checked_configuration (greatest_size t) k)) (λ _. and_then (packets_refusal k repair) (λ _. ok_of (packets_length k repair)))
 
   pub too_many : (repair : ℕ) (e : Error) → packets_refusal d repair ≡ Err e → bytes_of_packets rows header repair ≡ Err e
   too_many repair e is = subst (λ k. counted k repair ≡ Err e) same (rw (over_rows, is) refl)
 
-  pub enough : (repair : ℕ) → packets_refusal d repair ≡ passed tt → bytes_of_packets rows header repair ≡ wanted (packets_length d repair)
-  enough repair is = subst (λ k. counted k repair ≡ wanted (packets_length d repair)) same (rw (over_rows, is) refl)
+  pub enough : (repair : ℕ) → packets_refusal d repair ≡ ok_of tt → bytes_of_packets rows header repair ≡ ok_of (packets_length d repair)
+  enough repair is = subst (λ k. counted k repair ≡ ok_of (packets_length d repair)) same (rw (over_rows, is) refl)

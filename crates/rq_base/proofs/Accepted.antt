@@ -13,16 +13,15 @@ pub both_ok : {X Y : Type 0} (r : Result X Error) (f : X → Result Y Error) (y 
 both_ok (Ok x) f y h = (x, refl, h)
 both_ok (Err e) f y h = absurd (cc h)
 
-pub five_tests : {X : Type 0} (a b d g k : Bool) (e f h i j : Error) (x y : X) → cond a (Err e) (cond b (Err f) (cond d (Err h) (cond g (Err i) (cond k (Err j) (Ok x))))) ≡ Ok y → (a ≡ false) × (b ≡ false) × (d ≡ false) × (g ≡ false) × (k ≡ false) × (x ≡ y)
-five_tests true b d g k e f h i j x y is = absurd (cc is)
-five_tests false true d g k e f h i j x y is = absurd (cc is)
-five_tests false false true g k e f h i j x y is = absurd (cc is)
-five_tests false false false true k e f h i j x y is = absurd (cc is)
-five_tests false false false false true e f h i j x y is = absurd (cc is)
-five_tests false false false false false e f h i j x y is = (refl, refl, refl, refl, refl, cc)
+-- what isn't refused
+abbrev pub ok_of : {X : Type 0} → X → Result X Error
+ok_of x = Ok x
+
+pub same_ok : {X : Type 0} (x y : X) → ok_of x ≡ ok_of y → x ≡ y
+same_ok x y is = cc
 
 -- a chain that is Ok has passed its first test, and the rest of it
-passed : {X : Type 0} (a : Bool) (e : Error) (r : Result X Error) (y : X) → cond a (Err e) r ≡ Ok y → (a ≡ false) × (r ≡ Ok y)
+pub passed : {X : Type 0} (a : Bool) (e : Error) (r : Result X Error) (y : X) → cond a (Err e) r ≡ Ok y → (a ≡ false) × (r ≡ Ok y)
 passed true e r y is = absurd (cc is)
 passed false e r y is = (refl, is)
 

@@ -15,7 +15,7 @@ use Rattle.rq_standard.specs.Headline.{IsPacketOf, HasNonsingularRows}
 use Rattle.rq_standard.specs.Streams.{stream_of}
 use Rattle.rq_standard.specs.TableRows.{greatest_size, IsTable}
 use Rattle.rq_base.specs.RefusedInput.{checked_configuration}
-use Rattle.rq_base.proofs.Accepted.{both_ok, five_tests, accepted_by}
+use Rattle.rq_base.proofs.Accepted.{both_ok, ok_of, same_ok, passed, accepted_by}
 use Rattle.raptorq.specs.Building.{default_settings}
 use Rattle.raptorq.specs.Refused.{new_encoder}
 use Rattle.raptorq.specs.Encoder.{packets_refusal}
@@ -50,16 +50,20 @@ few_sub_blocks table n s memory small =
 fits_by : (table : List TableRow) (n s : ℕ) (c : Configuration) → s < 2 ^ 16 → default_parameters table n s ≡ Ok c → IsConfiguration c × (c.transfer_length ≡ n)
 fits_by table n s c small h =
     let m : ℕ = default_settings.decoder_memory in
-    let t = five_tests (eqb s 0) (eqb n 0) (ltb 942574504275 n) (eqb (fitting_block table s m (most_sub_blocks s)) 0) (ltb 255 (blocks_for table n s m)) PacketSizeZero TransferLengthZero TransferTooLong MemoryRequirementTooSmall TooManyBlocks (parameters_for table n s m) c h in
-    let same = t.5 in
-    let long : n ≤ 942574504275 = ltb-false 942574504275 n t.2 in
+    let size = passed (eqb s 0) PacketSizeZero _ c h in
+    let length_positive = passed (eqb n 0) TransferLengthZero _ c size.1 in
+    let short = passed (ltb 942574504275 n) TransferTooLong _ c length_positive.1 in
+    let memory = passed (eqb (fitting_block table s m (most_sub_blocks s)) 0) MemoryRequirementTooSmall _ c short.1 in
+    let few = passed (ltb 255 (blocks_for table n s m)) TooManyBlocks _ c memory.1 in
+    let same = same_ok (parameters_for table n s m) c few.1 in
+    let long : n ≤ 942574504275 = ltb-false 942574504275 n short.0 in
     let length_is : c.transfer_length ≡ n = sym (ap (λ k. k.transfer_length) same) in
     let size_is : c.symbol_size ≡ symbol_size_for s = sym (ap (λ k. k.symbol_size) same) in
     let alignment_is : c.alignment ≡ alignment_for s = sym (ap (λ k. k.alignment) same) in (
       record {
         length_fits = omega arith;
         size_fits = omega arith;
-        blocks_fit = omega (arith, ap (λ (k : Configuration). k.source_blocks) same, ltb-false 255 (blocks_for table n s m) t.4);
+        blocks_fit = omega (arith, ap (λ (k : Configuration). k.source_blocks) same, ltb-false 255 (blocks_for table n s m) few.0);
         sub_blocks_fit = omega (arith, ap (λ (k : Configuration). k.sub_blocks) same, few_sub_blocks table n s m small);
         alignment_fits = subst (λ a. a < 2 ^ 8) (sym alignment_is) (small_alignment (leb 64 s));
       },
@@ -68,12 +72,6 @@ fits_by table n s c small h =
 
 abbrev written : List ℕ → Result (Option (List ℕ)) Error
 written xs = Ok (Some xs)
-
-abbrev configured : Configuration → Result Configuration Error
-configured c = Ok c
-
-same_configuration : (c d : Configuration) → configured c ≡ configured d → c ≡ d
-same_configuration c d h = cc
 
 among : (table : List TableRow) (c : Configuration) (object : List ℕ) (all some : List Packet) → AllByRecursion (IsPacketOf table c object) all → AllByRecursion (Contains all) some → AllByRecursion (IsPacketOf table c object) some
 among table c object all [] honest h = tt
@@ -84,8 +82,8 @@ sent_steps : (table : List TableRow) (s : ℕ) (object : List ℕ) (c : Configur
 sent_steps table s object c h =
     let p = both_ok (default_parameters table (length object) s) _ c h in
     let e = both_ok (new_encoder (greatest_size table) p.0 (length object)) _ c p.2 in
-    let same : p.0 ≡ c = same_configuration p.0 c e.2 in (
-      p.1 ∙ ap configured same,
+    let same : p.0 ≡ c = same_ok p.0 c e.2 in (
+      p.1 ∙ ap ok_of same,
       subst (λ k. new_encoder (greatest_size table) k (length object) ≡ Ok tt) same e.1,
     )
 

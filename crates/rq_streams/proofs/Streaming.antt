@@ -15,6 +15,7 @@ use Rattle.rq_standard.specs.Headline.{IsAnswerable, IsObjectAnswer, IsOnlyObjec
 use Rattle.rq_standard.proofs.BlockRows.{block_has_row, answerable_only}
 use Rattle.rq_standard.proofs.OptionValues.{none_is, by_option}
 use Rattle.rq_base.specs.RefusedInput.{checked_configuration}
+use Rattle.rq_base.proofs.Accepted.{ok_of, same_ok}
 use Rattle.rq_streams.specs.declared.run.Outcome.{Outcome}
 use Rattle.rq_streams.specs.declared.run.Stop.{Stop}
 use Rattle.rq_streams.specs.Frames.{skipped_in, packets_in_bytes, skipped_in_bytes}
@@ -23,9 +24,6 @@ use Rattle.rq_streams.specs.declared.run.Stop.TheVariants.{Refused}
 use Rattle.rq_streams.specs.ReceivedStreams.{header_configuration, IsWantedOf, WantsWhere, AnswersStream, RefusesStream, RefusesFirst, ReceivesExactly, ReceivesWhereAnyCan, CountsOthers}
 use Rattle.rq_streams.specs.Ends.{Wanted, Ends, EndsAs, outcome_of}
 use Rattle.rq_streams.proofs.Skipping.{FillsFrame, kept_packets-mixed, skipped_count-mixed}
-
-abbrev taken : Configuration → Result Configuration Error
-taken k = Ok k
 
 positive_eqb : (n : ℕ) → 0 < n → eqb n 0 ≡ false
 positive_eqb n h = ne_eqb n 0 (λ e. absurd (omega arith))
@@ -51,12 +49,12 @@ module _ (table : List TableRow) (c : Configuration) (object : List ℕ) (frames
   pub stream_header : header_configuration bytes ≡ Ok c
   stream_header =
       let enough : ltb (length bytes) 12 ≡ false = le-ltb (length bytes) 12 s.long in
-      ap (λ b. cond b (Err HeaderTooShort) (taken (configuration_of_bytes (take 12 bytes)))) enough
-      ∙ ap taken s.header
+      ap (λ b. cond b (Err HeaderTooShort) (ok_of (configuration_of_bytes (take 12 bytes)))) enough
+      ∙ ap ok_of s.header
 
   -- a stream has one configuration
   pub same_header : (d : Configuration) → Ok d ≡ header_configuration bytes → d ≡ c
-  same_header d read = let e : taken d ≡ taken c = read ∙ stream_header in cc
+  same_header d read = same_ok d c (read ∙ stream_header)
 
   -- each packet fills its frame
   stream_fills : AllByRecursion (FillsFrame table c object) (packets_among frames)

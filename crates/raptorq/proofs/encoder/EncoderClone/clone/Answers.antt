@@ -1,7 +1,7 @@
-use Rattle.std.proofs.Common.{◌≡◌, List, length, get_or, map, sym, ap, ◌∙◌}
-use Rattle.std.proofs.lemmas.Simd.{map-map}
+use Rattle.std.proofs.Common.{◌≡◌, List, length, get_or, map, ap, ◌∙◌}
 use Rattle.raptorq.specs.SourceBlockEncoder.{BlockEncoded, block_encoded_of}
 use Rattle.raptorq.specs.Encoder.{Encoded, no_block}
+use Rattle.raptorq.proofs.Numbered.{mapped_through}
 use Rattle.raptorq.proofs.PlanLaws.{map-clones}
 use Rattle.raptorq.proofs.encoder.EncoderClone.clone.Goals as goal
 use Rattle.raptorq.proofs.encoder.EncoderClone.clone.Goals.{In_ok-clone}
@@ -20,8 +20,8 @@ invariant_of-result c =
       positive = s.positive;
       few = s.few;
       some = s.some;
-      numbered = sym (map-map (λ b. b.number) block_encoded_of new) ∙ ap (map (λ b. b.number)) same ∙ map-map (λ b. b.number) block_encoded_of old ∙ s.numbered;
-      counted = sym (map-map (λ b. length b.source) block_encoded_of new) ∙ ap (map (λ b. length b.source)) same ∙ map-map (λ b. length b.source) block_encoded_of old ∙ s.counted;
+      numbered = mapped_through (λ b. b.number) block_encoded_of block_encoded_of new old same ∙ s.numbered;
+      counted = mapped_through (λ b. length b.source) block_encoded_of block_encoded_of new old same ∙ s.counted;
     }
 
 pub returns : goal.returns
