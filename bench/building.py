@@ -7,7 +7,7 @@ import sys
 
 BENCH = os.path.dirname(os.path.abspath(__file__))
 TOP = os.path.dirname(BENCH)
-MANIFEST = '[package]\nname = "{}"\nversion = "0.0.0"\nedition = "2021"\n[dependencies]\nraptorq = {{ path = "{}", version = "=2.0.1" }}\n'
+MANIFEST = '[package]\nname = "{}"\nversion = "0.0.0"\nedition = "2021"\n[dependencies]\nraptorq = {{ path = "{}", version = "=2.0.1", features = ["{}"] }}\n'
 
 
 def arguments(usage, names=None):
@@ -39,11 +39,11 @@ def build_here(name, folder, processor):
     return program
 
 
-def build_crate(name, folder, crate):
-    """The program NAME.rs.txt over the Rust crate in a folder."""
+def build_crate(name, folder, crate, feature="std"):
+    """The program NAME.rs.txt over the Rust crate in a folder, with one of its features."""
     os.makedirs(f"{folder}/src")
     with open(f"{folder}/Cargo.toml", "w") as manifest:
-        manifest.write(MANIFEST.format(name, os.path.abspath(crate)))
+        manifest.write(MANIFEST.format(name, os.path.abspath(crate), feature))
     shutil.copy(f"{BENCH}/{name}.rs.txt", f"{folder}/src/main.rs")
     subprocess.run(["cargo", "build", "--release", "--offline", "--quiet"], cwd=folder, check=True)
     return f"{folder}/target/release/{name}"
