@@ -23,6 +23,7 @@ use Rattle.rq_peeling.proofs.Counting.{count_contains, count_taken, count_next, 
 use Rattle.rq_algebra.proofs.Choices.{if_same, if_apart}
 use Rattle.rq_peeling.proofs.PeelingLaws.{still_there, now_there}
 use Rattle.rq_solver.proofs.OctetSums.{plus_zero_times}
+use Rattle.rq_solver.proofs.Substitution.{sum_zero}
 
 pub columns_of_row : (width row : ℕ) (lists : List (List ℕ)) (columns : List ℕ) → AreRowsOfBits width lists → row < length lists → columns ≡ ones_of lists row → AreColumnsOfRow width columns
 columns_of_row width row lists columns bits l is = subst (AreColumnsOfRow width) (sym is) (record { within = bits.within row l; once = λ k. bits.once row k l })
@@ -157,9 +158,7 @@ module _ (Done : List Operation → RecordedRows → RecordedRows → Type 0) (r
         sums = All-push (IsSumOf row (length old.table.rows)) v.steps (sum_step row (at rows j) 1) v.sums (record { source = at rows j; is = refl; within = rw height (rows_are.below j in_rows); other = other });
         idle = λ e. absurd (not_empty e);
         kept = λ m k zeros.
-            let here : rows_after octets v.steps m (at rows j) k ≡ 0 = v.elsewhere m (at rows j) k other ∙ zeros j in_rows (subst (Contains (take (t + 1) columns)) column_is (now_there columns t in_columns)) other in
-            sum_after-here row (at rows j) 1 m v.steps k (rw here (lit< tt))
-            ∙ plus_zero_times (rows_after octets v.steps m row k) 1 (rows_after octets v.steps m (at rows j) k) here
+            sum_zero row (at rows j) 1 m v.steps (λ p. v.elsewhere m (at rows j) p other) row k (zeros j in_rows (subst (Contains (take (t + 1) columns)) column_is (now_there columns t in_columns)) other)
             ∙ v.kept m k (λ i n c d. zeros i n (still_there columns t in_columns (at order i) c) d);
         elsewhere = λ m i k d. sum_after-elsewhere row (at rows j) 1 m v.steps i k d ∙ v.elsewhere m i k d;
         taken = λ m done i l. next_taken m done i l;

@@ -3,6 +3,7 @@ use Rattle.std.proofs.Common.{◌≡◌, ◌≢◌, ℕ, ◌+◌, ◌<◌, ◌�
 use Rattle.std.proofs.lemmas.Bool.{cases_eq, cases_lt}
 use Rattle.std.proofs.lemmas.List.Elements.{All-append, All-nil, All-push, Contains-get_or}
 use Rattle.rq_algebra.specs.Systems.{at}
+use Rattle.rq_algebra.specs.Operations.{Operation}
 use Rattle.rq_standard.specs.OctetField.{octets}
 use Rattle.rq_parts.specs.DenseOctetMatrix.{entry_of}
 use Rattle.rq_solver.specs.SecondPhase.{ShowInactive, AreUnits, GivesMultiples, IsStepTo, SubstitutesBack, ClearsColumns, one_of}
@@ -14,6 +15,25 @@ use Rattle.rq_elimination.proofs.Performing.{sum_after-here, sum_after-elsewhere
 use Rattle.rq_solver.proofs.OctetSums.{plus_zero_times, plus_own}
 use Rattle.rq_solver.proofs.StepsToRows.{sum_to, steps_to}
 use Rattle.rq_algebra.proofs.Choices.{if_same, if_apart}
+
+-- ---- one multiple more of a row that stays as it is
+
+module _ (dest src scalar : ℕ) (m : ℕ → ℕ → ℕ) (steps : List Operation) (source : (k : ℕ) → rows_after octets steps m src k ≡ m src k) where
+  sum_here : (k : ℕ) → m src k < 256 → rows_after octets (steps ++ sum_step dest src scalar ∷ []) m dest k ≡ octets.add (rows_after octets steps m dest k) (octets.mul scalar (rows_after octets steps m src k))
+  sum_here k l = sum_after-here dest src scalar m steps k (rw (source k) l)
+
+  -- where it has 0, no row changes
+  pub sum_zero : (r k : ℕ) → m src k ≡ 0 → rows_after octets (steps ++ sum_step dest src scalar ∷ []) m r k ≡ rows_after octets steps m r k
+  sum_zero r k zero = elim (cases_eq r dest) [
+    | inl e ↦ rw e (sum_here k (rw zero (lit< tt)) ∙ plus_zero_times (rows_after octets steps m dest k) scalar (rows_after octets steps m src k) (source k ∙ zero))
+    | inr d ↦ sum_after-elsewhere dest src scalar m steps r k d
+  ]
+
+  -- and where it has 1, the row that has the scalar there gets 0
+  sum_cancels : (k : ℕ) → scalar < 256 → m src k ≡ 1 → rows_after octets steps m dest k ≡ scalar → rows_after octets (steps ++ sum_step dest src scalar ∷ []) m dest k ≡ 0
+  sum_cancels k small one here = sum_here k (rw one (lit< tt)) ∙ plus_own (rows_after octets steps m dest k) scalar (rows_after octets steps m src k) small here (source k ∙ one)
+
+-- ---- a row that takes multiples
 
 module _ (inactive_rows : List ℕ) (row start count : ℕ) (entries : ℕ → ℕ) where
   pub reduced_none : (old : RecordedRows) → ClearsColumns inactive_rows row start count start entries old old
@@ -44,35 +64,22 @@ module _ (inactive_rows : List ℕ) (row start count : ℕ) (entries : ℕ → �
 
   module _ (t : ℕ) (from : start ≤ t) (inside : t < count) (old cur : RecordedRows) (v : ClearsColumns inactive_rows row start count t entries old cur) where
     module _ (apart : row ≢ at inactive_rows t) (scalar : ℕ) (small : scalar < 256) (scalar_is : scalar ≡ entries t) (new : RecordedRows) (records : Records (sum_step row (at inactive_rows t) scalar ∷ []) cur new) where
-      module _ (m : ℕ → ℕ → ℕ) where
-        now : ℕ → ℕ → ℕ
-        now = rows_after octets v.steps m
+      source_kept : (m : ℕ → ℕ → ℕ) (k : ℕ) → rows_after octets v.steps m (at inactive_rows t) k ≡ m (at inactive_rows t) k
+      source_kept m k = v.elsewhere m (at inactive_rows t) k (λ e. apart (sym e))
 
-        src_now : (k : ℕ) → now (at inactive_rows t) k ≡ m (at inactive_rows t) k
-        unfolding now
-        src_now k = v.elsewhere m (at inactive_rows t) k (λ e. apart (sym e))
+      next_zero : (m : ℕ → ℕ → ℕ) (k : ℕ) → m (at inactive_rows t) k ≡ 0 → rows_after octets (v.steps ++ sum_step row (at inactive_rows t) scalar ∷ []) m row k ≡ rows_after octets v.steps m row k
+      next_zero m k = sum_zero row (at inactive_rows t) scalar m v.steps (source_kept m) row k
 
-        next_entry : (k : ℕ) → m (at inactive_rows t) k < 256 → rows_after octets (v.steps ++ sum_step row (at inactive_rows t) scalar ∷ []) m row k ≡ octets.add (now row k) (octets.mul scalar (now (at inactive_rows t) k))
-        unfolding now
-        next_entry k l = sum_after-here row (at inactive_rows t) scalar m v.steps k (rw (src_now k) l)
+      module _ (m : ℕ → ℕ → ℕ) (column : ℕ → ℕ) (units : AreUnits inactive_rows start count column m) where
+        other_zero : (f : ℕ) → f < count → f ≢ t → m (at inactive_rows t) (column f) ≡ 0
+        other_zero f l d = units t f from inside l ∙ if_apart t f 1 0 (λ e. d (sym e))
 
-        next_zero : (k : ℕ) → m (at inactive_rows t) k ≡ 0 → rows_after octets (v.steps ++ sum_step row (at inactive_rows t) scalar ∷ []) m row k ≡ now row k
-        next_zero k zero = next_entry k (rw zero (lit< tt)) ∙ plus_zero_times (now row k) scalar (now (at inactive_rows t) k) (src_now k ∙ zero)
-
-        module _ (column : ℕ → ℕ) (units : AreUnits inactive_rows start count column m) where
-          other_zero : (f : ℕ) → f < count → f ≢ t → m (at inactive_rows t) (column f) ≡ 0
-          other_zero f l d = units t f from inside l ∙ if_apart t f 1 0 (λ e. d (sym e))
-
-          this_entry : m row (column t) ≡ entries t → rows_after octets (v.steps ++ sum_step row (at inactive_rows t) scalar ∷ []) m row (column t) ≡ 0
-          unfolding now
-          this_entry shown =
-              let one : m (at inactive_rows t) (column t) ≡ 1 = units t t from inside inside ∙ if_same t t 1 0 refl in
-              next_entry (column t) (rw one (lit< tt))
-              ∙ plus_own (now row (column t)) scalar (now (at inactive_rows t) (column t)) small
-              (v.rest m column units t (omega arith) inside ∙ shown ∙ sym scalar_is) (src_now (column t) ∙ one)
+        this_entry : m row (column t) ≡ entries t → rows_after octets (v.steps ++ sum_step row (at inactive_rows t) scalar ∷ []) m row (column t) ≡ 0
+        this_entry shown =
+            let one : m (at inactive_rows t) (column t) ≡ 1 = units t t from inside inside ∙ if_same t t 1 0 refl in
+            sum_cancels row (at inactive_rows t) scalar m v.steps (source_kept m) (column t) small one (v.rest m column units t (omega arith) inside ∙ shown ∙ sym scalar_is)
 
       reduced_more : ClearsColumns inactive_rows row start count (t + 1) entries old new
-      unfolding now
       reduced_more = record {
         steps = v.steps ++ sum_step row (at inactive_rows t) scalar ∷ [];
         records = records_more v.steps (sum_step row (at inactive_rows t) scalar ∷ []) old cur new v.records records;
@@ -132,46 +139,25 @@ module _ (inactive_rows : List ℕ) (place : ℕ) where
     }
 
     module _ (scalar : ℕ) (small : scalar < 256) (other : scalar ≢ 1) (scalar_is : scalar ≡ entry_of old.table (at inactive_rows t) place) (new : RecordedRows) (records : Records (sum_step (at inactive_rows t) (at inactive_rows place) scalar ∷ []) cur new) where
-      module _ (m : ℕ → ℕ → ℕ) where
-        so_far : ℕ → ℕ → ℕ
-        so_far = rows_after octets v.steps m
+      source_same : (m : ℕ → ℕ → ℕ) (k : ℕ) → rows_after octets v.steps m (at inactive_rows place) k ≡ m (at inactive_rows place) k
+      source_same m k = v.elsewhere m (at inactive_rows place) k (λ q l e. let same : q ≡ place = are.apart q place (omega arith) in_rows e in omega (arith, same, l, early))
 
-        source : (k : ℕ) → so_far (at inactive_rows place) k ≡ m (at inactive_rows place) k
-        unfolding so_far
-        source k = v.elsewhere m (at inactive_rows place) k (λ q l e. let same : q ≡ place = are.apart q place (omega arith) in_rows e in omega (arith, same, l, early))
+      others_same : (m : ℕ → ℕ → ℕ) (r k : ℕ) → r ≢ at inactive_rows t → rows_after octets (v.steps ++ sum_step (at inactive_rows t) (at inactive_rows place) scalar ∷ []) m r k ≡ rows_after octets v.steps m r k
+      others_same m = sum_after-elsewhere (at inactive_rows t) (at inactive_rows place) scalar m v.steps
 
-        sum_here : (k : ℕ) → m (at inactive_rows place) k < 256 → rows_after octets (v.steps ++ sum_step (at inactive_rows t) (at inactive_rows place) scalar ∷ []) m (at inactive_rows t) k ≡ octets.add (so_far (at inactive_rows t) k) (octets.mul scalar (so_far (at inactive_rows place) k))
-        unfolding so_far
-        sum_here k l = sum_after-here (at inactive_rows t) (at inactive_rows place) scalar m v.steps k (rw (source k) l)
-
-        sum_elsewhere : (r k : ℕ) → r ≢ at inactive_rows t → rows_after octets (v.steps ++ sum_step (at inactive_rows t) (at inactive_rows place) scalar ∷ []) m r k ≡ so_far r k
-        unfolding so_far
-        sum_elsewhere r k d = sum_after-elsewhere (at inactive_rows t) (at inactive_rows place) scalar m v.steps r k d
-
-        sum_zero : (r k : ℕ) → m (at inactive_rows place) k ≡ 0 → rows_after octets (v.steps ++ sum_step (at inactive_rows t) (at inactive_rows place) scalar ∷ []) m r k ≡ so_far r k
-        sum_zero r k zero = elim (cases_eq r (at inactive_rows t)) [
-          | inl e ↦ rw e (sum_here k (rw zero (lit< tt)) ∙ plus_zero_times (so_far (at inactive_rows t) k) scalar (so_far (at inactive_rows place) k) (source k ∙ zero))
-          | inr d ↦ sum_elsewhere r k d
-        ]
-
-        sum_cancels : (k : ℕ) → m (at inactive_rows place) k ≡ 1 → m (at inactive_rows t) k ≡ entry_of old.table (at inactive_rows t) place → rows_after octets (v.steps ++ sum_step (at inactive_rows t) (at inactive_rows place) scalar ∷ []) m (at inactive_rows t) k ≡ 0
-        unfolding so_far
-        sum_cancels k one shown =
-            sum_here k (rw one (lit< tt))
-            ∙ plus_own (so_far (at inactive_rows t) k) scalar (so_far (at inactive_rows place) k) small
-            (v.elsewhere m (at inactive_rows t) k (λ p n. apart_before p (omega arith) (omega arith)) ∙ shown ∙ sym scalar_is) (source k ∙ one)
+      cancels : (m : ℕ → ℕ → ℕ) (k : ℕ) → m (at inactive_rows place) k ≡ 1 → m (at inactive_rows t) k ≡ entry_of old.table (at inactive_rows t) place → rows_after octets (v.steps ++ sum_step (at inactive_rows t) (at inactive_rows place) scalar ∷ []) m (at inactive_rows t) k ≡ 0
+      cancels m k one shown = sum_cancels (at inactive_rows t) (at inactive_rows place) scalar m v.steps (source_same m) k small one (v.elsewhere m (at inactive_rows t) k (λ p n. apart_before p (omega arith) (omega arith)) ∙ shown ∙ sym scalar_is)
 
       pub given_more : GivesMultiples inactive_rows place (t + 1) old new
-      unfolding so_far
       given_more = record {
         steps = v.steps ++ sum_step (at inactive_rows t) (at inactive_rows place) scalar ∷ [];
         records = records_more v.steps (sum_step (at inactive_rows t) (at inactive_rows place) scalar ∷ []) old cur new v.records records;
         within = All-push (IsStepTo (Contains inactive_rows)) v.steps (sum_step (at inactive_rows t) (at inactive_rows place) scalar) v.within (sum_to (Contains inactive_rows) (at inactive_rows t) (at inactive_rows place) scalar (Contains-get_or inactive_rows t 0 (omega arith)));
-        elsewhere = λ m r k out. sum_elsewhere m r k (λ e. out t (omega arith) (sym e)) ∙ v.elsewhere m r k (λ q l. out q (omega arith));
-        kept = λ m r k zero. sum_zero m r k zero ∙ v.kept m r k zero;
+        elsewhere = λ m r k out. others_same m r k (λ e. out t (omega arith) (sym e)) ∙ v.elsewhere m r k (λ q l. out q (omega arith));
+        kept = λ m r k zero. sum_zero (at inactive_rows t) (at inactive_rows place) scalar m v.steps (source_same m) r k zero ∙ v.kept m r k zero;
         given = λ m k q one l shown. elim (cases_eq q t) [
-          | inl e ↦ rw e (sum_cancels m k one (rw e at shown) ∙ sym (one_of-other (entry_of old.table (at inactive_rows t) place) (λ f. other (scalar_is ∙ f))))
-          | inr d ↦ sum_elsewhere m (at inactive_rows q) k (apart_before q (omega arith) d) ∙ v.given m k q one (omega arith) shown
+          | inl e ↦ rw e (cancels m k one (rw e at shown) ∙ sym (one_of-other (entry_of old.table (at inactive_rows t) place) (λ f. other (scalar_is ∙ f))))
+          | inr d ↦ others_same m (at inactive_rows q) k (apart_before q (omega arith) d) ∙ v.given m k q one (omega arith) shown
         ];
       }
 
