@@ -143,17 +143,12 @@ encoded_is table c object bytes b k e row is rows count bytes_are = is ∙ (λ i
 pub new_encoder-taken : (greatest : ℕ) (c : Configuration) (n : ℕ) → checked_configuration greatest c ≡ Ok tt → n ≡ c.transfer_length → new_encoder greatest c n ≡ Ok tt
 new_encoder-taken greatest c n checked long = rw (checked, eq-eqb n c.transfer_length long) refl
 
-pub block_singular : (table : List TableRow) (c : Configuration) (b : ℕ) → b < c.source_blocks → IsSingular (block_row table c b) → ¬ (HasNonsingularRows table c)
-block_singular table c b below singular all = singular (all b below)
-
--- what a plan for a block's number of symbols is refused for
-pub refuses_numbered_block : (table : List TableRow) (c : Configuration) (b count : ℕ) (e : Error) → b < c.source_blocks → count ≡ block_symbols c b → (e ≡ OutOfMemory) ⊎ ((e ≡ Singular) × IsSingular (row_of table count)) → (e ≡ OutOfMemory) ⊎ ((e ≡ Singular) × ¬ (HasNonsingularRows table c))
-refuses_numbered_block table c b count e below is (inl memory) = inl memory
-refuses_numbered_block table c b count e below is (inr singular) = inr (singular.0, block_singular table c b below (subst (λ k. IsSingular (row_of table k)) is singular.1))
-
 -- what a plan of a block's size is refused for
 pub refuses_block_plan : (table : List TableRow) (c : Configuration) (b count : ℕ) (e : Error) → IsAccepted (greatest_size table) c → b < c.source_blocks → count ≡ block_symbols c b → RefusesPlan table count e → (e ≡ OutOfMemory) ⊎ ((e ≡ Singular) × ¬ (HasNonsingularRows table c))
-refuses_block_plan table c b count e accepted below is refused = refuses_numbered_block table c b count e below is (plan_refused table count e (omega (arith, is, block_symbols_few c b below, accepted.in_table)) refused)
+refuses_block_plan table c b count e accepted below is refused = elim (plan_refused table count e (omega (arith, is, block_symbols_few c b below, accepted.in_table)) refused) [
+  | inl memory ↦ inl memory
+  | inr singular ↦ inr (singular.0, λ all. subst (λ k. IsSingular (row_of table k)) is singular.1 (all b below))
+]
 
 -- what it is refused for
 pub refuses_singular : (table : List TableRow) (c : Configuration) (n : ℕ) (e : Error) → new_encoder (greatest_size table) c n ≡ Ok tt → (e ≡ OutOfMemory) ⊎ ((e ≡ Singular) × ¬ (HasNonsingularRows table c)) → RefusesEncoder table c n e

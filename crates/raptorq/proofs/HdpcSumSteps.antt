@@ -119,10 +119,10 @@ sum_places_below row numbers places are is k d some lt =
           omega (arith, place)
     ]
 
--- what is answer_meets, where it is
-pub answer_meets : (result : Result Slab Error) (slab : Slab) (P : Slab → Type 0) → IsAnswer (λ (s : Slab). s) result (Ok slab) → ((s : Slab) → s ≡ slab → P s) → IfOk result P
-answer_meets (Ok s) slab P is all = all s (cc is)
-answer_meets (Err e) slab P is all = tt
+-- what is answered, where it is
+pub answered_slab : (result : Result Slab Error) (slab : Slab) (P : Slab → Type 0) → IsAnswer (λ (s : Slab). s) result (Ok slab) → ((s : Slab) → s ≡ slab → P s) → IfOk result P
+answered_slab (Ok s) slab P is all = all s (cc is)
+answered_slab (Err e) slab P is all = tt
 
 -- ---- the sums, column by column
 

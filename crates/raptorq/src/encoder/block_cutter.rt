@@ -1,9 +1,9 @@
 //! An object is cut into its source blocks, which are encoded one after another (RFC 6330, section
 //! 4.4.1.2).
-ghost use Rattle.std.specs.Prelude.{◌≡◌, ◌<◌, ◌≤◌, ◌⊎◌, length, IfOk, IfErr, OnOk};
+ghost use Rattle.std.specs.Prelude.{◌≡◌, ◌<◌, length, IfOk, IfErr, OnOk};
 ghost use Rattle.rq_standard.specs.Configuration.{IsAccepted, largest_block};
 ghost use Rattle.rq_standard.specs.Cutting.{block_symbols};
-ghost use Rattle.rq_standard.specs.Headline.{HasNonsingularRows, IsNonsingular, IsSingular, block_row};
+ghost use Rattle.rq_standard.specs.Headline.{HasNonsingularRows, IsNonsingular, block_row};
 ghost use Rattle.rq_standard.specs.TableRows.{greatest_size, row_of};
 ghost use Rattle.raptorq.specs.BlockData.{IsPlanFor};
 ghost use Rattle.raptorq.specs.SourceBlockEncoder.{block_encoded_of};
@@ -68,8 +68,7 @@ impl<'a> BlockCutter<'a> {
         ensures config { self.new.config ≡ self.old.config }
         ensures refused { IfErr result (RefusesRows self.old.table.now self.old.config.now) }
     {
-        let count = block_symbols(self.config, number);
-        self.prepare_plan(count as u16)?;
+        let count = self.prepare_plan(number)?;
         // The object may end before its last blocks do.
         let size = usize::from(self.config.symbol_size());
         let whole = count as usize * size;
@@ -84,25 +83,27 @@ impl<'a> BlockCutter<'a> {
         ensures refused { IfErr result (RefusesRows self.old.table.now self.old.config.now) }
     {
         for number in 0..self.config.source_blocks() {
-            let count = block_symbols(self.config, number);
-            self.prepare_plan(count as u16)?;
+            let _count = self.prepare_plan(number)?;
         }
         Ok(())
     }
 
-    // Makes a plan for blocks with `count` source symbols, unless the last one is.
-    fn prepare_plan(&mut self, count: u16) -> Result<(), Error>
-        requires { count ≤ greatest_size self.old.table.now }
-        ensures plan { OnOk result (IsPlanFor self.new.table.now count (plan_of self.new.plan)) }
-        ensures nonsingular { OnOk result (IsNonsingular (row_of self.old.table.now count)) }
+    // Makes a plan for the block with this number, unless the last one is, and answers the number of its
+    // source symbols.
+    fn prepare_plan(&mut self, number: u8) -> Result<u32, Error>
+        requires { number < self.old.config.now.source_blocks }
+        ensures count { IfOk result (λ count. count ≡ block_symbols self.old.config.now number) }
+        ensures plan { IfOk result (λ count. IsPlanFor self.old.table.now count (plan_of self.new.plan)) }
+        ensures nonsingular { OnOk result (IsNonsingular (block_row self.old.table.now self.old.config.now number)) }
         ensures table { self.new.table ≡ self.old.table }
         ensures config { self.new.config ≡ self.old.config }
         ensures rest { self.new.rest ≡ self.old.rest }
-        ensures refused { IfErr result (λ e. (e ≡ Error.OutOfMemory) ⊎ ((e ≡ Error.Singular) × IsSingular (row_of self.old.table.now count))) }
+        ensures refused { IfErr result (RefusesRows self.old.table.now self.old.config.now) }
     {
-        if self.plan.source_symbol_count() != count {
-            self.plan = SourceBlockEncodingPlan::generate(self.alloc, self.table, count)?;
+        let count = block_symbols(self.config, number);
+        if u32::from(self.plan.source_symbol_count()) != count {
+            self.plan = SourceBlockEncodingPlan::generate(self.alloc, self.table, count as u16)?;
         }
-        Ok(())
+        Ok(count)
     }
 }

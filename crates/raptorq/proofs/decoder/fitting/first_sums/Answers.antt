@@ -6,7 +6,7 @@ use Rattle.rq_standard.specs.OctetField.{octets}
 use Rattle.rq_standard.specs.Equations.{before_hdpc}
 use Rattle.rq_standard.specs.TableRows.{intermediate_symbols}
 use Rattle.raptorq.specs.HdpcSums.{AreHdpcSums}
-use Rattle.raptorq.proofs.HdpcSumSteps.{answer_meets, gathered_sums, range_numbers, sum_places_below}
+use Rattle.raptorq.proofs.HdpcSumSteps.{answered_slab, gathered_sums, range_numbers, sum_places_below}
 use Rattle.raptorq.proofs.Summing.{place_of_slab}
 use Rattle.raptorq.proofs.decoder.fitting.first_sums.Goals as goal
 use Rattle.raptorq.proofs.decoder.fitting.first_sums.Goals.{In_ok-places}
@@ -31,6 +31,6 @@ returns-clause-sums c =
     let row = c.args.row.now.numbers in
     let slab = c.args.intermediate.now in
     let column = symbol_in slab in
-    answer_meets c.gather.result _ (AreHdpcSums row column slab.symbol_size 0) c.gather.ensures (λ sums is.
+    answered_slab c.gather.result _ (AreHdpcSums row column slab.symbol_size 0) c.gather.ensures (λ sums is.
     gathered_sums row column slab.symbol_size slab sums c.in_ok-places.places.items refl (numbers_are (goal.at.returns-clause-sums c).In_ok-places) (is ∙ ap (λ places. slab_of slab.symbol_size (map (symbol_in slab) places)) (c.as_slice.ensures.value ∙ c.in_ok-push.ensures.items))
     (symbol_elements octets slab.symbol_size (column 0) (c.requires.symbols 0 (omega arith))))

@@ -1,31 +1,13 @@
-use Rattle.std.proofs.Common.{◌≡◌, ◌*◌, take, drop, length, ap, ◌∙◌, subst, arith}
-use Rattle.std.proofs.lemmas.Result.{IfOk-weaker, err_from_is_err_and}
+use Rattle.std.proofs.Common.{◌≡◌, ◌*◌, take, drop, length, ap, ◌∙◌}
+use Rattle.std.proofs.lemmas.Result.{IfOk-weaker}
 use Rattle.std.proofs.lemmas.List.FromFn.{length-map-range_with_len}
 use Rattle.rq_standard.specs.Cutting.{block_symbols, symbol_of_block}
-use Rattle.rq_standard.specs.Headline.{IsNonsingular}
 use Rattle.rq_standard.specs.TableRows.{row_of}
-use Rattle.rq_standard.proofs.BlockCuts.{block_symbols_few}
 use Rattle.raptorq.specs.BlockCutting.{from_block}
 use Rattle.raptorq.specs.SourceBlockEncoder.{BlockEncoded, block_encoded_of}
 use Rattle.raptorq.specs.SourceBlockEncodingPlan.{plan_of}
-use Rattle.raptorq.proofs.EncodedBlocks.{block_front, block_behind, encoded_is, refuses_numbered_block}
+use Rattle.raptorq.proofs.EncodedBlocks.{block_front, block_behind, encoded_is}
 use Rattle.raptorq.proofs.encoder.block_cutter.BlockCutter.next_encoder.Goals as goal
-
-pub overflow_cast-count : goal.overflow_cast-count
-overflow_cast-count c =
-    let s = c.args.self.now in
-    omega (arith, c.block_symbols-count.ensures, block_symbols_few s.config.now c.args.number c.requires, s.few)
-
-pub prepare_plan-requires : goal.prepare_plan-requires
-prepare_plan-requires c =
-    let s = c.args.self.now in
-    omega (arith, c.block_symbols-count.ensures, block_symbols_few s.config.now c.args.number c.requires, s.accepted.in_table)
-
-pub returns-in_err-prepare_plan-clause-refused : goal.returns-in_err-prepare_plan-clause-refused
-returns-in_err-prepare_plan-clause-refused c =
-    let s = c.args.self.now in
-    let p = err_from_is_err_and c.from_residual.result c.from_residual.ensures.1 in
-    rw (p.1, p.2) (refuses_numbered_block s.table.now s.config.now c.args.number c.block_symbols-count.result c.in_err-prepare_plan.field-0.0 c.requires c.block_symbols-count.ensures c.in_err-prepare_plan.ensures.refused)
 
 pub returns-clause-encoded : goal.returns-clause-encoded
 returns-clause-encoded c =
@@ -33,23 +15,24 @@ returns-clause-encoded c =
     let t = c.prepare_plan.new.self in
     let n = c.args.number in
     let made = c.prepare_plan.ensures in
-    let plan = c.in_ok-prepare_plan.ensures.plan in
-    let whole = c.block_symbols-count.result * c.from-size.result in
-    let many : whole ≡ block_symbols s.config.now n * s.config.now.symbol_size = ap (λ m. m * c.from-size.result) c.block_symbols-count.ensures ∙ ap (λ z. block_symbols s.config.now n * z) (c.from-size.ensures ∙ c.symbol_size.ensures ∙ (λ i. (made.config i).now.symbol_size)) in
+    let count = c.in_ok-count.ensures.count in
+    let plan = c.in_ok-count.ensures.plan in
+    let whole = c.in_ok-count.count * c.from-size.result in
+    let many : whole ≡ block_symbols s.config.now n * s.config.now.symbol_size = ap (λ m. m * c.from-size.result) count ∙ ap (λ z. block_symbols s.config.now n * z) (c.from-size.ensures ∙ c.symbol_size.ensures ∙ (λ i. (made.config i).now.symbol_size)) in
     IfOk-weaker c.of_block.result _ _ (λ encoder is object stands.
     let rest : t.rest.now ≡ from_block s.config.now object n = (λ i. (made.rest i).now) ∙ stands in
     let bytes = block_front s.config.now object t.rest.now n whole rest many c.split_at.result.0.now (c.split_at.ensures.front ∙ ap (λ m. take m t.rest.now) c.min.ensures) in
-    let row = plan.1 ∙ (λ i. row_of (made.table i).now c.block_symbols-count.result) ∙ ap (row_of s.table.now) c.block_symbols-count.ensures in (
-      encoded_is s.table.now s.config.now object c.split_at.result.0.now n (plan_of t.plan).count (block_encoded_of encoder) (plan_of t.plan).row (rw made.config at is) row (plan.0 ∙ c.block_symbols-count.ensures) bytes,
+    let row = plan.1 ∙ ap (row_of s.table.now) count in (
+      encoded_is s.table.now s.config.now object c.split_at.result.0.now n (plan_of t.plan).count (block_encoded_of encoder) (plan_of t.plan).row (rw made.config at is) row (plan.0 ∙ count) bytes,
       rw made.config (block_behind s.config.now object t.rest.now n whole rest many c.split_at.result.1.now c.requires (c.split_at.ensures.back ∙ ap (λ m. drop m t.rest.now) c.min.ensures)),
     )) c.of_block.ensures.encoded
 
 pub returns-clause-nonsingular : goal.returns-clause-nonsingular
 returns-clause-nonsingular c =
-    IfOk-weaker c.of_block.result _ _ (λ encoder is. subst (λ m. IsNonsingular (row_of c.args.self.now.table.now m)) c.block_symbols-count.ensures c.in_ok-prepare_plan.ensures.nonsingular) c.of_block.ensures.encoded
+    IfOk-weaker c.of_block.result _ _ (λ encoder is. c.in_ok-count.ensures.nonsingular) c.of_block.ensures.encoded
 
 pub returns-clause-symbols : goal.returns-clause-symbols
 returns-clause-symbols c =
-    let plan = c.in_ok-prepare_plan.ensures.plan in
+    let plan = c.in_ok-count.ensures.plan in
     let cut = symbol_of_block c.prepare_plan.new.self.config.now (plan_of c.prepare_plan.new.self.plan).count c.split_at.result.0.now in
-    IfOk-weaker c.of_block.result _ _ (λ encoder is. ap (λ (k : BlockEncoded). length k.source) is ∙ length-map-range_with_len cut 0 (plan_of c.prepare_plan.new.self.plan).count ∙ plan.0 ∙ c.block_symbols-count.ensures) c.of_block.ensures.encoded
+    IfOk-weaker c.of_block.result _ _ (λ encoder is. ap (λ (k : BlockEncoded). length k.source) is ∙ length-map-range_with_len cut 0 (plan_of c.prepare_plan.new.self.plan).count ∙ plan.0 ∙ c.in_ok-count.ensures.count) c.of_block.ensures.encoded
