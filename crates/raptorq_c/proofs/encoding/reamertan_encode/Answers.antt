@@ -2,12 +2,13 @@ use Rattle.std.proofs.Common.{◌≡◌, ◌≢◌, ℕ, List, length, Result, O
 use Rattle.std.specs.Prelude.{OnOk, OnErr}
 use Rattle.rq_bytes.specs.declared.error.Error.{Error}
 use Rattle.rq_bytes.specs.Error.{code_of}
+use Rattle.rq_base.proofs.Accepted.{ok_of}
 use Rattle.raptorq_c.specs.declared.call_end.CallEnd.{CallEnd}
 use Rattle.raptorq_c.specs.declared.rows.Row.{Row}
 use Rattle.raptorq_c.specs.PacketBuffers.{FillsWithPackets, IsEncoding, StopsAt, no_room}
 use Rattle.raptorq_c.specs.Numbers.{number_of}
 use Rattle.raptorq_c.proofs.Ending.{code_positive}
-use Rattle.raptorq_c.proofs.PacketLengths.{packets_room, wanted}
+use Rattle.raptorq_c.proofs.PacketLengths.{packets_room}
 use Rattle.raptorq_c.proofs.encoding.reamertan_encode.Goals as goal
 
 -- a buffer is filled with bytes of the packets where it has their length
@@ -15,7 +16,7 @@ filled : (rows : List Row) (header object : List ℕ) (repair : ℕ) (bytes befo
     → OnErr ended (number_of ended ≡ 24) → OnErr ended (length bytes ≢ length before) → OnErr ended (after ≡ before) → FillsWithPackets rows header object repair (number_of ended) before after
 filled rows header object repair bytes before after (Ok x) are is fits number other kept = record {
   packets = λ _. subst (IsEncoding rows header object repair) (sym is) are;
-  room = λ _. packets_room rows header object repair bytes are ∙ ap wanted fits;
+  room = λ _. packets_room rows header object repair bytes are ∙ ap ok_of fits;
   stopped = λ not_done. absurd (not_done refl);
   kept = λ not_done. absurd (not_done refl);
 }
