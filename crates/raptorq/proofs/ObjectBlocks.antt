@@ -77,8 +77,8 @@ block_of_packet items p count i x numbered here below is = record {
   is = is ∙ ap (λ n. get_or items n x) here;
 }
 
-after : (items : List ObjectBlock) (i : ℕ) (y : ObjectBlock) → i < length items → y ≡ get_or (set items i y) i y
-after items i y below = sym (get_or-set_same items i y y below)
+set_there : (items : List ObjectBlock) (i : ℕ) (y : ObjectBlock) → i < length items → y ≡ get_or (set items i y) i y
+set_there items i y below = sym (get_or-set_same items i y y below)
 
 within : (items : List ObjectBlock) (i : ℕ) (y : ObjectBlock) → i < length items → i < length (set items i y)
 within items i y below = omega (arith, length-set items i y)
@@ -103,7 +103,7 @@ module _ (c : Configuration) (items : List ObjectBlock) (p : Packet) (x y : Obje
       let i = p.id.block in
       let new = set items i y in
       said_here c items i x below is (λ h a. P h a p (received_at c new i) (answer_at new i))
-      (said_here c new i y (within items i y below) (after items i y below) (P (received_of x.decoder) (answer_of x) p) so)
+      (said_here c new i y (within items i y below) (set_there items i y below) (P (received_of x.decoder) (answer_of x) p) so)
 
   adds_at : AddsToBlock (received_of x.decoder) (answer_of x) p (received_of y.decoder) (answer_of y) → Adds (state c items) p (state c (set items p.id.block y))
   adds_at add = record { here = shown_here AddsToBlock add; elsewhere = elsewhere c items p.id.block y }
@@ -123,7 +123,7 @@ module _ (c : Configuration) (items : List ObjectBlock) (p : Packet) (x y : Obje
   takes_at (Err NotSolved) so = records_at so
   takes_at (Err Contradicted) so = record {
     records = records_at so.0;
-    contradictory = subst IsContradictory (sym (received_here c (set items p.id.block y) p.id.block y (within items p.id.block y below) (after items p.id.block y below))) so.1;
+    contradictory = subst IsContradictory (sym (received_here c (set items p.id.block y) p.id.block y (within items p.id.block y below) (set_there items p.id.block y below))) so.1;
   }
   takes_at (Err NotRecorded) so = stays_at so.0 so.1
   takes_at (Err NotJoined) so = so

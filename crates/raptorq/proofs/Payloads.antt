@@ -42,14 +42,14 @@ or_later-again f k x has e = kept_by (f e) (f k) (eqb k e) x (λ t. ap (λ n. is
 pub added_elsewhere : (f g : ℕ → Option (List ℕ)) (k : ℕ) (x : List ℕ) → AddsUnlessThere k x f g → (e : ℕ) → k ≢ e → g e ≡ f e
 added_elsewhere f g k x grown e apart = grown e ∙ ap (λ b. or_later (f e) (cond b (Some x) None)) (ne_eqb k e apart) ∙ or_later-none (f e)
 
-one_of : (P : List ℕ → Type 0) (o : Option (List ℕ)) (b : Bool) (x y : List ℕ) → ForSome o P → (b ≡ true → P x) → or_later o (cond b (Some x) None) ≡ Some y → P y
-one_of P (Some z) b x y all here is = all y is
-one_of P None true x y all here is = let same : x ≡ y = cc in subst P same (here refl)
-one_of P None false x y all here is = absurd (cc is)
+held_or_added : (P : List ℕ → Type 0) (o : Option (List ℕ)) (b : Bool) (x y : List ℕ) → ForSome o P → (b ≡ true → P x) → or_later o (cond b (Some x) None) ≡ Some y → P y
+held_or_added P (Some z) b x y all here is = all y is
+held_or_added P None true x y all here is = let same : x ≡ y = cc in subst P same (here refl)
+held_or_added P None false x y all here is = absurd (cc is)
 
 -- what holds of each, and of one more
 pub all-more : (P : ℕ → List ℕ → Type 0) (f g : ℕ → Option (List ℕ)) (k : ℕ) (x : List ℕ) → ((e : ℕ) → ForSome (f e) (P e)) → P k x → AddsUnlessThere k x f g → (e : ℕ) → ForSome (g e) (P e)
-all-more P f g k x all here grown e y is = one_of (P e) (f e) (eqb k e) x y (all e) (λ same. subst (λ n. P n x) (eqb-true k e same) here) (sym (grown e) ∙ is)
+all-more P f g k x all here grown e y is = held_or_added (P e) (f e) (eqb k e) x y (all e) (λ same. subst (λ n. P n x) (eqb-true k e same) here) (sym (grown e) ∙ is)
 
 -- an empty map holds nothing
 pub payload_of-empty : (m : Payloads) → m.entries ≡ [] → (e : ℕ) → payload_of m e ≡ None

@@ -28,8 +28,8 @@ pub offset_count : (c : Configuration) (xs : List (ℕ × ℕ)) → checked_offs
 offset_count c xs h = ap length (offsets_of c xs h) ∙ length-map-range_with_len (block_range c) 0 c.source_blocks
 
 -- of a block that the object has
-pub block_found : (header : List ℕ) (b : ℕ) (d : Configuration) (xs : List (ℕ × ℕ)) → d ≡ configuration_of_bytes header → checked_offsets d ≡ Ok xs → b < d.source_blocks → part_of_block header b ≡ ok_of (block_range d b)
-block_found header b d xs same is below =
+pub range_of_block : (header : List ℕ) (b : ℕ) (d : Configuration) (xs : List (ℕ × ℕ)) → d ≡ configuration_of_bytes header → checked_offsets d ≡ Ok xs → b < d.source_blocks → part_of_block header b ≡ ok_of (block_range d b)
+range_of_block header b d xs same is below =
     subst (λ k. and_then (checked_offsets k) (λ _. cond (ltb b k.source_blocks) (Ok (block_range k b)) (Err UnknownBlock)) ≡ Ok (block_range d b)) same (rw (is, lt-ltb b d.source_blocks below) refl)
 
 -- ---- how many bytes packets take

@@ -3,7 +3,7 @@ use Rattle.std.proofs.lemmas.List.FromFn.{get_or-map-range_with_len}
 use Rattle.raptorq.specs.Offsets.{block_range}
 use Rattle.raptorq_c.specs.Sizes.{part_of_block, range_between}
 use Rattle.raptorq_c.proofs.Ending.{fills_done}
-use Rattle.raptorq_c.proofs.Sized.{offsets_of, offset_count, block_found}
+use Rattle.raptorq_c.proofs.Sized.{offsets_of, offset_count, range_of_block}
 use Rattle.raptorq_c.proofs.sizes.block_range.Goals as goal
 
 pub index-requires : goal.index-requires
@@ -21,4 +21,4 @@ returns c =
     let here : c.from.result < d.source_blocks = omega (arith, below, c.from.ensures) in
     let at : now ≡ block_range d c.args.block =
     c.index.ensures ∙ ap (λ xs. get_or xs c.from.result now) (offsets_of d items is) ∙ get_or-map-range_with_len (block_range d) 0 d.source_blocks c.from.result c.from.result now here (omega arith) ∙ ap (block_range d) c.from.ensures in
-    fills_done range_between (part_of_block header c.args.block) c.args.range.now (range_between now) (block_range d c.args.block) (block_found header c.args.block d items c.deserialize-config.ensures is below) (ap range_between at)
+    fills_done range_between (part_of_block header c.args.block) c.args.range.now (range_between now) (block_range d c.args.block) (range_of_block header c.args.block d items c.deserialize-config.ensures is below) (ap range_between at)
