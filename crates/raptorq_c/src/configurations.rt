@@ -9,6 +9,7 @@ ghost use Rattle.raptorq_c.specs.Headers.{parameters_of, checked_header, derived
 use crate::call_end::{CallEnd, number};
 use crate::rows::{Row, table_with};
 use raptorq::ObjectTransmissionInformation;
+use raptorq::base::CONFIGURATION_LENGTH;
 use raptorq::error::Error;
 use std::alloc::Global;
 
@@ -58,7 +59,7 @@ pub extern "C" fn reamertan_derive_configuration(
     object_length: u64,
     packet_size: u16,
     decoder_memory: u64,
-    configuration: &mut [u8; 12],
+    configuration: &mut [u8; CONFIGURATION_LENGTH],
 ) -> u8
     ensures { Fills header_bytes (derived_configuration rows.now object_length packet_size decoder_memory)
         result configuration.old configuration.new }
@@ -73,7 +74,10 @@ pub extern "C" fn reamertan_derive_configuration(
 }
 
 // Writes the configuration of these numbers.
-fn write(parameters: &Parameters, configuration: &mut [u8; 12]) -> Result<(), CallEnd>
+fn write(
+    parameters: &Parameters,
+    configuration: &mut [u8; CONFIGURATION_LENGTH],
+) -> Result<(), CallEnd>
     ensures number { number_of result ≡ refusal_number (new_configuration (parameters_of parameters.now)) }
     ensures fills { Fills header_bytes (new_configuration (parameters_of parameters.now)) (number_of result) configuration.old configuration.new }
 {
@@ -93,7 +97,7 @@ fn write(parameters: &Parameters, configuration: &mut [u8; 12]) -> Result<(), Ca
 #[unsafe(no_mangle)]
 pub extern "C" fn reamertan_write_configuration(
     parameters: &Parameters,
-    configuration: &mut [u8; 12],
+    configuration: &mut [u8; CONFIGURATION_LENGTH],
 ) -> u8
     ensures number { result ≡ refusal_number (new_configuration (parameters_of parameters.now)) }
     ensures fills { Fills header_bytes (new_configuration (parameters_of parameters.now)) result configuration.old configuration.new }
@@ -104,7 +108,7 @@ pub extern "C" fn reamertan_write_configuration(
 /// The numbers of the configuration that twelve bytes spell, whether or not coders take it.
 #[unsafe(no_mangle)]
 pub extern "C" fn reamertan_read_configuration(
-    configuration: &[u8; 12],
+    configuration: &[u8; CONFIGURATION_LENGTH],
     parameters: &mut Parameters,
 )
     ensures { parameters_of parameters.new ≡ configuration_of_bytes configuration.now }
@@ -120,7 +124,11 @@ pub extern "C" fn reamertan_read_configuration(
 }
 
 // Tests that coders take a configuration.
-fn check(alloc: Global, rows: &[Row], configuration: &[u8; 12]) -> Result<(), CallEnd>
+fn check(
+    alloc: Global,
+    rows: &[Row],
+    configuration: &[u8; CONFIGURATION_LENGTH],
+) -> Result<(), CallEnd>
     ensures { IsNumber (number_of result) (checked_header rows.now configuration.now) }
 {
     let table = table_with(alloc, rows)?;
@@ -134,7 +142,7 @@ fn check(alloc: Global, rows: &[Row], configuration: &[u8; 12]) -> Result<(), Ca
 pub extern "C" fn reamertan_check_configuration(
     alloc: Global,
     rows: &[Row],
-    configuration: &[u8; 12],
+    configuration: &[u8; CONFIGURATION_LENGTH],
 ) -> u8
     ensures { IsNumber result (checked_header rows.now configuration.now) }
 {

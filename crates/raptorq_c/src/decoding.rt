@@ -10,6 +10,7 @@ ghost use Rattle.raptorq_c.specs.Numbers.{number_of};
 use crate::buffers::fill_answer;
 use crate::call_end::{CallEnd, number};
 use crate::rows::{Row, table_with};
+use raptorq::base::CONFIGURATION_LENGTH;
 use raptorq::decoder::decode_all;
 use raptorq::encoder::SPARSE_MATRIX_THRESHOLD;
 use raptorq::error::Error;
@@ -36,7 +37,7 @@ fn steps(alloc: Global, size: usize, bytes: &[u8]) -> Result<Vec<(u32, EncodingP
 fn decode(
     alloc: Global,
     rows: &[Row],
-    configuration: &[u8; 12],
+    configuration: &[u8; CONFIGURATION_LENGTH],
     packets: &[u8],
     object: &mut [u8],
 ) -> Result<(), CallEnd>
@@ -59,7 +60,7 @@ fn decode(
 pub extern "C" fn reamertan_decode(
     alloc: Global,
     rows: &[Row],
-    configuration: &[u8; 12],
+    configuration: &[u8; CONFIGURATION_LENGTH],
     packets: &[u8],
     object: &mut [u8],
 ) -> u8

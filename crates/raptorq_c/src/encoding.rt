@@ -7,6 +7,7 @@ use crate::buffers::fill;
 use crate::call_end::number;
 use crate::rows::{Row, table_with};
 use raptorq::ObjectTransmissionInformation;
+use raptorq::base::CONFIGURATION_LENGTH;
 use raptorq::encoder::encode_all;
 use raptorq::error::Error;
 use std::alloc::Global;
@@ -15,7 +16,7 @@ use std::alloc::Global;
 fn encoded(
     alloc: Global,
     rows: &[Row],
-    configuration: &[u8; 12],
+    configuration: &[u8; CONFIGURATION_LENGTH],
     object: &[u8],
     repair: u32,
 ) -> Result<Vec<u8>, Error>
@@ -38,7 +39,7 @@ fn encoded(
 pub extern "C" fn reamertan_encode(
     alloc: Global,
     rows: &[Row],
-    configuration: &[u8; 12],
+    configuration: &[u8; CONFIGURATION_LENGTH],
     object: &[u8],
     repair: u32,
     packets: &mut [u8],

@@ -11,12 +11,17 @@ use crate::call_end::{CallEnd, number};
 use crate::handle::Handle;
 use crate::owned::Coder;
 use crate::rows::{Row, table_with};
+use raptorq::base::CONFIGURATION_LENGTH;
 use raptorq::error::Error;
 use raptorq::{Decoder, EncodingPacket, ObjectTransmissionInformation};
 use std::alloc::Global;
 
 // The decoder of an object in this configuration.
-fn receiver(alloc: Global, rows: &[Row], configuration: &[u8; 12]) -> Result<Box<Coder>, Error>
+fn receiver(
+    alloc: Global,
+    rows: &[Row],
+    configuration: &[u8; CONFIGURATION_LENGTH],
+) -> Result<Box<Coder>, Error>
     ensures refused { Answers (λ _. tt) result (checked_header rows.now configuration.now) }
     ensures decoder { IfOk result (λ b. IsSomeAnd (decoder_in b.value) (IsNewDecoder rows.now configuration.now)) }
 {
@@ -30,7 +35,7 @@ fn receiver(alloc: Global, rows: &[Row], configuration: &[u8; 12]) -> Result<Box
 fn open(
     alloc: Global,
     rows: &[Row],
-    configuration: &[u8; 12],
+    configuration: &[u8; CONFIGURATION_LENGTH],
     handle: &mut Handle,
 ) -> Result<(), CallEnd>
     ensures { OpensDecoder rows.now configuration.now (number_of result) handle.old handle.new }
@@ -48,7 +53,7 @@ fn open(
 pub extern "C" fn reamertan_open_decoder(
     alloc: Global,
     rows: &[Row],
-    configuration: &[u8; 12],
+    configuration: &[u8; CONFIGURATION_LENGTH],
     handle: &mut Handle,
 ) -> u8
     ensures { OpensDecoder rows.now configuration.now result handle.old handle.new }

@@ -10,6 +10,7 @@ use crate::call_end::{CallEnd, number};
 use crate::handle::Handle;
 use crate::owned::Coder;
 use crate::rows::{Row, table_with};
+use raptorq::base::CONFIGURATION_LENGTH;
 use raptorq::error::Error;
 use raptorq::{Encoder, ObjectTransmissionInformation, PayloadId};
 use std::alloc::Global;
@@ -18,7 +19,7 @@ use std::alloc::Global;
 fn sender(
     alloc: Global,
     rows: &[Row],
-    configuration: &[u8; 12],
+    configuration: &[u8; CONFIGURATION_LENGTH],
     object: &[u8],
 ) -> Result<Box<Coder>, Error>
     ensures refused { IfErr result (λ e. (e ≡ Error.OutOfMemory) ⊎ RefusesSender rows.now configuration.now object.now e) }
@@ -34,7 +35,7 @@ fn sender(
 fn open(
     alloc: Global,
     rows: &[Row],
-    configuration: &[u8; 12],
+    configuration: &[u8; CONFIGURATION_LENGTH],
     object: &[u8],
     handle: &mut Handle,
 ) -> Result<(), CallEnd>
@@ -53,7 +54,7 @@ fn open(
 pub extern "C" fn reamertan_open_encoder(
     alloc: Global,
     rows: &[Row],
-    configuration: &[u8; 12],
+    configuration: &[u8; CONFIGURATION_LENGTH],
     object: &[u8],
     handle: &mut Handle,
 ) -> u8

@@ -4,6 +4,7 @@ ghost use Rattle.raptorq_c.specs.Sizes.{part_of_block, bytes_of_packets, range_b
 
 use crate::call_end::{CallEnd, number};
 use crate::rows::{Row, table_with};
+use raptorq::base::CONFIGURATION_LENGTH;
 use raptorq::error::Error;
 use raptorq::{ObjectTransmissionInformation, calculate_block_offsets, encoder};
 use std::alloc::Global;
@@ -21,7 +22,7 @@ pub struct Range {
 // Writes where a source block begins and where it ends.
 fn block_range(
     alloc: Global,
-    configuration: &[u8; 12],
+    configuration: &[u8; CONFIGURATION_LENGTH],
     block: u8,
     range: &mut Range,
 ) -> Result<(), CallEnd>
@@ -48,7 +49,7 @@ fn block_range(
 #[unsafe(no_mangle)]
 pub extern "C" fn reamertan_block_range(
     alloc: Global,
-    configuration: &[u8; 12],
+    configuration: &[u8; CONFIGURATION_LENGTH],
     block: u8,
     range: &mut Range,
 ) -> u8
@@ -61,7 +62,7 @@ pub extern "C" fn reamertan_block_range(
 fn packets_length(
     alloc: Global,
     rows: &[Row],
-    configuration: &[u8; 12],
+    configuration: &[u8; CONFIGURATION_LENGTH],
     repair: u32,
     length: &mut u64,
 ) -> Result<(), CallEnd>
@@ -83,7 +84,7 @@ fn packets_length(
 pub extern "C" fn reamertan_packets_length(
     alloc: Global,
     rows: &[Row],
-    configuration: &[u8; 12],
+    configuration: &[u8; CONFIGURATION_LENGTH],
     repair: u32,
     length: &mut u64,
 ) -> u8
