@@ -1,6 +1,9 @@
 //! Packets and configurations.
 
-use crate::calls::{self, Configuration, Parameters, accepted};
+use crate::calls::{
+    self, Configuration, DEFAULT_DECODER_MEMORY, ENCODING_SYMBOL_IDS, PAYLOAD_ID_LENGTH,
+    Parameters, accepted,
+};
 
 /// Which symbol of which source block a packet carries.
 #[derive(Clone, Debug, PartialEq, PartialOrd, Eq, Ord, Hash)]
@@ -12,7 +15,7 @@ pub struct PayloadId {
 impl PayloadId {
     /// An id. Panics where the encoding symbol id doesn't fit 24 bits.
     pub fn new(source_block_number: u8, encoding_symbol_id: u32) -> PayloadId {
-        assert!(encoding_symbol_id < 1 << 24, "EsiTooLarge");
+        assert!(encoding_symbol_id < ENCODING_SYMBOL_IDS, "EsiTooLarge");
         PayloadId {
             source_block_number,
             encoding_symbol_id,
@@ -20,7 +23,7 @@ impl PayloadId {
     }
 
     /// The id that four bytes spell.
-    pub fn deserialize(data: &[u8; 4]) -> PayloadId {
+    pub fn deserialize(data: &[u8; PAYLOAD_ID_LENGTH]) -> PayloadId {
         PayloadId {
             source_block_number: data[0],
             encoding_symbol_id: u32::from_be_bytes([0, data[1], data[2], data[3]]),
@@ -28,7 +31,7 @@ impl PayloadId {
     }
 
     /// The four bytes that spell the id.
-    pub fn serialize(&self) -> [u8; 4] {
+    pub fn serialize(&self) -> [u8; PAYLOAD_ID_LENGTH] {
         let id = self.encoding_symbol_id.to_be_bytes();
         [self.source_block_number, id[1], id[2], id[3]]
     }
@@ -118,7 +121,7 @@ impl ObjectTransmissionInformation {
         transfer_length: u64,
         max_packet_size: u16,
     ) -> ObjectTransmissionInformation {
-        Self::derived(transfer_length, max_packet_size, 10 * 1024 * 1024)
+        Self::derived(transfer_length, max_packet_size, DEFAULT_DECODER_MEMORY)
     }
 
     pub(crate) fn derived(
@@ -131,7 +134,7 @@ impl ObjectTransmissionInformation {
     }
 
     /// The configuration that twelve bytes spell.
-    pub fn deserialize(data: &[u8; 12]) -> ObjectTransmissionInformation {
+    pub fn deserialize(data: &Configuration) -> ObjectTransmissionInformation {
         let read = calls::read(data);
         ObjectTransmissionInformation {
             transfer_length: read.transfer_length,
@@ -143,7 +146,7 @@ impl ObjectTransmissionInformation {
     }
 
     /// The twelve bytes that spell the configuration.
-    pub fn serialize(&self) -> [u8; 12] {
+    pub fn serialize(&self) -> Configuration {
         self.bytes()
     }
 

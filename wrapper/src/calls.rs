@@ -4,8 +4,20 @@
 use std::fmt;
 use std::ptr::null_mut;
 
+/// How many bytes spell a configuration.
+const CONFIGURATION_LENGTH: usize = 12;
+
+/// How many bytes of a packet spell its payload id.
+pub const PAYLOAD_ID_LENGTH: usize = 4;
+
+/// How many encoding symbol ids there are.
+pub const ENCODING_SYMBOL_IDS: u32 = 1 << 24;
+
+/// The memory in bytes that each sub-block is to fit, where nobody says another number.
+pub const DEFAULT_DECODER_MEMORY: u64 = 10 * 1024 * 1024;
+
 /// A configuration as RFC 6330 writes it.
-pub type Configuration = [u8; 12];
+pub type Configuration = [u8; CONFIGURATION_LENGTH];
 
 /// The numbers of a configuration.
 #[repr(C)]
@@ -142,7 +154,7 @@ pub fn accepted<T>(answer: Result<T, Refusal>) -> T {
 }
 
 pub fn derive(length: u64, packet_size: u16, memory: u64) -> Result<Configuration, Refusal> {
-    let mut made = [0; 12];
+    let mut made = [0; CONFIGURATION_LENGTH];
     // SAFETY: the declaration is the header's, a row has the layout of its struct, and the other
     // pointer is that of twelve bytes.
     let number = unsafe {
@@ -159,7 +171,7 @@ pub fn derive(length: u64, packet_size: u16, memory: u64) -> Result<Configuratio
 }
 
 pub fn write(parameters: &Parameters) -> Result<Configuration, Refusal> {
-    let mut made = [0; 12];
+    let mut made = [0; CONFIGURATION_LENGTH];
     // SAFETY: as above, and the struct has the header's layout.
     let number = unsafe { reamertan_write_configuration(parameters, &mut made) };
     answered(number, made)

@@ -2,7 +2,9 @@
 
 use crate::base::{EncodingPacket, ObjectTransmissionInformation};
 use crate::blocks::{GREATEST_BLOCK, calculate_block_offsets};
-use crate::calls::{self, CONTRADICTION, Configuration, Handle, Refusal, accepted};
+use crate::calls::{
+    self, CONTRADICTION, Configuration, Handle, PAYLOAD_ID_LENGTH, Refusal, accepted,
+};
 use std::collections::BTreeSet;
 use std::fmt;
 
@@ -206,7 +208,7 @@ impl SourceBlockDecoder {
             Some(begun) => begun,
             None => (Handle::decoder(&self.configuration)?, 0),
         };
-        for packet in self.packets[taken..].chunks(4 + self.symbol_size) {
+        for packet in self.packets[taken..].chunks(PAYLOAD_ID_LENGTH + self.symbol_size) {
             handle.add_packet(packet)?;
         }
         if handle.missing_packets(0)? == 0 {
@@ -221,7 +223,10 @@ impl SourceBlockDecoder {
     // What `==` of the crate's decoders sees of the packets: those of source symbols by their ids, and
     // behind them the others as they came.
     fn compared(&self) -> Vec<&[u8]> {
-        let mut packets: Vec<&[u8]> = self.packets.chunks(4 + self.symbol_size).collect();
+        let mut packets: Vec<&[u8]> = self
+            .packets
+            .chunks(PAYLOAD_ID_LENGTH + self.symbol_size)
+            .collect();
         packets.sort_by_key(|packet| {
             let id = u32::from_be_bytes([0, packet[1], packet[2], packet[3]]);
             id.min(self.source_symbols)

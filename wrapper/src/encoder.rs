@@ -2,7 +2,9 @@
 
 use crate::base::{EncodingPacket, ObjectTransmissionInformation, PayloadId};
 use crate::blocks::{GREATEST_BLOCK, calculate_block_offsets};
-use crate::calls::{Configuration, Handle, accepted};
+use crate::calls::{
+    Configuration, DEFAULT_DECODER_MEMORY, ENCODING_SYMBOL_IDS, Handle, PAYLOAD_ID_LENGTH, accepted,
+};
 use std::fmt;
 use std::ops::Range;
 use std::sync::{Arc, Mutex, PoisonError};
@@ -18,7 +20,7 @@ impl EncoderBuilder {
     /// A builder for packets of at most 1024 bytes of payload, and decoders with 10 MiB of memory.
     pub fn new() -> EncoderBuilder {
         EncoderBuilder {
-            decoder_memory_requirement: 10 * 1024 * 1024,
+            decoder_memory_requirement: DEFAULT_DECODER_MEMORY,
             max_packet_size: 1024,
         }
     }
@@ -173,13 +175,16 @@ impl SourceBlockEncoder {
     pub fn repair_packets(&self, start_repair_symbol_id: u32, packets: u32) -> Vec<EncodingPacket> {
         let start = u64::from(self.source_symbols) + u64::from(start_repair_symbol_id);
         let end = start + u64::from(packets);
-        assert!(packets == 0 || end <= 1 << 24, "EsiTooLarge");
+        assert!(
+            packets == 0 || end <= u64::from(ENCODING_SYMBOL_IDS),
+            "EsiTooLarge"
+        );
         self.packets(start as u32..end as u32)
     }
 
     // The packets of these encoding symbol ids.
     fn packets(&self, ids: Range<u32>) -> Vec<EncodingPacket> {
-        let mut bytes = vec![0; 4 + usize::from(self.symbol_size)];
+        let mut bytes = vec![0; PAYLOAD_ID_LENGTH + usize::from(self.symbol_size)];
         let mut handle = self
             .sender
             .handle
@@ -189,7 +194,7 @@ impl SourceBlockEncoder {
             accepted(handle.write_packet(self.sender.block, id, &mut bytes));
             EncodingPacket::new(
                 PayloadId::new(self.source_block_id, id),
-                bytes[4..].to_vec(),
+                bytes[PAYLOAD_ID_LENGTH..].to_vec(),
             )
         };
         ids.map(packet).collect()
