@@ -141,8 +141,8 @@ impl Endings {
     }
 }
 
-// Counts how calls ended.
-fn add_all(endings: &mut [Endings], ended: &[Ending]) {
+/// Counts how calls ended.
+pub fn add_all(endings: &mut [Endings], ended: &[Ending]) {
     for (endings, ending) in endings.iter_mut().zip(ended) {
         endings.add(*ending);
     }
@@ -158,25 +158,22 @@ fn are_all_both(endings: &[Endings]) -> bool {
     true
 }
 
-/// Calls that are tried together, round by round.
-pub trait Attempts<const N: usize> {
-    /// Tries each of them once.
-    fn attempts(&mut self) -> [Ending; N];
-}
-
-/// Tries calls while memory is given back, and counts how they ended. Answers whether all of it could
-/// be taken, and each of them was refused some and answered where there was enough.
-pub fn is_swept<const N: usize, A: Attempts<N>>(
+/// Tries calls, each of them once a round, while memory is given back. How they ended is counted.
+/// Answers whether all of it could be taken, and each of them was refused some and answered where there
+/// was enough.
+pub fn is_swept<F: FnMut(&mut [Endings])>(
     alloc: Global,
-    calls: &mut A,
-    endings: &mut [Endings; N],
-) -> Result<bool, AllocError> {
+    endings: &mut [Endings],
+    mut attempts: F,
+) -> Result<bool, AllocError>
+    requires { F.IsAlwaysCallable attempts }
+{
     let mut shortage = Shortage::new(alloc, ROUNDS, RESERVE)?;
     for _ in 0..ROUNDS {
-        add_all(endings.as_mut_slice(), calls.attempts().as_slice());
+        attempts(endings);
         shortage.ease(MORE);
     }
     let is_whole = shortage.is_whole();
     drop(shortage);
-    Ok(is_whole && are_all_both(endings.as_slice()))
+    Ok(is_whole && are_all_both(endings))
 }

@@ -5,7 +5,7 @@ use rq_bytes::error::Error;
 use rq_bytes::operation_vector::SymbolOps;
 use rq_bytes::symbol_slab::SymbolSlab;
 use rq_matrix::matrix::DenseBinaryMatrix;
-use rq_memory_kit::{Attempts, Ending, Endings, ROUNDS, is_swept};
+use rq_memory_kit::{Ending, Endings, ROUNDS, add_all, is_swept};
 use rq_solver::pi_solver::IntermediateSymbolDecoder;
 
 // How a slab with a solution is read: that takes memory too.
@@ -49,31 +49,25 @@ fn runs_once(solver: &mut IntermediateSymbolDecoder<DenseBinaryMatrix>) -> Endin
     }
 }
 
-// Solvers that weren't run yet, one for each attempt.
-#[derive(Drop)]
-struct Solvers {
-    left: Vec<IntermediateSymbolDecoder<DenseBinaryMatrix>>,
-}
-
-impl Attempts<1> for Solvers {
-    fn attempts(&mut self) -> [Ending; 1] {
-        match self.left.pop() {
-            Some(mut solver) => [runs_once(&mut solver)],
-            None => [Ending::Other],
-        }
+// Runs the next of some solvers.
+fn runs_next(solvers: &mut Vec<IntermediateSymbolDecoder<DenseBinaryMatrix>>) -> Ending {
+    match solvers.pop() {
+        Some(mut solver) => runs_once(&mut solver),
+        None => Ending::Other,
     }
 }
 
 #[test]
 fn solvers_are_refused_memory_in_turn(rt: HostRuntime) -> Result<(), Error> {
-    let mut left = Vec::new(rt.alloc());
+    let mut solvers = Vec::new(rt.alloc());
     for _ in 0..ROUNDS + 1 {
-        left.push(mirrored_solver(&rt, rt.alloc())?)?;
+        solvers.push(mirrored_solver(&rt, rt.alloc())?)?;
     }
-    let mut solvers = Solvers { left };
     let mut endings = [Endings::new(); 1];
-    let is_swept = is_swept(rt.alloc(), &mut solvers, &mut endings)?;
+    let is_swept = is_swept(rt.alloc(), &mut endings, |endings| {
+        add_all(endings, &[runs_next(&mut solvers)]);
+    })?;
     holds!(rt; is_swept, endings.as_slice());
-    same!(rt; solvers.attempts(), [Ending::Answered]);
+    same!(rt; runs_next(&mut solvers), Ending::Answered);
     Ok(())
 }

@@ -8,7 +8,7 @@ use raptorq::error::Error;
 use raptorq::{Decoder, EncodingPacket};
 use raptorq_test_kit::configurations::configured;
 use raptorq_test_kit::packets::packet;
-use rq_memory_kit::{Attempts, Ending, Endings, ROUNDS, Shortage, is_swept};
+use rq_memory_kit::{Ending, Endings, ROUNDS, Shortage, add_all, is_swept};
 use std::alloc::Global;
 use std::process::Abort;
 
@@ -30,9 +30,8 @@ impl Encoders {
             plans: Plans::new(alloc)?,
         })
     }
-}
 
-impl Attempts<5> for Encoders {
+    // Each call once.
     fn attempts(&mut self) -> [Ending; 5] {
         [
             self.rows.attempt(),
@@ -48,7 +47,9 @@ impl Attempts<5> for Encoders {
 fn encoders_are_refused_memory_in_turn(rt: HostRuntime) -> Result<(), Error> {
     let mut encoders = Encoders::new(rt.alloc())?;
     let mut endings = [Endings::new(); 5];
-    let is_swept = is_swept(rt.alloc(), &mut encoders, &mut endings)?;
+    let is_swept = is_swept(rt.alloc(), &mut endings, |endings| {
+        add_all(endings, &encoders.attempts());
+    })?;
     holds!(rt; is_swept, endings.as_slice());
     same!(rt; encoders.attempts(), [Ending::Answered; 5]);
     Ok(())
@@ -74,9 +75,8 @@ impl Decoders {
             results,
         })
     }
-}
 
-impl Attempts<4> for Decoders {
+    // Each call once.
     fn attempts(&mut self) -> [Ending; 4] {
         [
             self.blocks.attempt(),
@@ -94,7 +94,9 @@ fn decoders_are_refused_memory_in_turn(rt: HostRuntime) -> Result<(), Error> {
     let late = late(&rt, rt.alloc(), &packets[2..11], &packets[11])?;
     let mut decoders = Decoders::new(rt.alloc(), late)?;
     let mut endings = [Endings::new(); 4];
-    let is_swept = is_swept(rt.alloc(), &mut decoders, &mut endings)?;
+    let is_swept = is_swept(rt.alloc(), &mut endings, |endings| {
+        add_all(endings, &decoders.attempts());
+    })?;
     holds!(rt; is_swept, endings.as_slice());
     same!(rt; decoders.attempts(), [Ending::Answered; 4]);
     Ok(())

@@ -3,7 +3,7 @@ use super::streams::{OBJECT, STREAM};
 use crate::compare::{holds, same};
 use raptorq::error::Error;
 use raptorq::systematic_constants::SystematicTable;
-use rq_memory_kit::{Attempts, Ending, Endings, is_swept};
+use rq_memory_kit::{Ending, Endings, add_all, is_swept};
 use rq_streams::{Counted, Outcome, Stop, run_receive, run_send};
 use std::alloc::Global;
 use std::io;
@@ -68,31 +68,16 @@ fn receives(alloc: Global, table: &SystematicTable) -> Ending {
     ending(ended.map(|(outcome, _)| outcome), &room, &OBJECT)
 }
 
-// A run of each program, over one table.
-#[derive(Drop)]
-struct Runs {
-    alloc: Global,
-    table: SystematicTable,
-}
-
-impl Attempts<2> for Runs {
-    fn attempts(&mut self) -> [Ending; 2] {
-        [
-            sends(self.alloc, &self.table),
-            receives(self.alloc, &self.table),
-        ]
-    }
-}
-
 #[test]
 fn runs_are_refused_memory_in_turn(rt: HostRuntime) -> Result<(), Fail> {
-    let mut runs = Runs {
-        alloc: rt.alloc(),
-        table: SystematicTable::built_in(rt.alloc())?,
-    };
+    let alloc = rt.alloc();
+    let table = SystematicTable::built_in(alloc)?;
     let mut endings = [Endings::new(); 2];
-    let is_swept = is_swept(rt.alloc(), &mut runs, &mut endings)?;
+    let is_swept = is_swept(alloc, &mut endings, |endings| {
+        add_all(endings, &[sends(alloc, &table), receives(alloc, &table)]);
+    })?;
     holds!(rt; is_swept, endings.as_slice());
-    same!(rt; runs.attempts(), [Ending::Answered; 2]);
+    same!(rt; sends(alloc, &table), Ending::Answered);
+    same!(rt; receives(alloc, &table), Ending::Answered);
     Ok(())
 }
