@@ -10,10 +10,10 @@ TOP = os.path.dirname(BENCH)
 MANIFEST = '[package]\nname = "{}"\nversion = "0.0.0"\nedition = "2021"\n[dependencies]\nraptorq = {{ path = "{}", version = "=2.0.1", features = ["{}"] }}\n'
 
 
-def arguments(usage, names=None):
-    """The words that a script was called with. With none, or a first one that isn't among the names, it prints its usage, and ends with 2."""
+def arguments(usage, names=None, least=1):
+    """The words that a script was called with. With too few, or a first one that isn't among the names, it prints its usage, and ends with 2."""
     words = sys.argv[1:]
-    if not words or (names is not None and words[0] not in names):
+    if len(words) < least or (names is not None and words[0] not in names):
         print(usage, file=sys.stderr)
         sys.exit(2)
     return words
