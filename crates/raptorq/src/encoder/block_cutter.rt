@@ -83,7 +83,7 @@ impl<'a> BlockCutter<'a> {
         ensures refused { IfErr result (RefusesRows self.old.table.now self.old.config.now) }
     {
         for number in 0..self.config.source_blocks() {
-            let _count = self.prepare_plan(number)?;
+            self.prepare_plan(number)?;
         }
         Ok(())
     }

@@ -9,11 +9,11 @@ prepare_plan-requires c =
     let blocks : c.loop-number.self.config.now.source_blocks ≡ c.args.self.now.config.now.source_blocks = (λ i. (c.loop-number.invariant.config i).now.source_blocks) in
     omega (arith, c.loop-number-test.true, c.source_blocks-number-end.ensures, blocks)
 
-pub returns-in_err-_count-clause-refused : goal.returns-in_err-_count-clause-refused
-returns-in_err-_count-clause-refused c =
+pub returns-in_err-prepare_plan-clause-refused : goal.returns-in_err-prepare_plan-clause-refused
+returns-in_err-prepare_plan-clause-refused c =
     let v = c.loop-number.invariant in
     let p = err_from_is_err_and c.from_residual.result c.from_residual.ensures.1 in
-    rw (p.1, p.2) (rw (v.table, v.config) at c.in_err-_count.ensures.refused)
+    rw (p.1, p.2) (rw (v.table, v.config) at c.in_err-prepare_plan.ensures.refused)
 
 pub loop-number-preserved : goal.loop-number-preserved
 loop-number-preserved c =
@@ -21,7 +21,7 @@ loop-number-preserved c =
     record {
       table = c.prepare_plan.ensures.table ∙ v.table;
       config = c.prepare_plan.ensures.config ∙ v.config;
-      nonsingular = below_more (λ b. IsNonsingular (block_row c.args.self.now.table.now c.args.self.now.config.now b)) c.loop-number.number v.nonsingular (rw (v.table, v.config) at c.in_ok-_count.ensures.nonsingular);
+      nonsingular = below_more (λ b. IsNonsingular (block_row c.args.self.now.table.now c.args.self.now.config.now b)) c.loop-number.number v.nonsingular (rw (v.table, v.config) at c.in_ok-prepare_plan.ensures.nonsingular);
     }
 
 pub returns-clause-nonsingular : goal.returns-clause-nonsingular
