@@ -63,7 +63,7 @@ module _ (row : TableRow) (ids : List ℕ) (bits : BitTable) (hdpc : OctetTable)
 
   shown_outcome : (column : Option (Vec ℕ Global)) → IfSome column (λ shown. IsHomogeneousColumn octets (length handed.values) (intermediate_symbols row) (with_octet_rows row.ldpc_symbols row.hdpc_symbols bits.bit (entry_of hdpc)) shown.items) → IfSome column (IsHomogeneousFor row ids)
   shown_outcome None shown = tt
-  shown_outcome (Some column) shown = shows_same (equation_count row ids) (intermediate_symbols row) _ (equations row ids) (equations_same row ids bits hdpc part octet_part.rows) (Some column) (rw (sym handed_equations.binary.height ∙ part.height) at shown)
+  shown_outcome (Some column) shown = shows_same (equation_count row ids) (intermediate_symbols row) _ (equations row ids) (equations_same row ids bits hdpc part octet_part.rows) (Some column) (rw (sym handed_equations.binary.shape.height ∙ part.shape.height) at shown)
 
   found_outcome : (solved : Solved) → SolvesOrShows (solver_of row bits hdpc handed) solved → SolvesAll row ids solved
   found_outcome (Operations found) finds = finds_equations row ids bits hdpc part octet_part.rows handed handed_equations (operations_of found) finds
@@ -85,7 +85,7 @@ module _ (row : TableRow) (ids : List ℕ) (bits : BitTable) (size precode_rows 
 
   -- what a solver asks of the matrix without them
   pub equations_without_hdpc : intermediate_symbols row ≤ row.ldpc_symbols + length ids → AreEquationsWithoutHdpc row bits handed
-  equations_without_hdpc enough = binary_equations row bits handed (row.ldpc_symbols + length ids) part.width part.boundary part.indexed part.height zeros_are (ap (λ (s : Slab). s.order) zeros) enough
+  equations_without_hdpc enough = binary_equations row bits handed (row.ldpc_symbols + length ids) part.shape zeros_are (ap (λ (s : Slab). s.order) zeros) enough
 
   symbol_rows : ℕ → ℕ → ℕ
   symbol_rows = rows_of (symbol_coefficient row) ids

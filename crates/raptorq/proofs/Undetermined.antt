@@ -22,7 +22,7 @@ use Rattle.raptorq.specs.BlockSolutions.{ShowsListed}
 pub shows_equations : (row : TableRow) (ids : List ℕ) (bits : BitTable) (hdpc : OctetTable) → IsBinaryPart row ids bits → IsHdpcPart row hdpc → (answer : Option (Vec ℕ Global))
     → ShowsHomogeneous bits.height bits.width (with_octet_rows row.ldpc_symbols (length hdpc.rows) bits.bit (entry_of hdpc)) answer → ShowsListed row ids answer
 shows_equations row ids bits hdpc part octet_part answer shows =
-    shows_same (equation_count row ids) (intermediate_symbols row) _ (equations row ids) (equations_same row ids bits hdpc part octet_part.rows) answer (rw (part.height, part.width, octet_part.shape.tall) at shows)
+    shows_same (equation_count row ids) (intermediate_symbols row) _ (equations row ids) (equations_same row ids bits hdpc part octet_part.rows) answer (rw (part.shape.height, part.shape.width, octet_part.shape.tall) at shows)
 
 -- the equations of a list of all known ids stand for what is known
 pub shows_known : (row : TableRow) (known : ℕ → Bool) (ids : List ℕ) → IsListOf known ids → (answer : Option (Vec ℕ Global)) → ShowsListed row ids answer

@@ -6,9 +6,10 @@ use Rattle.std.proofs.lemmas.Bool.{cases_eq, cases_lt, eq-eqb, ne_eqb, lt-ltb, l
 use Rattle.rq_standard.specs.declared.row.TableRow.{TableRow}
 use Rattle.rq_standard.specs.BitTable.{BitTable}
 use Rattle.rq_standard.specs.BitTableSteps.{HasSameShape, SetsBit, bit_of}
+use Rattle.rq_standard.specs.ConstraintMatrix.{HasRows}
 use Rattle.rq_standard.specs.TableRows.{IsChecked, intermediate_symbols, b_of, pi_symbols}
 use Rattle.rq_standard.specs.Equations.{one_if, ldpc_step, is_ldpc_row, ldpc_coefficient}
-use Rattle.rq_base.specs.BinaryRows.{HasRows, HasLdpc1Columns, HasLdpcRows}
+use Rattle.rq_base.specs.BinaryRows.{HasLdpc1Columns, HasLdpcRows}
 
 -- ---- shapes
 

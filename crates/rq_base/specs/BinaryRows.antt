@@ -1,18 +1,12 @@
 -- The rows of bits on the way to the matrix of a block.
-use Rattle.std.specs.Prelude.{◌≡◌, ◌≢◌, ℕ, ◌<◌, ◌≤◌, false, List}
+use Rattle.std.specs.Prelude.{◌≡◌, ◌≢◌, ℕ, ◌<◌, ◌≤◌, List}
 use Rattle.rq_algebra.specs.Parities.{parity}
 use Rattle.rq_standard.specs.declared.row.TableRow.{TableRow}
 use Rattle.rq_standard.specs.BitTable.{BitTable}
 use Rattle.rq_standard.specs.BitTableSteps.{HasSameShape}
+use Rattle.rq_standard.specs.ConstraintMatrix.{HasRows}
 use Rattle.rq_standard.specs.TableRows.{intermediate_symbols, b_of}
 use Rattle.rq_standard.specs.Equations.{one_if, is_ldpc_row, ldpc_coefficient}
-
--- `rows` rows of L columns, of which the LT symbols' ones aren't dense, and none is indexed
-pub record HasRows (row : TableRow) (rows : ℕ) (m : BitTable) : Type 0 where
-  pub height : m.height ≡ rows
-  pub width : m.width ≡ intermediate_symbols row
-  pub boundary : m.boundary ≡ row.lt_symbols
-  pub indexed : m.indexed ≡ false
 
 -- no ones from a row on
 abbrev pub IsZeroFrom : TableRow → ℕ → BitTable → Type 0

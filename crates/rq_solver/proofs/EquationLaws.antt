@@ -1,12 +1,12 @@
 -- The rows that a solver is handed are the equations of the standard.
-use Rattle.std.proofs.Common.{None, false, ◌≤◌, ◌≡◌, ℕ, ◌+◌, ◌-◌, ◌<◌, List, length, sym, ap, ◌∙◌, arith, inl, inr}
+use Rattle.std.proofs.Common.{None, ◌≤◌, ◌≡◌, ℕ, ◌+◌, ◌-◌, ◌<◌, List, length, sym, ap, ◌∙◌, arith, inl, inr}
 use Rattle.std.proofs.lemmas.Bool.{cases_lt}
 use Rattle.rq_algebra.specs.Operations.{Operation, FindsColumn}
 use Rattle.rq_algebra.specs.Systems.{stacked, rows_of, HasHomogeneousColumn}
 use Rattle.rq_algebra.proofs.Stacks.{stacked_above, stacked_below}
 use Rattle.rq_standard.specs.declared.row.TableRow.{TableRow}
 use Rattle.rq_standard.specs.BitTable.{BitTable}
-use Rattle.rq_standard.specs.ConstraintMatrix.{with_octet_rows, IsBinaryPart, AreHdpcRows}
+use Rattle.rq_standard.specs.ConstraintMatrix.{with_octet_rows, HasRows, IsBinaryPart, AreHdpcRows}
 use Rattle.rq_standard.specs.Equations.{ldpc_coefficient, hdpc_coefficient, symbol_coefficient, precode_equations, equations, equation_count}
 use Rattle.rq_standard.specs.OctetField.{octets}
 use Rattle.rq_standard.specs.TableRows.{intermediate_symbols}
@@ -64,7 +64,7 @@ module _ (row : TableRow) (ids : List ℕ) (bits : BitTable) (hdpc : OctetTable)
 
   module _ (handed : Slab) (are : AreEquations row bits hdpc handed) where
     count : length handed.values ≡ equation_count row ids
-    count = sym are.binary.height ∙ part.height
+    count = sym are.binary.shape.height ∙ part.shape.height
 
     -- what finds the column of the equations handed in finds that of the ids
     pub finds_equations : (operations : List Operation) → FindsColumn octets (length handed.values) (intermediate_symbols row) (with_octet_rows row.ldpc_symbols row.hdpc_symbols bits.bit (entry_of hdpc)) operations
@@ -75,22 +75,15 @@ module _ (row : TableRow) (ids : List ℕ) (bits : BitTable) (hdpc : OctetTable)
     homogeneous_of_equations null = homogeneous_same octets (equation_count row ids) (intermediate_symbols row) _ (equations row ids) equations_same (rw count at null)
 
 -- a matrix of bits, and as many symbols as it has rows
-pub binary_equations : (row : TableRow) (bits : BitTable) (handed : Slab) (count : ℕ) → bits.width ≡ intermediate_symbols row → bits.boundary ≡ row.lt_symbols → bits.indexed ≡ false → bits.height ≡ count
+pub binary_equations : (row : TableRow) (bits : BitTable) (handed : Slab) (count : ℕ) → HasRows row count bits
     → length handed.values ≡ count → handed.order ≡ None → intermediate_symbols row ≤ count → AreEquationsWithoutHdpc row bits handed
-binary_equations row bits handed count width boundary indexed height symbols order enough = record {
-  width = width;
-  boundary = boundary;
-  indexed = indexed;
-  height = height ∙ sym symbols;
-  enough = omega (arith, symbols, enough);
-  order = order;
-}
+binary_equations row bits handed count shape symbols order enough = record { shape = rw symbols shape; enough = rw symbols enough; order = order }
 
 -- what a solver asks, from what the generator of both matrices says of them
 pub are_equations : (row : TableRow) (ids : List ℕ) (bits : BitTable) (hdpc : OctetTable) (handed : Slab) → IsBinaryPart row ids bits → length hdpc.rows ≡ row.hdpc_symbols → hdpc.width ≡ intermediate_symbols row
     → length handed.values ≡ equation_count row ids → handed.order ≡ None → intermediate_symbols row ≤ equation_count row ids → AreEquations row bits hdpc handed
 are_equations row ids bits hdpc handed part rows columns count order enough = record {
-  binary = binary_equations row bits handed (equation_count row ids) part.width part.boundary part.indexed part.height count order enough;
+  binary = binary_equations row bits handed (equation_count row ids) part.shape count order enough;
   hdpc_height = rows;
   hdpc_width = columns;
   zeros = λ i k l m. part.zeros (row.ldpc_symbols + i) k (omega arith) (omega arith) m;

@@ -1,12 +1,12 @@
 -- What a solver is handed, and what it answers.
-use Rattle.std.specs.Prelude.{◌≡◌, ℕ, ◌+◌, ◌<◌, ◌≤◌, false, List, Option, None, Some, MatchOption, IfSome, Vec, length, map, replicate}
+use Rattle.std.specs.Prelude.{◌≡◌, ℕ, ◌+◌, ◌<◌, ◌≤◌, List, Option, None, Some, MatchOption, IfSome, Vec, length, map, replicate}
 use Rattle.std.specs.Global.{Global}
 use Rattle.rq_algebra.specs.Systems.{HasHomogeneousColumn, IsHomogeneousColumn}
 use Rattle.rq_algebra.specs.Operations.{Operation, FindsColumn, found_by}
 use Rattle.rq_algebra.specs.Symbols.{symbols, AreSymbols, IsSymbolColumn, SolvesSymbols, symbol_at}
 use Rattle.rq_standard.specs.declared.row.TableRow.{TableRow}
 use Rattle.rq_standard.specs.BitTable.{BitTable}
-use Rattle.rq_standard.specs.ConstraintMatrix.{with_octet_rows}
+use Rattle.rq_standard.specs.ConstraintMatrix.{HasRows, with_octet_rows}
 use Rattle.rq_standard.specs.OctetField.{octets}
 use Rattle.rq_standard.specs.TableRows.{intermediate_symbols}
 use Rattle.rq_bytes.specs.SymbolSlab.{Slab, HasPlace, after_all, symbol_in}
@@ -20,10 +20,7 @@ use Rattle.rq_solver.specs.declared.pi_solver.solved.Solved.TheVariants.{Operati
 
 -- the equations of a block of that row of the table but for those of HDPC: a matrix of bits, and a symbol for each equation
 pub record AreEquationsWithoutHdpc (row : TableRow) (bits : BitTable) (handed : Slab) : Type 0 where
-  pub width : bits.width ≡ intermediate_symbols row
-  pub boundary : bits.boundary ≡ row.lt_symbols
-  pub indexed : bits.indexed ≡ false
-  pub height : bits.height ≡ length handed.values
+  pub shape : HasRows row (length handed.values) bits
   pub enough : intermediate_symbols row ≤ length handed.values
   pub order : handed.order ≡ None
 

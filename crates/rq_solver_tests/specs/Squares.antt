@@ -1,15 +1,13 @@
 -- The matrices of the tests.
-use Rattle.std.specs.Prelude.{◌≡◌, ℕ, ◌+◌, ◌<◌, false}
+use Rattle.std.specs.Prelude.{◌≡◌, ℕ, ◌+◌, ◌<◌}
 use Rattle.rq_standard.specs.declared.row.TableRow.{TableRow}
 use Rattle.rq_standard.specs.BitTable.{BitTable}
+use Rattle.rq_standard.specs.ConstraintMatrix.{HasRows}
 use Rattle.rq_standard.specs.TableRows.{intermediate_symbols}
 
 -- as many equations as intermediate symbols, the columns of a row of the table, and no index
-pub record IsSquareOf (row : TableRow) (bits : BitTable) : Type 0 where
-  pub height : bits.height ≡ intermediate_symbols row
-  pub width : bits.width ≡ intermediate_symbols row
-  pub boundary : bits.boundary ≡ row.lt_symbols
-  pub indexed : bits.indexed ≡ false
+abbrev pub IsSquareOf : TableRow → BitTable → Type 0
+IsSquareOf row bits = HasRows row (intermediate_symbols row) bits
 
 -- n rows from a first one on are zeros
 abbrev pub HasZeroRows : TableRow → BitTable → ℕ → ℕ → Type 0

@@ -10,12 +10,16 @@ use Rattle.rq_standard.specs.Equations.{ldpc_coefficient, hdpc_coefficient, symb
 abbrev pub with_octet_rows : ℕ → ℕ → (ℕ → ℕ → ℕ) → (ℕ → ℕ → ℕ) → ℕ → ℕ → ℕ
 with_octet_rows first count bits octet_rows = stacked first bits (stacked count octet_rows (λ i. bits (first + count + i)))
 
--- a row of bits for each internal symbol id of a list, from row `first` on; before them are the LDPC rows, and zeros behind these
-pub record HasBinaryRows (row : TableRow) (first : ℕ) (ids : List ℕ) (m : BitTable) : Type 0 where
-  pub height : m.height ≡ first + length ids
+-- `rows` rows of L columns, of which the LT symbols' ones aren't dense, and none is indexed
+pub record HasRows (row : TableRow) (rows : ℕ) (m : BitTable) : Type 0 where
+  pub height : m.height ≡ rows
   pub width : m.width ≡ intermediate_symbols row
   pub boundary : m.boundary ≡ row.lt_symbols
   pub indexed : m.indexed ≡ false
+
+-- a row of bits for each internal symbol id of a list, from row `first` on; before them are the LDPC rows, and zeros behind these
+pub record HasBinaryRows (row : TableRow) (first : ℕ) (ids : List ℕ) (m : BitTable) : Type 0 where
+  pub shape : HasRows row (first + length ids) m
   pub ldpc : (i k : ℕ) → i < row.ldpc_symbols → k < intermediate_symbols row → m.bit i k ≡ ldpc_coefficient row i k
   pub zeros : (i k : ℕ) → row.ldpc_symbols ≤ i → i < first → k < intermediate_symbols row → m.bit i k ≡ 0
   pub symbols : (i k : ℕ) → i < length ids → k < intermediate_symbols row → m.bit (first + i) k ≡ symbol_coefficient row (at ids i) k

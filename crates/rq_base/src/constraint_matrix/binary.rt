@@ -2,8 +2,8 @@
 ghost use Rattle.std.specs.Prelude.{◌≡◌, ℕ, ◌+◌, ◌^◌, ◌<◌, ◌≤◌, All, length, false, IfOk, OnOk, IfErr};
 ghost use Rattle.rq_bytes.specs.declared.error.Error.TheVariants.{OutOfMemory};
 ghost use Rattle.rq_standard.specs.TableRows.{b_of};
-ghost use Rattle.rq_standard.specs.ConstraintMatrix.{HasBinaryRows};
-ghost use Rattle.rq_base.specs.BinaryRows.{HasRows, HasLdpc1Columns, HasLdpcRows, SetsParityRow, IsZeroFrom};
+ghost use Rattle.rq_standard.specs.ConstraintMatrix.{HasBinaryRows, HasRows};
+ghost use Rattle.rq_base.specs.BinaryRows.{HasLdpc1Columns, HasLdpcRows, SetsParityRow, IsZeroFrom};
 
 use crate::indices::{Indices, sum_modulo};
 use rq_bytes::error::Error;

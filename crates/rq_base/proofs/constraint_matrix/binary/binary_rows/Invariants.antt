@@ -2,9 +2,10 @@ use Rattle.std.proofs.Common.{◌≡◌, ℕ, ◌+◌, ◌<◌, ◌≤◌, List,
 use Rattle.rq_algebra.specs.Systems.{at}
 use Rattle.rq_standard.specs.declared.row.TableRow.{TableRow}
 use Rattle.rq_standard.specs.BitTable.{BitTable}
+use Rattle.rq_standard.specs.ConstraintMatrix.{HasRows}
 use Rattle.rq_standard.specs.TableRows.{intermediate_symbols}
 use Rattle.rq_standard.specs.Equations.{ldpc_coefficient, symbol_coefficient}
-use Rattle.rq_base.specs.BinaryRows.{HasRows, IsZeroFrom}
+use Rattle.rq_base.specs.BinaryRows.{IsZeroFrom}
 use Rattle.rq_base.proofs.constraint_matrix.binary.binary_rows.Given as goal
 
 -- the LDPC rows, and from row `first` on a row for each of the first `done` ids; the other rows are zeros

@@ -28,4 +28,4 @@ returns g c =
     let e : counts.multiplications.first ≡ 0 = omega (arith, c.none.ensures.multiplications) in
     let f : counts.multiplications.second ≡ 0 = omega (arith, c.none.ensures.multiplications) in
     let h : counts.multiplications.fourth ≡ 0 = omega (arith, c.none.ensures.multiplications) in
-    rw (empty, a, b, d, e, f, h, c.lt_symbols.ensures.value, c.requires.height, c.requires.width) (ap of_rows (bits_alone bits.bit (entry_of c.without_rows-hdpc.result)))
+    rw (empty, a, b, d, e, f, h, c.lt_symbols.ensures.value, c.requires.shape.height, c.requires.shape.width) (ap of_rows (bits_alone bits.bit (entry_of c.without_rows-hdpc.result)))
