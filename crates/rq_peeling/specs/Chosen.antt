@@ -1,8 +1,8 @@
 -- The pivots that columns have so far.
-use Rattle.std.specs.Prelude.{◌≡◌, ℕ, ◌<◌, ◌≤◌, List, Contains, length, take}
+use Rattle.std.specs.Prelude.{◌≡◌, ℕ, ◌<◌, ◌≤◌, List, Contains, length}
 use Rattle.rq_algebra.specs.Arrangements.{ArePlaces}
 use Rattle.rq_algebra.specs.Systems.{at}
-use Rattle.rq_peeling.specs.RowDegrees.{CountsActive, HasFewestLeft, TakesColumnsLeft, is_active, is_left}
+use Rattle.rq_peeling.specs.RowDegrees.{CountsActive, TakesColumnsLeft, TakesFewestLeft, is_active, is_left}
 use Rattle.rq_peeling.specs.ColumnState.{ColumnState, IsActive}
 use Rattle.rq_peeling.specs.RowOnes.{ones_of}
 
@@ -20,5 +20,5 @@ pub record HasChosen (width lt_columns : ℕ) (lists : List (List ℕ)) (rows : 
   pub end : state.end ≤ lt_columns
   pub left : (k : ℕ) → k < width → is_left lists lt_columns rows k ≡ is_active state k
   pub counts : CountsActive lists state degrees
-  pub fewest : (p : ℕ) → p < length rows → HasFewestLeft lists lt_columns (take p rows) (at rows p)
+  pub fewest : TakesFewestLeft lists lt_columns rows
   pub columns : TakesColumnsLeft lists lt_columns rows state.order

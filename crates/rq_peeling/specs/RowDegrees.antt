@@ -38,9 +38,13 @@ pub record HasFewestLeft (lists : List (List ℕ)) (lt_columns : ℕ) (taken : L
   pub some : 0 < ones_left lists lt_columns taken row
   pub least : (r : ℕ) → r < length lists → 0 < ones_left lists lt_columns taken r → ones_left lists lt_columns taken row ≤ ones_left lists lt_columns taken r
 
--- each row that was taken had the fewest ones in the columns that were left by those before it, and in those that are left now no row has any
+-- each row that was taken had the fewest ones in the columns that were left by those before it
+abbrev pub TakesFewestLeft : List (List ℕ) → ℕ → List ℕ → Type 0
+TakesFewestLeft lists lt_columns taken = (p : ℕ) → p < length taken → HasFewestLeft lists lt_columns (take p taken) (at taken p)
+
+-- so it was, and in the columns that are left now no row has any
 pub record TakesFewest (lists : List (List ℕ)) (lt_columns : ℕ) (taken : List ℕ) : Type 0 where
-  pub each : (p : ℕ) → p < length taken → HasFewestLeft lists lt_columns (take p taken) (at taken p)
+  pub each : TakesFewestLeft lists lt_columns taken
   pub last : (r : ℕ) → r < length lists → ones_left lists lt_columns taken r ≡ 0
 
 -- each row that was taken has its pivot in a column that was left by those before it
