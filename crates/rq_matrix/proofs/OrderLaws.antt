@@ -96,11 +96,11 @@ module _ (o : Order) (is : IsPlacedOrder o) (i j : ℕ) (in_i : i < length o.ord
       ]
 
 -- numbers and places in each other's roles
-abbrev turned : Order → Order
-turned o = record { order = o.places; places = o.order }
+abbrev inverse_order : Order → Order
+inverse_order o = record { order = o.places; places = o.order }
 
-turned_is_order : (o : Order) → IsPlacedOrder o → IsPlacedOrder (turned o)
-turned_is_order o is = record {
+inverse_is_order : (o : Order) → IsPlacedOrder o → IsPlacedOrder (inverse_order o)
+inverse_is_order o is = record {
   count = sym is.count;
   ordered = λ k l. let t = is.placed k (omega (arith, is.count)) in (omega (arith, t.0, is.count), t.1);
   placed = λ k l. let t = is.ordered k (omega (arith, is.count)) in (omega (arith, t.0, is.count), t.1);
@@ -116,7 +116,7 @@ module _ (o : Order) (is : IsPlacedOrder o) (i j : ℕ) (in_i : i < length o.ord
         count = length-swap o.places first second ∙ is.count ∙ sym same;
         ordered = λ k l. let t = swapped_place o is i j in_i in_j k (omega (arith, same)) in (omega (arith, t.0, same), t.1);
         placed = λ k l.
-            let t = swapped_place (turned o) (turned_is_order o is) first second (first_in o is i j in_i in_j) (second_in o is i j in_i in_j) k (omega (arith, same, is.count)) in
+            let t = swapped_place (inverse_order o) (inverse_is_order o is) first second (first_in o is i j in_i in_j) (second_in o is i j in_i in_j) k (omega (arith, same, is.count)) in
             let number = get_or (swap o.places first second) k 0 in (
               omega (arith, t.0, same, is.count),
               ap (λ n. get_or (swap o.order n j) number 0) (sym (is.ordered i in_i).1) ∙ ap (λ n. get_or (swap o.order (get_or o.places first 0) n) number 0) (sym (is.ordered j in_j).1) ∙ t.1,

@@ -1,21 +1,15 @@
 -- Counts and sums of any list of numbers.
-use Rattle.std.proofs.Common.{Bool, ◌≡◌, ◌≢◌, ℕ, ◌+◌, ◌-◌, ◌*◌, ◌<◌, ◌≤◌, List, [], All, ◌∷◌, ◌++◌, Contains, length, take, drop, replicate, get_or, refl, sym, ap, subst, ◌∙◌, arith, inl, inr, if◌then◌else◌, cond, true, false, ◌==◌, zero, suc, add-zero, zero-add}
+use Rattle.std.proofs.Common.{Bool, ◌≡◌, ◌≢◌, ℕ, ◌+◌, ◌-◌, ◌*◌, ◌<◌, ◌≤◌, List, [], All, ◌∷◌, ◌++◌, Contains, length, take, replicate, get_or, refl, sym, ap, subst, ◌∙◌, arith, inl, inr, cond, true, false, ◌==◌, zero, suc, add-zero, zero-add}
 use Rattle.std.specs.List.{concat, count_by, sum, sum_by}
 use Rattle.std.proofs.lemmas.Bool.{eq-eqb, ne_eqb}
 use Rattle.std.proofs.lemmas.Bool.Decides.{eqb_tells}
-use Rattle.std.proofs.lemmas.List.{length-append, take-append-drop, length-take-le, get_or_default, get_or-take}
+use Rattle.std.proofs.lemmas.List.{length-append, length-take-le, get_or_default, get_or-take}
 use Rattle.std.proofs.lemmas.List.Elements.{All-append}
 use Rattle.std.proofs.lemmas.List.Folds.{sum_by-replicate}
 use Rattle.std.proofs.lemmas.List.Sums.{count_by_more_yes, count_by_more_no, sum_by-append, sum_by-cons, sum_by_more, sum_by-take-le}
 use Rattle.rq_algebra.specs.Systems.{at}
 
 -- ---- how often a list has a number
-
-pub count_taken : (xs : List ℕ) (n k : ℕ) → count_by (λ x. x == k) (take n xs) ≤ count_by (λ x. x == k) xs
-count_taken xs n k =
-    let split : count_by (λ x. x == k) (take n xs ++ drop n xs) ≡ count_by (λ x. x == k) (take n xs) + count_by (λ x. x == k) (drop n xs) = sum_by-append (λ (x : ℕ). if x == k then 1 else 0) (take n xs) (drop n xs) in
-    let whole : count_by (λ x. x == k) (take n xs ++ drop n xs) ≡ count_by (λ x. x == k) xs = ap (λ (l : List ℕ). count_by (λ x. x == k) l) (take-append-drop n xs) in
-    omega (arith, split, whole)
 
 -- the next number of a list is counted
 pub count_next : (xs : List ℕ) (t k : ℕ) → t < length xs → at xs t ≡ k → count_by (λ x. x == k) (take (t + 1) xs) ≡ count_by (λ x. x == k) (take t xs) + 1
@@ -28,7 +22,7 @@ count_skipped xs t k l d = count_by_more_no (λ x. x == k) xs t 0 l (ne_eqb (at 
 pub count_contains : (xs : List ℕ) (x : ℕ) → Contains xs x → 1 ≤ count_by (λ y. y == x) xs
 count_contains xs x c =
     let next = count_next xs c.0 x c.1 (get_or_default xs c.0 0 x c.1 ∙ c.2) in
-    omega (arith, next, count_taken xs (c.0 + 1) x)
+    omega (arith, next, sum_by-take-le (λ y. cond (y == x) 1 0) xs (c.0 + 1))
 
 -- a number that stands at two places of a list is counted twice
 pub twice_counted : (xs : List ℕ) (q t : ℕ) → q < t → t < length xs → at xs q ≡ at xs t → count_by (λ x. x == at xs t) xs ≤ 1 → ⊥
@@ -36,8 +30,8 @@ twice_counted xs q t early l e once =
     let k = at xs t in
     let here = count_next xs t k l refl in
     let before = count_next (take t xs) q k (omega (arith, length-take-le t xs (omega arith))) (get_or-take t xs q 0 early ∙ e) in
-    let some = count_taken (take t xs) (q + 1) k in
-    let all = count_taken xs (t + 1) k in
+    let some = sum_by-take-le (λ x. cond (x == k) 1 0) (take t xs) (q + 1) in
+    let all = sum_by-take-le (λ x. cond (x == k) 1 0) xs (t + 1) in
     omega (arith, here, before, some, all, once)
 
 -- a number that is repeated

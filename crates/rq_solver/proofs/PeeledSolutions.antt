@@ -76,15 +76,15 @@ module _ (height width : ℕ) (system : ℕ → ℕ → ℕ) (rows order places 
 
   -- ---- rows in the order of their pivots' columns
 
-  row_of : ℕ → ℕ
-  row_of = stacked pivots (at rows) (at inactive_rows)
+  ordered_row : ℕ → ℕ
+  ordered_row = stacked pivots (at rows) (at inactive_rows)
 
-  of_pivot : (p : ℕ) → p < pivots → row_of p ≡ at rows p
-  unfolding row_of
+  of_pivot : (p : ℕ) → p < pivots → ordered_row p ≡ at rows p
+  unfolding ordered_row
   of_pivot p l = stacked_above pivots (at rows) (at inactive_rows) p l
 
-  of_left : (q : ℕ) → row_of (pivots + q) ≡ at inactive_rows q
-  unfolding row_of
+  of_left : (q : ℕ) → ordered_row (pivots + q) ≡ at inactive_rows q
+  unfolding ordered_row
   of_left q = stacked_below pivots (at rows) (at inactive_rows) q
 
   in_left : (q : ℕ) → q < length inactive_rows → Contains left (at inactive_rows q)
@@ -112,7 +112,7 @@ module _ (height width : ℕ) (system : ℕ → ℕ → ℕ) (rows order places 
     | inr c ↦ let d = Contains-permutation left inactive_rows i permuted c in inr (d.0, d.1, get_or_default inactive_rows d.0 0 i d.1 ∙ d.2)
   ]
 
-  row_below : (p : ℕ) → p < pivots + length inactive_rows → row_of p < height
+  row_below : (p : ℕ) → p < pivots + length inactive_rows → ordered_row p < height
   row_below p l = elim (cases_lt p pivots) [
     | inl early ↦ rw (of_pivot p early) (pivot_below p early)
     | inr late ↦
@@ -132,7 +132,7 @@ module _ (height width : ℕ) (system : ℕ → ℕ → ℕ) (rows order places 
 
   module _ (stuck : IsStuck inactive_rows inactive last.table) where
     -- a row that is none of those with pivots stands behind them
-    behind : (i : ℕ) → i < height → ((p : ℕ) → p < pivots + stuck.done → row_of p ≢ i) → (q : ℕ) × (stuck.done ≤ q) × (q < length inactive_rows) × (at inactive_rows q ≡ i)
+    behind : (i : ℕ) → i < height → ((p : ℕ) → p < pivots + stuck.done → ordered_row p ≢ i) → (q : ℕ) × (stuck.done ≤ q) × (q < length inactive_rows) × (at inactive_rows q ≡ i)
     behind i l free = elim (row_found i l) [
       | inl p ↦ absurd (free p.0 (omega (arith, p.1)) (of_pivot p.0 p.1 ∙ p.2))
       | inr q ↦ elim (cases_lt q.0 stuck.done) [
@@ -155,7 +155,7 @@ module _ (height width : ℕ) (system : ℕ → ℕ → ℕ) (rows order places 
           ]
     ]
 
-    few : IsFewOn height width (pivots + stuck.done) meant row_of (at order)
+    few : IsFewOn height width (pivots + stuck.done) meant ordered_row (at order)
     few = record {
       rows_below = λ p l. row_below p (omega (arith, l, stuck.echelon.fits, stuck.below));
       columns_are = columns_apart (suc (pivots + stuck.done)) (omega (arith, stuck.below));
@@ -163,7 +163,7 @@ module _ (height width : ℕ) (system : ℕ → ℕ → ℕ) (rows order places 
     }
 
     pub homogeneous_of_peeled : HasHomogeneousColumn octets height width system
-    homogeneous_of_peeled = homogeneous_back octets height width system meant steps (steps_follow height width system steps among peeled.elements) (homogeneous_of_few octets height width (pivots + stuck.done) meant row_of (at order) (steps_elements height width system steps among peeled.elements) few)
+    homogeneous_of_peeled = homogeneous_back octets height width system meant steps (steps_follow height width system steps among peeled.elements) (homogeneous_of_few octets height width (pivots + stuck.done) meant ordered_row (at order) (steps_elements height width system steps among peeled.elements) few)
 
   -- ---- a column that solves the pivots' rows as they were handed in, and those that are left as they are now
 
@@ -295,7 +295,7 @@ module _ (height width : ℕ) (system : ℕ → ℕ → ℕ) (rows order places 
     inactive_place : (p : ℕ) → p < width → pivots ≤ p → (q : ℕ) × (q < inactive) × (pivots + q ≡ p)
     inactive_place p l late = (p - pivots, (omega arith), (omega arith))
 
-    row_one : (p : ℕ) → p < width → ended (row_of p) (at order p) ≡ 1
+    row_one : (p : ℕ) → p < width → ended (ordered_row p) (at order p) ≡ 1
     row_one p l = elim (cases_lt p pivots) [
       | inl early ↦ ap (λ (r : ℕ). ended r (at order p)) (of_pivot p early) ∙ ended_own p p early early ∙ if_same (at rows p) (at rows p) 1 0 refl
       | inr late ↦
@@ -307,7 +307,7 @@ module _ (height width : ℕ) (system : ℕ → ℕ → ℕ) (rows order places 
           ∙ if_same f.0 f.0 1 0 refl)
     ]
 
-    row_zero : (i p : ℕ) → i < width → p < width → i ≢ p → ended (row_of i) (at order p) ≡ 0
+    row_zero : (i p : ℕ) → i < width → p < width → i ≢ p → ended (ordered_row i) (at order p) ≡ 0
     row_zero i p l n d = elim (cases_lt i pivots) [
       | inl early ↦ ap (λ (r : ℕ). ended r (at order p)) (of_pivot i early) ∙ elim (cases_lt p pivots) [
         | inl first_p ↦ ended_own i p early first_p ∙ if_apart (at rows p) (at rows i) 1 0 (λ e. d (sym (rows_are.apart p i first_p early e)))
@@ -341,7 +341,7 @@ module _ (height width : ℕ) (system : ℕ → ℕ → ℕ) (rows order places 
               rw (← f.2) (inactive_at (at inactive_rows q) f.0 (reduced_below q l) f.1 ∙ echelon.zeros q f.0 l (omega (arith, f.1)) f.1)
         ]
 
-    rest_zero : (i p : ℕ) → i < height → ((q : ℕ) → q < width → row_of q ≢ i) → p < width → ended i (at order p) ≡ 0
+    rest_zero : (i p : ℕ) → i < height → ((q : ℕ) → q < width → ordered_row q ≢ i) → p < width → ended i (at order p) ≡ 0
     rest_zero i p l free n = elim (row_found i l) [
       | inl q ↦ absurd (free q.0 (omega (arith, q.1, wide)) (of_pivot q.0 q.1 ∙ q.2))
       | inr q ↦ elim (cases_lt q.0 inactive) [
@@ -351,7 +351,7 @@ module _ (height width : ℕ) (system : ℕ → ℕ → ℕ) (rows order places 
     ]
 
     -- rows with 1 in different columns, and 0 in the others', are different
-    all_rows_are : ArePlaces width height row_of
+    all_rows_are : ArePlaces width height ordered_row
     all_rows_are = record {
       below = λ p l. row_below p (omega (arith, l, wide, echelon.fits));
       apart = λ i p l n e. elim (cases_eq i p) [
@@ -360,7 +360,7 @@ module _ (height width : ℕ) (system : ℕ → ℕ → ℕ) (rows order places 
       ];
     }
 
-    reads : ReadsPivots width row_of (at order) (map (at placed) places)
+    reads : ReadsPivots width ordered_row (at order) (map (at placed) places)
     reads = record {
       count = length-map places (at placed) ∙ arranged.place_count;
       reads = λ p l.
@@ -374,5 +374,5 @@ module _ (height width : ℕ) (system : ℕ → ℕ → ℕ) (rows order places 
 
     pub finds_by_peeled : FindsColumn octets height width system (final.operations ++ Reorder (map (at placed) places) ∷ [])
     finds_by_peeled = rw all_recorded (
-        let firsts : HasFirstPivots width width ended row_of (at order) = record { ones = row_one; zeros = row_zero } in
-        finds_by_pivots octets height width system ended all_steps (steps_follow height width system all_steps all_among peeled.elements) row_of (at order) (pivots_of_first octets height width width ended row_of (at order) all_rows_are (omega arith) (columns_apart width (omega arith)) firsts rest_zero) (map (at placed) places) reads)
+        let firsts : HasFirstPivots width width ended ordered_row (at order) = record { ones = row_one; zeros = row_zero } in
+        finds_by_pivots octets height width system ended all_steps (steps_follow height width system all_steps all_among peeled.elements) ordered_row (at order) (pivots_of_first octets height width width ended ordered_row (at order) all_rows_are (omega arith) (columns_apart width (omega arith)) firsts rest_zero) (map (at placed) places) reads)

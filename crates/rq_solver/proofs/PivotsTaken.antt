@@ -4,6 +4,7 @@ use Rattle.std.specs.List.{count_by, Contains}
 use Rattle.std.proofs.lemmas.Bool.{cases_eq}
 use Rattle.std.proofs.lemmas.List.{length-take-le}
 use Rattle.std.proofs.lemmas.List.Elements.{All-nil, All-push}
+use Rattle.std.proofs.lemmas.List.Sums.{sum_by-take-le}
 use Rattle.rq_algebra.specs.Arrangements.{ArePlaces}
 use Rattle.rq_algebra.specs.Operations.{Operation}
 use Rattle.rq_algebra.specs.Systems.{at}
@@ -19,11 +20,11 @@ use Rattle.rq_elimination.specs.declared.recorded.RecordedRows.{RecordedRows}
 use Rattle.rq_elimination.proofs.StepColumns.{rows_after-none}
 use Rattle.rq_elimination.proofs.Performing.{sum_after-here, sum_after-elsewhere}
 use Rattle.rq_peeling.proofs.MatrixRows.{AreColumnsOfRow}
-use Rattle.rq_peeling.proofs.Counting.{count_contains, count_taken, count_next, count_skipped}
+use Rattle.rq_peeling.proofs.Counting.{count_contains, count_next, count_skipped}
 use Rattle.rq_algebra.proofs.Choices.{if_same, if_apart}
 use Rattle.rq_peeling.proofs.PeelingLaws.{still_there, now_there}
 use Rattle.rq_solver.proofs.OctetSums.{plus_zero_times}
-use Rattle.rq_solver.proofs.Substitution.{sum_zero}
+use Rattle.rq_solver.proofs.Substitution.{sum_keeps}
 
 pub columns_of_row : (width row : ℕ) (lists : List (List ℕ)) (columns : List ℕ) → AreRowsOfBits width lists → row < length lists → columns ≡ ones_of lists row → AreColumnsOfRow width columns
 columns_of_row width row lists columns bits l is = subst (AreColumnsOfRow width) (sym is) (record { within = bits.within row l; once = λ k. bits.once row k l })
@@ -140,7 +141,7 @@ module _ (Done : List Operation → RecordedRows → RecordedRows → Type 0) (r
                 unchanged i l apart ∙ ap (octets.add (m row (at order i))) (count_kept i (inr skipped))
             | inl e ↦
                 let counted = count_next columns t (at order i) in_columns (column_is ∙ ap (at order) (sym e)) in
-                let most = count_taken columns (t + 1) (at order i) in
+                let most = sum_by-take-le (λ x. if x == at order i then 1 else 0) columns (t + 1) in
                 let bounded = once (at order i) (arranged.ordered i (omega arith)).0 in
                 let none : count_by (λ x. x == at order i) (take t columns) ≡ 0 = omega (arith, counted, most, bounded) in
                 let now_one : count_by (λ x. x == at order i) (take (t + 1) columns) ≡ 1 = omega (arith, counted, none) in
@@ -158,7 +159,7 @@ module _ (Done : List Operation → RecordedRows → RecordedRows → Type 0) (r
         sums = All-push (IsSumOf row (length old.table.rows)) v.steps (sum_step row (at rows j) 1) v.sums (record { source = at rows j; is = refl; within = rw height (rows_are.below j in_rows); other = other });
         idle = λ e. absurd (not_empty e);
         kept = λ m k zeros.
-            sum_zero row (at rows j) 1 m v.steps (λ p. v.elsewhere m (at rows j) p other) row k (zeros j in_rows (subst (Contains (take (t + 1) columns)) column_is (now_there columns t in_columns)) other)
+            sum_keeps row (at rows j) 1 m v.steps (λ p. v.elsewhere m (at rows j) p other) row k (zeros j in_rows (subst (Contains (take (t + 1) columns)) column_is (now_there columns t in_columns)) other)
             ∙ v.kept m k (λ i n c d. zeros i n (still_there columns t in_columns (at order i) c) d);
         elsewhere = λ m i k d. sum_after-elsewhere row (at rows j) 1 m v.steps i k d ∙ v.elsewhere m i k d;
         taken = λ m done i l. next_taken m done i l;

@@ -23,8 +23,8 @@ module _ (dest src scalar : ℕ) (m : ℕ → ℕ → ℕ) (steps : List Operati
   sum_here k l = sum_after-here dest src scalar m steps k (rw (source k) l)
 
   -- where it has 0, no row changes
-  pub sum_zero : (r k : ℕ) → m src k ≡ 0 → rows_after octets (steps ++ sum_step dest src scalar ∷ []) m r k ≡ rows_after octets steps m r k
-  sum_zero r k zero = elim (cases_eq r dest) [
+  pub sum_keeps : (r k : ℕ) → m src k ≡ 0 → rows_after octets (steps ++ sum_step dest src scalar ∷ []) m r k ≡ rows_after octets steps m r k
+  sum_keeps r k zero = elim (cases_eq r dest) [
     | inl e ↦ rw e (sum_here k (rw zero (lit< tt)) ∙ plus_zero_times (rows_after octets steps m dest k) scalar (rows_after octets steps m src k) (source k ∙ zero))
     | inr d ↦ sum_after-elsewhere dest src scalar m steps r k d
   ]
@@ -68,7 +68,7 @@ module _ (inactive_rows : List ℕ) (row start count : ℕ) (entries : ℕ → �
       source_kept m k = v.elsewhere m (at inactive_rows t) k (λ e. apart (sym e))
 
       next_zero : (m : ℕ → ℕ → ℕ) (k : ℕ) → m (at inactive_rows t) k ≡ 0 → rows_after octets (v.steps ++ sum_step row (at inactive_rows t) scalar ∷ []) m row k ≡ rows_after octets v.steps m row k
-      next_zero m k = sum_zero row (at inactive_rows t) scalar m v.steps (source_kept m) row k
+      next_zero m k = sum_keeps row (at inactive_rows t) scalar m v.steps (source_kept m) row k
 
       module _ (m : ℕ → ℕ → ℕ) (column : ℕ → ℕ) (units : AreUnits inactive_rows start count column m) where
         other_zero : (f : ℕ) → f < count → f ≢ t → m (at inactive_rows t) (column f) ≡ 0
@@ -154,7 +154,7 @@ module _ (inactive_rows : List ℕ) (place : ℕ) where
         records = records_more v.steps (sum_step (at inactive_rows t) (at inactive_rows place) scalar ∷ []) old cur new v.records records;
         within = All-push (IsStepTo (Contains inactive_rows)) v.steps (sum_step (at inactive_rows t) (at inactive_rows place) scalar) v.within (sum_to (Contains inactive_rows) (at inactive_rows t) (at inactive_rows place) scalar (Contains-get_or inactive_rows t 0 (omega arith)));
         elsewhere = λ m r k out. others_same m r k (λ e. out t (omega arith) (sym e)) ∙ v.elsewhere m r k (λ q l. out q (omega arith));
-        kept = λ m r k zero. sum_zero (at inactive_rows t) (at inactive_rows place) scalar m v.steps (source_same m) r k zero ∙ v.kept m r k zero;
+        kept = λ m r k zero. sum_keeps (at inactive_rows t) (at inactive_rows place) scalar m v.steps (source_same m) r k zero ∙ v.kept m r k zero;
         given = λ m k q one l shown. elim (cases_eq q t) [
           | inl e ↦ rw e (cancels m k one (rw e at shown) ∙ sym (one_of-other (entry_of old.table (at inactive_rows t) place) (λ f. other (scalar_is ∙ f))))
           | inr d ↦ others_same m (at inactive_rows q) k (apart_before q (omega arith) d) ∙ v.given m k q one (omega arith) shown
