@@ -1,7 +1,7 @@
 -- The bits of a word as lanes.
-use Rattle.std.proofs.Common.{w64, zero, suc, ◌++◌, ◌≡◌, ℕ, ◌+◌, ◌*◌, ◌/◌, ◌%◌, ◌^◌, ◌<◌, ◌≤◌, true, false, cond, eqb, List, length, get_or, map, replicate, refl, sym, ap, ◌∙◌, arith, ⊎_elim}
+use Rattle.std.proofs.Common.{w64, zero, suc, ◌++◌, ◌≡◌, ℕ, ◌+◌, ◌-◌, ◌*◌, ◌/◌, ◌%◌, ◌^◌, ◌<◌, ◌≤◌, true, false, cond, eqb, List, length, drop, get_or, map, replicate, refl, sym, ap, ◌∙◌, arith, ⊎_elim}
 use Rattle.std.proofs.lemmas.Bool.{agree_below, agree_below_at, eqb-true, cases_eq, cond-true, cond-false, eq-eqb, ne_eqb}
-use Rattle.std.proofs.lemmas.List.{ext_get_or, get_or-map, get_or_append_left, length-map, length-replicate}
+use Rattle.std.proofs.lemmas.List.{ext_get_or, get_or-drop, get_or-map, get_or_append_left, length-drop, length-map, length-replicate}
 use Rattle.std.proofs.lemmas.List.FromFn.{length-map-range_with_len, get_or-map-range_with_len}
 use Rattle.std.proofs.lemmas.Nat.{pow-add, shr-shr, pow_pos}
 use Rattle.std.proofs.lemmas.Nat.Bits.{bit_at_cat_low, and_pow, bit_at-lt}
@@ -11,9 +11,9 @@ use Rattle.std.specs.Int.{bit_at, byte_at, bytes_low_first, to_le_bytes}
 use lib.Bits.{bit_and}
 use lib.Lanes.{zip2, chunk, sel_l, pick_l}
 use Rattle.rq_standard.specs.Octets.{octet_mul}
-use Rattle.rq_bytes.specs.BinaryOctetVec.{padding_of, packed_bits}
+use Rattle.rq_bytes.specs.BinaryOctetVec.{octets_of_bits, padding_of, packed_bits}
 use Rattle.rq_bytes.specs.OctetBits.{octet_bit}
-use Rattle.rq_bytes.proofs.PackedRows.{length-packed_bits, get_or-packed_bits}
+use Rattle.rq_bytes.proofs.PackedRows.{length-packed_bits, get_or-packed_bits, length-octets_of_bits, at-octets_of_bits, is_unpacked}
 use Rattle.rq_standard.specs.OctetProducts.{mul-one, mul-zero}
 use Rattle.rq_bytes.specs.declared.products.TheConstants.{MASKS, PLACES}
 
@@ -60,21 +60,32 @@ products_of_bits s at half row fits same =
     ∙ ap (octet_mul s) (same k lt ∙ sym (get_or-chunk at 32 row k 0 lt))
     ∙ sym (get_or-map (octet_mul s) (chunk at 32 row) k 0 0 (omega arith)))
 
--- the elements in half of a word, of which the whole is read
-pub half_word_bits : (s : ℕ) (words row : List ℕ) (len padding n at block word : ℕ) (half : List ℕ) → IsPacked words len row padding n → at + 32 ≤ n → at ≡ n % 64 + 32 * block
-    → word ≡ get_or words ((padding + at) / 64) 0
-    → ((i : ℕ) → i < 32 → octet_bit half i ≡ bit_at word (32 * (block % 2) + i))
-    → map (λ i. octet_mul s (octet_bit half i)) (range_with_len 0 32) ≡ map (octet_mul s) (chunk at 32 row)
-half_word_bits s words row len padding n at block word half is le start e half_is =
-    let bound = is.before in
-    let long = is.long in
-    products_of_bits s at half row (omega arith) (λ k lt.
-    let which : (padding + at) / 64 ≡ (padding + (at + k)) / 64 = omega arith in
-    let place : 32 * (block % 2) + k ≡ (padding + (at + k)) % 64 = omega arith in
-    half_is k lt
-    ∙ ap (λ w. bit_at w (32 * (block % 2) + k)) (e ∙ ap (λ j. get_or words j 0) which)
-    ∙ ap (bit_at (get_or words ((padding + (at + k)) / 64) 0)) place
-    ∙ packed_at words row len padding n (at + k) is (omega arith))
+-- multiples of the bits of half of a word are those of the octets that these are
+pub products_of_half : (scalar n block : ℕ) (bits half : List ℕ) → 32 * block + 32 ≤ n → ((i : ℕ) → i < 32 → octet_bit half i ≡ bit_at (get_or bits (block / 2) 0) (32 * (block % 2) + i))
+    → map (λ i. octet_mul scalar (octet_bit half i)) (range_with_len 0 32) ≡ map (octet_mul scalar) (chunk (32 * block) 32 (octets_of_bits n bits))
+products_of_half scalar n block bits half fits half_is =
+    products_of_bits scalar (32 * block) half (octets_of_bits n bits) (omega (arith, length-octets_of_bits n bits)) (λ i l.
+    let word : block / 2 ≡ (32 * block + i) / 64 = omega arith in
+    let place : 32 * (block % 2) + i ≡ (32 * block + i) % 64 = omega arith in
+    half_is i l
+    ∙ ap (λ k. bit_at (get_or bits k 0) (32 * (block % 2) + i)) word
+    ∙ ap (bit_at (get_or bits ((32 * block + i) / 64) 0)) place
+    ∙ sym (at-octets_of_bits n bits (32 * block + i) (omega arith)))
+
+-- the elements from a word's first on
+pub whole_words : (words row : List ℕ) (len padding n i word : ℕ) → IsPacked words len row padding n → i ≤ n → 64 * word ≡ padding + i
+    → octets_of_bits (n - i) (drop word words) ≡ drop i row
+whole_words words row len padding n i word is fits start =
+    let long = length-drop i row in
+    is_unpacked (n - i) (drop word words) (drop i row) (omega (arith, is.long)) (λ k l.
+    let which : word + k / 64 ≡ (padding + (i + k)) / 64 = omega arith in
+    let place : k % 64 ≡ (padding + (i + k)) % 64 = omega arith in
+    get_or-drop i row k 0
+    ∙ sym (packed_at words row len padding n (i + k) is (omega arith))
+    ∙ sym (
+    ap (λ w. bit_at w (k % 64)) (get_or-drop word words (k / 64) 0)
+    ∙ ap (λ j. bit_at (get_or words j 0) (k % 64)) which
+    ∙ ap (bit_at (get_or words ((padding + (i + k)) / 64) 0)) place))
 
 -- ---- lanes of bits
 

@@ -15,3 +15,7 @@ packed_bit words j = bit_at (slice_index words (j / 64)) (j % 64)
 -- the row of n elements
 unfoldable pub packed_bits : List ℕ → ℕ → List ℕ
 packed_bits words n = map (λ i. packed_bit words (padding_of n + i)) (range_with_len 0 n)
+
+-- the first bits as octets
+abbrev pub octets_of_bits : ℕ → List ℕ → List ℕ
+octets_of_bits n bits = map (packed_bit bits) (range_with_len 0 n)

@@ -1,6 +1,6 @@
 //! Rows of octets and packed rows of bits.
-ghost use Rattle.std.specs.Prelude.{◌≡◌, ◌↔◌, ◌+◌, ◌*◌, ◌^◌, ◌<◌, All, length, replicate, true, vec_len};
-ghost use Rattle.rq_bytes.specs.BinaryOctetVec.{padding_of, packed_bits};
+ghost use Rattle.std.specs.Prelude.{◌≡◌, ◌↔◌, ◌+◌, ◌*◌, ◌%◌, ◌^◌, ◌<◌, ◌≤◌, All, length, replicate, true, vec_len};
+ghost use Rattle.rq_bytes.specs.BinaryOctetVec.{octets_of_bits, padding_of, packed_bits};
 ghost use Rattle.rq_standard.specs.Rows.{row_sum, row_multiple};
 
 use crate::octet::Octet;
@@ -162,9 +162,19 @@ pub fn fused_addassign_mul_scalar_binary(octets: &mut [u8], other: &BinaryOctetV
     for i in 0..begun {
         octets[i] ^= bit_product(scalar, other.elements[0], padding + i);
     }
-    for block in 0..octets.len() / WORD_BITS * 2 {
-        let at = begun + LANES * block;
-        let half = half_of_word(other.elements[(padding + at) / WORD_BITS], block % 2);
+    let whole = (padding + begun) / WORD_BITS;
+    add_bit_multiples(&mut octets[begun..], &other.elements[whole..], scalar);
+}
+
+/// Adds a multiple of bits to as many octets, which fill whole vectors.
+pub fn add_bit_multiples(octets: &mut [u8], bits: &[u64], scalar: u8)
+    requires room { length octets.old ≤ 64 * length bits.now }
+    requires whole { length octets.old % 32 ≡ 0 }
+    ensures { octets.new ≡ row_sum octets.old (row_multiple scalar (octets_of_bits (length octets.old) bits.now)) }
+{
+    for block in 0..octets.len() / LANES {
+        let at = LANES * block;
+        let half = half_of_word(bits[block / 2], block % 2);
         let sum = u8x32::from_slice(&octets[at..]) ^ bit_products(scalar, half);
         sum.copy_to_slice(&mut octets[at..]);
     }

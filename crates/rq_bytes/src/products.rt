@@ -94,7 +94,7 @@ pub(crate) fn bit_product(scalar: u8, word: u64, bit: usize) -> u8
 
 /// The products of an octet and each bit of four octets.
 #[inline(always)]
-pub fn bit_products(scalar: u8, bits: u8x4) -> u8x32
+pub(crate) fn bit_products(scalar: u8, bits: u8x4) -> u8x32
     requires { length bits ≡ 4 }
     ensures { result ≡ map (λ i. octet_mul scalar (octet_bit bits i)) (range_with_len 0 32) }
 {
@@ -106,7 +106,7 @@ pub fn bit_products(scalar: u8, bits: u8x4) -> u8x32
 
 /// The four octets of a word that half 0, the lower one, or half 1 has.
 #[inline(always)]
-pub fn half_of_word(word: u64, half: usize) -> u8x4
+pub(crate) fn half_of_word(word: u64, half: usize) -> u8x4
     requires { half < 2 }
     ensures len { length result ≡ 4 }
     ensures bits { (i : ℕ) → i < 32 → octet_bit result i ≡ bit_at word (32 * half + i) }

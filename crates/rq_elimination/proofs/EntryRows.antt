@@ -9,9 +9,11 @@ use Rattle.rq_standard.specs.Rows.{row_sum, row_multiple}
 use Rattle.rq_bytes.proofs.Multiples.{times_one}
 use Rattle.rq_parts.specs.PackedBits.{word_count, IsNextOne}
 use Rattle.rq_parts.specs.DenseOctetMatrix.{OctetTable, HasOctets, IsOctetRow, row_at, with_row}
+use Rattle.rq_bytes.specs.BinaryOctetVec.{octets_of_bits}
+use Rattle.rq_bytes.proofs.PackedRows.{is_unpacked}
 use Rattle.rq_elimination.specs.declared.entries.InactiveEntries.TheInside.{Inside}
-use Rattle.rq_elimination.specs.InactiveEntries.{AreEntries, IsNextPlace, entry_row, entry_rows, octets_of_bits}
-use Rattle.rq_elimination.proofs.UnpackedBits.{is_unpacked, unpacked_row, octets_of_bits-sum, octets_of_bits-zeros}
+use Rattle.rq_elimination.specs.InactiveEntries.{AreEntries, IsNextPlace, entry_row, entry_rows}
+use Rattle.rq_elimination.proofs.UnpackedBits.{unpacked_row, octets_of_bits-sum, octets_of_bits-zeros}
 
 -- ---- a row
 

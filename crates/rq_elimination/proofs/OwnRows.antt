@@ -10,7 +10,8 @@ use Rattle.rq_algebra.specs.Operations.{meant_at}
 use Rattle.rq_algebra.specs.Systems.{at}
 use Rattle.rq_bytes.specs.SymbolSlab.{Slab, slab_of, symbol_in}
 use Rattle.rq_parts.specs.DenseOctetMatrix.{OctetTable, IsOctetRow, row_at, with_row}
-use Rattle.rq_elimination.specs.InactiveEntries.{ArePlaced, own_rows, place_before, placeless, row_placed, octets_of_bits}
+use Rattle.rq_bytes.specs.BinaryOctetVec.{octets_of_bits}
+use Rattle.rq_elimination.specs.InactiveEntries.{ArePlaced, own_rows, place_before, placeless, row_placed}
 use Rattle.rq_standard.specs.Rows.{row_sum, row_multiple}
 use Rattle.rq_elimination.proofs.UnpackedBits.{bits_among_zeros}
 

@@ -1,6 +1,6 @@
 -- A row, to be read: octets of its own, or bits.
 use Rattle.std.specs.Prelude.{◌≡◌, ℕ, ◌*◌, ◌≤◌, List, length}
-use Rattle.rq_elimination.specs.InactiveEntries.{octets_of_bits}
+use Rattle.rq_bytes.specs.BinaryOctetVec.{octets_of_bits}
 use Rattle.rq_elimination.specs.declared.entries.octet_row.EntryRow.{EntryRow}
 use Rattle.rq_elimination.specs.declared.entries.octet_row.EntryRow.TheVariants.{Octets, Bits}
 

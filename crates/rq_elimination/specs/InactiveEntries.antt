@@ -1,16 +1,11 @@
 -- What rows have in the inactive columns: packed bits, or octets.
 use Rattle.std.specs.Prelude.{◌≡◌, ◌≢◌, ℕ, zero, suc, ◌+◌, ◌%◌, ◌^◌, ◌<◌, ◌≤◌, List, [], ◌∷◌, ◌++◌, All, Option, None, Some, drop, length, map, slice_index_or}
-use Rattle.std.specs.List.{range_with_len}
 use Rattle.std.specs.Simd.Lanes.{zip2}
 use Rattle.rq_algebra.specs.Systems.{at}
-use Rattle.rq_bytes.specs.BinaryOctetVec.{packed_bit}
+use Rattle.rq_bytes.specs.BinaryOctetVec.{octets_of_bits}
 use Rattle.rq_bytes.specs.SymbolSlab.{Slab}
 use Rattle.rq_parts.specs.DenseOctetMatrix.{IsOctetRow}
 use Rattle.rq_parts.specs.PackedBits.{word_count}
-
--- the first bits as octets
-abbrev pub octets_of_bits : ℕ → List ℕ → List ℕ
-octets_of_bits n bits = map (packed_bit bits) (range_with_len 0 n)
 
 -- a row whose first octets are those that another one has in columns
 abbrev pub with_column_octets : List ℕ → List ℕ → List ℕ → List ℕ

@@ -2,22 +2,21 @@
 //! octets, and the place of each row in it.
 ghost use Rattle.std.specs.Prelude.{◌≡◌, ◌≢◌, ◌*◌, ◌%◌, ◌+◌, ◌^◌, ◌<◌, ◌≤◌, ◌++◌, ◌∷◌, [], true, false, None, All, length, replicate, slice_index_or, slice_set, IfOk, OnOk, IfErr, OnErr};
 ghost use Rattle.rq_algebra.specs.Systems.{at};
+ghost use Rattle.rq_bytes.specs.BinaryOctetVec.{octets_of_bits};
 ghost use Rattle.rq_bytes.specs.declared.error.Error.TheVariants.{OutOfMemory};
 ghost use Rattle.rq_parts.specs.DenseOctetMatrix.{IsOctetRow, row_at, with_row};
-ghost use Rattle.rq_elimination.specs.InactiveEntries.{place_before, entry_row, octets_of_bits, with_column_octets};
+ghost use Rattle.rq_elimination.specs.InactiveEntries.{place_before, entry_row, with_column_octets};
 ghost use Rattle.rq_standard.specs.Rows.{row_sum, row_multiple};
 
 use rq_bytes::error::Error;
 use rq_bytes::factor::{add_row_multiple, multiply_row};
 use rq_bytes::octet::Octet;
-use rq_bytes::octets::are_octets;
-use rq_bytes::products::{LANES, bit_products, half_of_word};
+use rq_bytes::octets::{add_bit_multiples, are_octets};
 use rq_bytes::symbol_slab::SymbolSlab;
 use rq_parts::bit_rows::BitRows;
 use rq_parts::octet_matrix::DenseOctetMatrix;
 use std::alloc::Global;
 use std::marker::Model;
-use std::simd::prelude::*;
 
 // For how many rows room is made with the first. The standard's tables have no more HDPC rows; where
 // one's own have more, the buffer grows.
@@ -169,7 +168,7 @@ impl OwnOctets {
     {
         if let Some(place) = place_of(self.places.as_slice(), row) {
             let octets = self.rows.get_mut(place);
-            add_bits(octets, bits, scalar.byte());
+            add_bit_multiples(octets, bits, scalar.byte());
             are_octets(octets);
         }
     }
@@ -233,20 +232,6 @@ fn push_bits(rows: &mut SymbolSlab, bits: &[u64]) -> Result<(), Error>
         rows.reserve(FIRST_ROWS)?;
     }
     rows.push_zeros()?;
-    add_bits(rows.get_mut(place), bits, 1);
+    add_bit_multiples(rows.get_mut(place), bits, 1);
     Ok(())
-}
-
-// Adds a multiple of bits to as many octets, which fill whole vectors.
-fn add_bits(octets: &mut [u8], bits: &[u64], scalar: u8)
-    requires room { length octets.old ≤ 64 * length bits.now }
-    requires whole { length octets.old % 32 ≡ 0 }
-    ensures { octets.new ≡ row_sum octets.old (row_multiple scalar (octets_of_bits (length octets.old) bits.now)) }
-{
-    for block in 0..octets.len() / LANES {
-        let at = LANES * block;
-        let half = half_of_word(bits[block / 2], block % 2);
-        let sum = u8x32::from_slice(&octets[at..]) ^ bit_products(scalar, half);
-        sum.copy_to_slice(&mut octets[at..]);
-    }
 }

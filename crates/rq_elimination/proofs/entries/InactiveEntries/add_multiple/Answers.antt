@@ -2,7 +2,7 @@
 use Rattle.std.proofs.Common.{List, ℕ, length, refl, sym, ap, ◌∙◌, arith}
 use Rattle.rq_parts.specs.DenseOctetMatrix.{row_at, with_row}
 use Rattle.rq_standard.specs.Rows.{row_sum, row_multiple}
-use Rattle.rq_elimination.specs.InactiveEntries.{octets_of_bits}
+use Rattle.rq_bytes.specs.BinaryOctetVec.{octets_of_bits}
 use Rattle.rq_elimination.proofs.EntryRows.{bits_place, bits_room, filled_long, filled_other, filled_place, filled_read, filled_width, filled_written, filled_written_seen, has_octets, own_octets, own_place, row_unpacked, sum_are, sum_seen}
 use Rattle.rq_elimination.proofs.entries.InactiveEntries.add_multiple.Goals as goal
 

@@ -1,6 +1,6 @@
 -- What the check leaves to show of `entries::InactiveEntries::get`.
 use Rattle.std.proofs.Common.{List, ℕ, get_or, sym, ap, ◌∙◌}
-use Rattle.rq_elimination.proofs.UnpackedBits.{at-octets_of_bits}
+use Rattle.rq_bytes.proofs.PackedRows.{at-octets_of_bits}
 use Rattle.rq_elimination.proofs.entries.InactiveEntries.get.Goals as goal
 
 pub returns-in-Bits : goal.returns-in-Bits

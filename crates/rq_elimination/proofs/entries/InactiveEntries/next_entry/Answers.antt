@@ -2,8 +2,8 @@
 use Rattle.std.proofs.Common.{◌≡◌, ◌<◌, ℕ, List, get_or, slice_index, sym, ap, ◌∙◌, arith}
 use Rattle.rq_parts.specs.DenseOctetMatrix.{row_at}
 use Rattle.rq_bytes.specs.BinaryOctetVec.{packed_bit}
+use Rattle.rq_bytes.proofs.PackedRows.{at-octets_of_bits}
 use Rattle.rq_elimination.proofs.EntryRows.{next_place}
-use Rattle.rq_elimination.proofs.UnpackedBits.{at-octets_of_bits}
 use Rattle.rq_elimination.proofs.entries.InactiveEntries.next_entry.Goals as goal
 use Rattle.rq_elimination.proofs.entries.InactiveEntries.next_entry.Goals.{In-Bits}
 

@@ -1,6 +1,6 @@
 -- What the check leaves to show of `entries::InactiveEntries::row`.
 use Rattle.std.proofs.Common.{refl, sym, ap, ◌∙◌, length, arith}
-use Rattle.rq_elimination.specs.InactiveEntries.{octets_of_bits}
+use Rattle.rq_bytes.specs.BinaryOctetVec.{octets_of_bits}
 use Rattle.rq_elimination.proofs.EntryRows.{bits_place, bits_room, own_octets, own_place, row_unpacked, width_is}
 use Rattle.rq_elimination.proofs.entries.InactiveEntries.row.Goals as goal
 

@@ -1,7 +1,7 @@
 -- What the check leaves to show of `entries::InactiveEntries::set_one`.
 use Rattle.std.proofs.Common.{ℕ, List, length, set, ap, refl, ◌∙◌, arith}
 use Rattle.rq_parts.specs.DenseOctetMatrix.{with_row}
-use Rattle.rq_elimination.specs.InactiveEntries.{octets_of_bits}
+use Rattle.rq_bytes.specs.BinaryOctetVec.{octets_of_bits}
 use Rattle.rq_elimination.proofs.EntryRows.{bits_place, bits_room, bits_written, bits_written_seen, own_octets, own_place, row_unpacked, width_is, words_long, written, written_seen}
 use Rattle.rq_elimination.proofs.UnpackedBits.{octets_of_bits-set}
 use Rattle.rq_elimination.proofs.entries.InactiveEntries.set_one.Goals as goal

@@ -1,7 +1,7 @@
 -- What the check leaves to show of `entries::InactiveEntries::word_of`.
 use Rattle.std.proofs.Common.{◌+◌, ◌*◌, List, ℕ, get_or, sym, ap, ◌∙◌}
 use Rattle.rq_parts.proofs.BitPairLaws.{packed_bit-at}
-use Rattle.rq_elimination.proofs.UnpackedBits.{at-octets_of_bits}
+use Rattle.rq_bytes.proofs.PackedRows.{at-octets_of_bits}
 use Rattle.rq_elimination.proofs.entries.InactiveEntries.word_of.Goals as goal
 
 pub returns-in-Bits : goal.returns-in-Bits

@@ -16,7 +16,7 @@ returns-clause-ok c =
     ]
     in
     let zeros = c.in_ok-push_zeros.ensures.ok ∙ ap (λ (s : Slab). record s { values = s.values ++ replicate s.symbol_size 0 ∷ [] }) kept in
-    let ws = c.add_bits.new.octets in
-    let long = c.add_bits.auto.octets ∙ c.get_mut.ensures.len in
+    let ws = c.add_bit_multiples.new.octets in
+    let long = c.add_bit_multiples.auto.octets ∙ c.get_mut.ensures.len in
     c.get_mut.ensures.whole_symbol ws long
-    ∙ appended old c.push_zeros.new.self c.args.bits.now ws c.get_mut.result.now c.len-place.result c.requires.no_order c.len-place.ensures.count zeros c.get_mut.ensures.symbol c.add_bits.ensures
+    ∙ appended old c.push_zeros.new.self c.args.bits.now ws c.get_mut.result.now c.len-place.result c.requires.no_order c.len-place.ensures.count zeros c.get_mut.ensures.symbol c.add_bit_multiples.ensures

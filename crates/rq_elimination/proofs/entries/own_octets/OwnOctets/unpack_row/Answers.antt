@@ -2,10 +2,11 @@
 use Rattle.std.proofs.Common.{List, ℕ, sym, ap, ◌∙◌}
 use Rattle.std.proofs.lemmas.List.{get_or_default}
 use Rattle.rq_parts.specs.DenseOctetMatrix.{row_at, with_row}
-use Rattle.rq_elimination.specs.InactiveEntries.{entry_row, octets_of_bits}
+use Rattle.rq_bytes.specs.BinaryOctetVec.{octets_of_bits}
+use Rattle.rq_bytes.proofs.PackedRows.{length-octets_of_bits}
+use Rattle.rq_elimination.specs.InactiveEntries.{entry_row}
 use Rattle.rq_elimination.proofs.EntryRows.{row_of_none}
 use Rattle.rq_elimination.proofs.OwnRows.{in_places, is_bits, placed_next, seen_next, width_is}
-use Rattle.rq_elimination.proofs.UnpackedBits.{length-octets_of_bits}
 use Rattle.rq_elimination.proofs.entries.own_octets.OwnOctets.unpack_row.Goals as goal
 
 pub invariant_of-self-then-index-eq0 : goal.invariant_of-self-then-index-eq0

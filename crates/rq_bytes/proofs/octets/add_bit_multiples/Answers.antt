@@ -1,10 +1,11 @@
--- What the check leaves to show of `entries::own_octets::add_bits`.
+-- What the check leaves to show of `octets::add_bit_multiples`.
 use Rattle.std.proofs.Common.{◌≡◌, ◌+◌, ◌*◌, length, ◌∙◌, arith}
 use Rattle.rq_standard.specs.Octets.{octet_mul}
+use Rattle.rq_bytes.specs.BinaryOctetVec.{octets_of_bits}
 use Rattle.rq_bytes.proofs.ZipUpto.{added_store, added_all}
-use Rattle.rq_elimination.specs.InactiveEntries.{octets_of_bits}
-use Rattle.rq_elimination.proofs.UnpackedBits.{length-octets_of_bits, products_of_half}
-use Rattle.rq_elimination.proofs.entries.own_octets.add_bits.Goals as goal
+use Rattle.rq_bytes.proofs.BitLanes.{products_of_half}
+use Rattle.rq_bytes.proofs.PackedRows.{length-octets_of_bits}
+use Rattle.rq_bytes.proofs.octets.add_bit_multiples.Goals as goal
 
 pub loop-block-preserved : goal.loop-block-preserved
 loop-block-preserved c =
