@@ -5,7 +5,7 @@ use Rattle.rq_algebra.specs.Systems.{at}
 use Rattle.rq_bytes.specs.BinaryOctetVec.{octets_of_bits}
 use Rattle.rq_bytes.specs.SymbolSlab.{Slab}
 use Rattle.rq_parts.specs.DenseOctetMatrix.{IsOctetRow}
-use Rattle.rq_parts.specs.PackedBits.{word_count}
+use Rattle.rq_parts.specs.PackedBits.{HasZerosBetween, word_count}
 
 -- a row whose first octets are those that another one has in columns
 abbrev pub with_column_octets : List ℕ → List ℕ → List ℕ → List ℕ
@@ -59,9 +59,9 @@ pub record ArePlaced (octets : Slab) (places : List ℕ) : Type 0 where
 
 -- the first place, from one on and before another, where there isn't 0
 abbrev pub IsNextPlace : (ℕ → ℕ) → ℕ → ℕ → ℕ → Type 0
-IsNextPlace entry from end place = (from ≤ place) × (place < end) × (entry place ≢ 0) × ((k : ℕ) → from ≤ k → k < place → entry k ≡ 0)
+IsNextPlace entry from end place = (from ≤ place) × (place < end) × (entry place ≢ 0) × HasZerosBetween entry from place
 
 -- that place with what is there
 abbrev pub IsNextOctet : (ℕ → ℕ) → ℕ → ℕ → Option (ℕ × ℕ) → Type 0
-IsNextOctet entry from end None = (k : ℕ) → from ≤ k → k < end → entry k ≡ 0
+IsNextOctet entry from end None = HasZerosBetween entry from end
 IsNextOctet entry from end (Some found) = IsNextPlace entry from end found.0 × (found.1 ≡ entry found.0)

@@ -13,7 +13,7 @@ use Rattle.rq_parts.specs.SparseBinaryVec.{listed_bit}
 use Rattle.rq_parts.proofs.BitPairLaws.{packed_bit-at, sum_of_bits}
 use Rattle.rq_parts.specs.ListedLaws.{listed-self, listed-other}
 use Rattle.rq_parts.proofs.ListedBits.{listed-append}
-use Rattle.rq_parts.specs.PackedBits.{IsLastOne}
+use Rattle.rq_parts.specs.PackedBits.{HasZerosBetween, IsLastOne}
 use Rattle.rq_matrix.specs.DenseTails.{with_word_added, Tail, tail_bit, IsTail, SetsTailBit, MarksRows, AddsTailRow, PushesColumn}
 use Rattle.rq_parts.proofs.PackedBits.{packed_bit-zeros}
 
@@ -163,7 +163,7 @@ tail_bit-at tail row block bit below =
 
 -- the last one of the word that holds the column before `next` is the last one before `end`, if there are none between
 pub last_one-word : (tail : Tail) (row next end bit word : ℕ) → 0 < next → word ≡ get_or (get_or tail.blocks ((next - 1) / 64) []) row 0 → IsLastOne (bit_at word) (next - 64 * ((next - 1) / 64)) bit → next ≤ end
-    → ((k : ℕ) → next ≤ k → k < end → tail_bit tail row k ≡ 0) → IsLastOne (tail_bit tail row) end (64 * ((next - 1) / 64) + bit)
+    → HasZerosBetween (tail_bit tail row) next end → IsLastOne (tail_bit tail row) end (64 * ((next - 1) / 64) + bit)
 last_one-word tail row next end bit word some is last on none =
     let block = (next - 1) / 64 in
     let here = λ (k : ℕ) (below : k < 64). tail_bit-at tail row block k below ∙ ap (λ w. bit_at w k) (sym is) in

@@ -2,9 +2,9 @@
 use Rattle.std.proofs.Common.{◌≡◌, ℕ, zero, suc, ◌+◌, ◌-◌, ◌/◌, ◌%◌, ◌^◌, ◌<◌, ◌≤◌, refl, sym, ap, ◌∙◌, arith, add-zero, add_assoc, add_comm}
 use Rattle.std.specs.Prelude.{count_ones, bit_and}
 use Rattle.std.specs.Int.{bit_at}
-use Rattle.std.proofs.Math.Pow.{ones_split, pow_pos}
-use Rattle.std.proofs.lemmas.Nat.{and_mask, mod-pow-add, div-mul-add}
-use Rattle.std.proofs.lemmas.Nat.Bits.{bit_at-lt}
+use Rattle.std.proofs.Math.Pow.{pow_pos}
+use Rattle.std.proofs.lemmas.Nat.{and_mask, mod-pow-add}
+use Rattle.std.proofs.lemmas.Nat.Bits.{bit_at-lt, ones_shr}
 use Rattle.std.proofs.Math.Nat.{mod-lt}
 use lib.Count.{ones_cat, ones-ones}
 use Rattle.rq_standard.specs.BitTableSteps.{ones_below}
@@ -48,9 +48,7 @@ count_ones-mod n (suc c) =
 -- the ones among `count` bits of a word, from `bit` on
 pub count_ones-part : (word bit count rest : ℕ) → count + rest ≡ 64 → count_ones (bit_and (word / 2 ^ bit) ((2 ^ 64 - 1) / 2 ^ rest)) ≡ ones_below (λ k. bit_at word (bit + k)) count
 count_ones-part word bit count rest e =
-    let mask : (2 ^ 64 - 1) / 2 ^ rest ≡ 2 ^ count - 1 =
-    ap (λ x. (2 ^ x - 1) / 2 ^ rest) (sym e) ∙ ap (λ x. x / 2 ^ rest) (ones_split count rest) ∙ div-mul-add (2 ^ count - 1) (2 ^ rest) (2 ^ rest - 1) (let positive = pow_pos rest in omega arith)
-    in
+    let mask : (2 ^ 64 - 1) / 2 ^ rest ≡ 2 ^ count - 1 = let left : 64 - rest ≡ count = omega arith in ones_shr 64 rest (omega arith) ∙ ap (λ x. 2 ^ x - 1) left in
     ap (λ m. count_ones (bit_and (word / 2 ^ bit) m)) mask
     ∙ ap count_ones (and_mask (word / 2 ^ bit) count)
     ∙ count_ones-mod (word / 2 ^ bit) count

@@ -1,9 +1,8 @@
 -- A list that is changed at one place, or from one place on.
-use Rattle.std.proofs.Common.{◌≡◌, ℕ, suc, ◌+◌, ◌-◌, ◌<◌, ◌≤◌, List, [], ◌∷◌, ◌++◌, length, map, set, get_or, take, drop, sym, ap, ◌∙◌, subst, arith, append_assoc, append-nil}
+use Rattle.std.proofs.Common.{◌≡◌, ℕ, suc, ◌+◌, ◌-◌, ◌<◌, ◌≤◌, List, [], ◌∷◌, ◌++◌, length, map, set, get_or, take, drop, sym, ap, ◌∙◌, subst, arith, append_assoc}
 use Rattle.std.specs.List.{All, swap}
-use Rattle.std.proofs.Math.ListN.{drop_of_length-le}
 use Rattle.std.proofs.Math.Seq.{drop-cons}
-use Rattle.std.proofs.lemmas.List.{set-append_right, take-append-drop, length-take-le, length-append, length-drop, length-map, take-append-le, drop-append-le, map-append, get_or-append_right, get_or-drop, take_more}
+use Rattle.std.proofs.lemmas.List.{set-append_right, length-take-le, length-append, length-drop, length-map, take-append-le, drop-append-le, map-append, get_or-append_right, get_or-drop, take_more}
 use Rattle.std.proofs.lemmas.List.Elements.{All-set}
 use Rattle.std.proofs.lemmas.List.Edits.{swap_is}
 
@@ -58,6 +57,3 @@ module _ {X : Type 0} (f : X → X) (start n : ℕ) (xs : List X) (from : start 
       ∙ ap (λ l. take start (take n xs) ++ l) (sym (map-append f (drop start (take n xs)) (x ∷ [])))
       ∙ ap (λ l. take start (take n xs) ++ map f l) (sym (drop-append-le start (take n xs) (x ∷ []) long) ∙ ap (drop start) (sym more))
       ∙ ap (λ l. l ++ map f (drop start (take (n + 1) xs))) (sym (take-append-le start (take n xs) (x ∷ []) long) ∙ ap (take start) (sym more)))
-
-pub take_whole : {X : Type 0} (n : ℕ) (xs : List X) → length xs ≤ n → take n xs ≡ xs
-take_whole n xs le = sym (append-nil (take n xs)) ∙ ap (λ l. take n xs ++ l) (sym (drop_of_length-le xs le)) ∙ take-append-drop n xs

@@ -1,6 +1,6 @@
 -- The bits of an ascending list of ones.
-use Rattle.std.proofs.Common.{◌≡◌, ◌≢◌, ℕ, zero, suc, ◌+◌, ◌-◌, ◌<◌, ◌≤◌, ◌==◌, List, [], ◌∷◌, ◌++◌, length, take, drop, get_or, Bool, cond, not, true, false, filter, refl, sym, ap, subst, ◌∙◌, inl, inr, arith, if◌then◌else◌, All, Contains, None, Some, Result, Ok, Err, IfOk, IfErr}
-use mathlib.Core.Bool.{false≢true}
+use Rattle.std.proofs.Common.{◌≡◌, ◌≢◌, ℕ, zero, suc, ◌+◌, ◌-◌, ◌<◌, ◌≤◌, ◌==◌, List, [], ◌∷◌, ◌++◌, length, take, drop, get_or, Bool, cond, not, filter, refl, sym, ap, subst, ◌∙◌, inl, inr, arith, if◌then◌else◌, All, Contains, None, Some, Result, Ok, Err, IfOk, IfErr}
+use mathlib.Core.Bool.{false≢true, not-not}
 use Rattle.std.specs.List.Sorted.{IsStrictlyIncreasing, IsBinarySearchResult}
 use Rattle.std.specs.Ordering.{nat_cmp}
 use Rattle.std.proofs.lemmas.List.Sorted.{searched}
@@ -226,10 +226,6 @@ gap-at xs i place up none found = record {
 abbrev pub is_other : ℕ → ℕ → Bool
 is_other i one = not (one == i)
 
-not_twice : (b : Bool) → b ≡ not (not b)
-not_twice true = refl
-not_twice false = refl
-
 pub others-inserted : (xs : List ℕ) (place i : ℕ) → filter (is_other i) (insert xs place i) ≡ filter (is_other i) xs
 others-inserted xs place i =
     let rest = filter (is_other i) (drop place xs) in
@@ -256,5 +252,5 @@ sets-others xs i = record {
         | inl e ↦ other (sym same ∙ e.1)
         | inr e ↦ false≢true (sym e.0 ∙ filter_passes (λ one. one == i) xs j 0 l)
       ]) in
-      omega (arith, sum_by-filter_both (is_other i) (λ one. one == i) (λ one. not_twice (one == i)) (λ one. cond (one == k) 1 0) xs, none);
+      omega (arith, sum_by-filter_both (is_other i) (λ one. one == i) (λ one. sym (not-not (one == i))) (λ one. cond (one == k) 1 0) xs, none);
 }

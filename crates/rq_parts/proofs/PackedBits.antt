@@ -13,9 +13,9 @@ use Rattle.std.proofs.lemmas.Nat.Bits.{bit_at-lt, bit_at-zero, bit_at_xor, bit_a
 use Rattle.std.proofs.lemmas.Simd.{get_or-zip2}
 use Rattle.rq_bytes.specs.BinaryOctetVec.{packed_bit}
 use Rattle.rq_standard.specs.Rows.{row_sum}
-use Rattle.rq_parts.specs.PackedBits.{word_count, IsWordWith, HasNoOnes, IsLastOne, HasNoOnesFrom, IsNextOne}
+use Rattle.rq_parts.specs.PackedBits.{word_count, IsWordWith, HasZerosBetween, IsLastOne, IsNextOne}
 use Rattle.rq_parts.proofs.BitPairLaws.{bit_at-shifted, sum_of_bits}
-use Rattle.rq_parts.proofs.Zeros.{zeros_everywhere}
+use Rattle.rq_algebra.proofs.Placewise.{at-zeros}
 
 pub packed_bit-set_here : (words : List ℕ) (column value word : ℕ) → column < 64 * length words → IsWordWith (get_or words (column / 64) 0) (column % 64) value word
     → packed_bit (set words (column / 64) word) column ≡ value
@@ -49,7 +49,7 @@ pub packed_bit-lt : (words : List ℕ) (k : ℕ) → packed_bit words k < 2
 packed_bit-lt words k = bit_at-lt (get_or words (k / 64) 0) (k % 64)
 
 pub packed_bit-zeros : (n k : ℕ) → packed_bit (replicate n 0) k ≡ 0
-packed_bit-zeros n k = ap (λ w. bit_at w (k % 64)) (zeros_everywhere n (k / 64)) ∙ bit_at-zero (k % 64)
+packed_bit-zeros n k = ap (λ w. bit_at w (k % 64)) (at-zeros n (k / 64)) ∙ bit_at-zero (k % 64)
 
 pub packed_bit-sum : (xs ys : List ℕ) (k : ℕ) → length ys ≡ length xs → k / 64 < length xs → packed_bit (row_sum xs ys) k ≡ bit_xor (packed_bit xs k) (packed_bit ys k)
 packed_bit-sum xs ys k long inside =
@@ -73,7 +73,7 @@ module _ (words : List ℕ) (column rest : ℕ) (rest_is : rest ≡ get_or words
   bit_ahead : (i : ℕ) → column % 64 + i < 64 → packed_bit words (column + i) ≡ bit_at rest i
   bit_ahead i l = packed_bit-near words column i l ∙ sym (ap (λ x. bit_at x i) rest_is ∙ bit_at-shifted (get_or words (column / 64) 0) (column % 64) i)
 
-  pub zeros_ahead : rest ≡ 0 → HasNoOnesFrom (packed_bit words) column (column + (64 - column % 64))
+  pub zeros_ahead : rest ≡ 0 → HasZerosBetween (packed_bit words) column (column + (64 - column % 64))
   zeros_ahead none k from before =
       let i : ℕ = k - column in
       let back : column + i ≡ k = omega arith in
@@ -101,12 +101,12 @@ module _ (words : List ℕ) (column rest : ℕ) (rest_is : rest ≡ get_or words
       }
 
 -- zeros before a column, and from it on
-pub zeros_before : (bit : ℕ → ℕ) (from column end : ℕ) → HasNoOnesFrom bit from column → HasNoOnesFrom bit column end → HasNoOnesFrom bit from end
+pub zeros_before : (bit : ℕ → ℕ) (from column end : ℕ) → HasZerosBetween bit from column → HasZerosBetween bit column end → HasZerosBetween bit from end
 zeros_before bit from column end first rest k l m = elim (cases_lt k column) [ inl early ↦ first k l early | inr late ↦ rest k late m ]
 
 -- a one, and zeros before it: it is the next one where it is before the end, and else there is none
-pub next_one-if : (bit : ℕ → ℕ) (from column end place : ℕ) (inside : Bool) → from ≤ column → HasNoOnesFrom bit from column → IsNextOne bit column (place + 1) place → inside ≡ nat_lt place end
-    → MatchOption (then_some inside place) (HasNoOnesFrom bit from end) (IsNextOne bit from end)
+pub next_one-if : (bit : ℕ → ℕ) (from column end place : ℕ) (inside : Bool) → from ≤ column → HasZerosBetween bit from column → IsNextOne bit column (place + 1) place → inside ≡ nat_lt place end
+    → MatchOption (then_some inside place) (HasZerosBetween bit from end) (IsNextOne bit from end)
 next_one-if bit from column end place true after first next is =
     let behind = next.behind in
     record { behind = omega arith; below = grind (arith, nat_tests, is); one = next.one; zeros = zeros_before bit from column place first next.zeros }
@@ -133,8 +133,8 @@ module _ (word end : ℕ) (within : end ≤ 64) where
   pub low-none : (k : ℕ) → end ≤ k → bit_at (low_bits word end) k ≡ 0
   low-none k above = low-mask k ∙ ap (min (bit_at word k)) (bit_at_ones_above end k above) ∙ (omega arith)
 
-  pub no_ones-low : low_bits word end ≡ 0 → HasNoOnes (bit_at word) end
-  no_ones-low none k below = sym (low-same k below) ∙ ap (λ n. bit_at n k) none ∙ bit_at-zero k
+  pub no_ones-low : low_bits word end ≡ 0 → HasZerosBetween (bit_at word) 0 end
+  no_ones-low none k _ below = sym (low-same k below) ∙ ap (λ n. bit_at n k) none ∙ bit_at-zero k
 
   pub last_one-low : (place : ℕ) → 2 ^ place ≤ low_bits word end → low_bits word end < 2 * 2 ^ place → IsLastOne (bit_at word) end place
   last_one-low place least most =

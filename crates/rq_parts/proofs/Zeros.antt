@@ -3,10 +3,6 @@ use Rattle.std.proofs.Common.{◌≡◌, ℕ, zero, suc, ◌+◌, ◌<◌, List,
 use Rattle.std.proofs.lemmas.List.Edits.{fill_by_more}
 use Rattle.rq_algebra.proofs.Placewise.{at-zeros}
 
--- a read of zeros, for crates above that don't use rq_algebra
-pub zeros_everywhere : (n k : ℕ) → ◌≡◌ {A = ℕ} (get_or (replicate n 0) k 0) 0
-zeros_everywhere = at-zeros
-
 pub padded_reads : (xs : List ℕ) (n k : ℕ) → ◌≡◌ {A = ℕ} (get_or (xs ++ replicate n 0) k 0) (get_or xs k 0)
 padded_reads [] n k = at-zeros n k
 padded_reads (x ∷ xs) n zero = refl

@@ -5,7 +5,7 @@ ghost use Rattle.std.specs.Int.{bit_at};
 ghost use Rattle.std.specs.Int.Bits.{bit_xor};
 ghost use Rattle.rq_standard.specs.BitTableSteps.{bit_of, ones_below, ones_between};
 ghost use Rattle.rq_bytes.specs.BinaryOctetVec.{packed_bit};
-ghost use Rattle.rq_parts.specs.PackedBits.{word_count, IsWordWith, HasNoOnes, IsLastOne, HasNoOnesFrom, IsNextOne};
+ghost use Rattle.rq_parts.specs.PackedBits.{word_count, IsWordWith, HasZerosBetween, IsLastOne, IsNextOne};
 
 use rq_bytes::octet::Octet;
 use rq_bytes::octets::{BinaryOctetVec, WORD_BITS};
@@ -107,7 +107,7 @@ pub fn count_ones(row: &[u64], start: usize, end: usize) -> usize
 pub fn next_one(row: &[u64], from: usize, end: usize) -> Option<usize>
     requires within { end ≤ 64 * length row.now }
     requires fits { end < 2 ^ 63 }
-    ensures { MatchOption result (HasNoOnesFrom (packed_bit row.now) from end) (IsNextOne (packed_bit row.now) from end) }
+    ensures { MatchOption result (HasZerosBetween (packed_bit row.now) from end) (IsNextOne (packed_bit row.now) from end) }
 {
     let mut column = from;
     while column < end {
@@ -125,7 +125,7 @@ pub fn next_one(row: &[u64], from: usize, end: usize) -> Option<usize>
 pub fn last_one(word: u64, end: usize) -> Option<usize>
     requires some { 0 < end }
     requires within { end ≤ 64 }
-    ensures { MatchOption result (HasNoOnes (bit_at word) end) (IsLastOne (bit_at word) end) }
+    ensures { MatchOption result (HasZerosBetween (bit_at word) 0 end) (IsLastOne (bit_at word) end) }
 {
     let bits = word & (u64::MAX >> (WORD_BITS - end));
     Some(bits.checked_ilog2()? as usize)

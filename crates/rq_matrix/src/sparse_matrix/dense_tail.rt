@@ -3,13 +3,13 @@ ghost use Rattle.std.specs.Prelude.{◌≡◌, ℕ, ◌+◌, ◌-◌, ◌*◌, �
 ghost use Rattle.std.specs.Int.Bits.{bit_xor};
 ghost use Rattle.rq_bytes.specs.BinaryOctetVec.{packed_bit};
 ghost use Rattle.rq_standard.specs.BitTableSteps.{bit_of};
-ghost use Rattle.rq_parts.specs.PackedBits.{word_count, HasNoOnes, IsLastOne};
+ghost use Rattle.rq_parts.specs.PackedBits.{word_count, HasZerosBetween, IsLastOne};
 ghost use Rattle.rq_matrix.specs.DenseTails.{with_word_added, tail_bit, IsZeroTail, SetsTailBit, MarksRows, AddsTailRow, PushesColumn};
 
 use crate::bit_row::BitRow;
 use rq_bytes::octet::Octet;
 use rq_bytes::octets::WORD_BITS;
-use rq_parts::packed_bits::last_one;
+use rq_parts::packed_bits::{last_one, words_for};
 use std::alloc::{AllocError, Global};
 use std::marker::Model;
 
@@ -54,11 +54,7 @@ impl DenseTail {
         Ok(DenseTail {
             rows,
             columns,
-            blocks: zero_rows(
-                alloc,
-                (columns + WORD_BITS - 1) / WORD_BITS,
-                WORD_BITS * rows,
-            )?,
+            blocks: zero_rows(alloc, words_for(columns), WORD_BITS * rows)?,
         })
     }
 
@@ -75,7 +71,7 @@ impl DenseTail {
     pub(super) fn last_one(&self, row: usize, mut end: usize) -> Option<usize>
         requires row { row < self.now.rows }
         requires within { end ≤ self.now.columns }
-        ensures { MatchOption result (HasNoOnes (tail_bit self.now row) end) (IsLastOne (tail_bit self.now row) end) }
+        ensures { MatchOption result (HasZerosBetween (tail_bit self.now row) 0 end) (IsLastOne (tail_bit self.now row) end) }
     {
         while end > 0 {
             let block = (end - 1) / WORD_BITS;

@@ -32,4 +32,4 @@ returns-clause-ok c =
     let bit = λ (k : ℕ). tail_bit old.tail c.stored_row-row.result (old.width - 1 - k) in
     places-same bit (sparse_bit old.width old.boundary old.rows.items old.row_order old.column_order old.tail c.args.row) start old.width c.loop-column.out.items
     (λ k from _. dense_bit old.width old.boundary old.rows.items old.row_order old.column_order old.tail c.args.row c.stored_row-row.result c.stored_row-row.ensures.value k (omega (arith, c.requires.dense)))
-    (places-pass bit start (old.width - c.loop-column.end) old.width c.loop-column.out.items (omega arith) c.loop-column.invariant.found.places (λ k from below. c.in_default.ensures (old.width - 1 - k) (omega arith)))
+    (places-pass bit start (old.width - c.loop-column.end) old.width c.loop-column.out.items (omega arith) c.loop-column.invariant.found.places (λ k from below. c.in_default.ensures (old.width - 1 - k) (omega arith) (omega arith)))
