@@ -166,7 +166,7 @@ pub fn fused_addassign_mul_scalar_binary(octets: &mut [u8], other: &BinaryOctetV
     add_bit_multiples(&mut octets[begun..], &other.elements[whole..], scalar);
 }
 
-/// Adds a multiple of bits to as many octets, which fill whole vectors.
+/// Adds a multiple of bits to as many octets, which fill whole vectors. Not in the Rust crate.
 pub fn add_bit_multiples(octets: &mut [u8], bits: &[u64], scalar: u8)
     requires room { length octets.old ≤ 64 * length bits.now }
     requires whole { length octets.old % 32 ≡ 0 }
