@@ -242,6 +242,10 @@ module _ (e : Inside) (are : AreEntries e.octets.width e.bits e.octets.rows) {no
     row_elements : (i : ℕ) → i < length (row_at now row) → get_or (row_at now row) i 0 < 256
     row_elements i l = (subst (IsOctetRow e.octets.width) (sym row_now) (row_octets e.octets.width e.bits e.octets.rows are row bits_place)).1 i 0 l
 
+  -- what `unpack_row` requires
+  pub can_unpack : (i : ℕ) → i < length now.rows → record { row : i < length e.octets.rows; bits : i < length e.bits; room : e.octets.width ≤ 64 * length (get_or e.bits i []) }
+  can_unpack i there = record { row = own_place i there; bits = bits_place i there; room = bits_room i there }
+
   -- bits to which bits are added
   module _ (dest src : ℕ) (in_dest : dest < length now.rows) (in_src : src < length now.rows) (none : length (row_at e.octets dest) ≡ 0) (none_other : length (row_at e.octets src) ≡ 0)
       (scalar : ℕ) (one : scalar ≡ 1) (new : List (List ℕ)) (new_is : new ≡ set e.bits dest (row_sum (get_or e.bits dest []) (get_or e.bits src []))) where

@@ -3,7 +3,7 @@ use Rattle.std.proofs.Common.{List, ℕ, length, refl, sym, ap, ◌∙◌, arith
 use Rattle.rq_parts.specs.DenseOctetMatrix.{row_at, with_row}
 use Rattle.rq_standard.specs.Rows.{row_sum, row_multiple}
 use Rattle.rq_bytes.specs.BinaryOctetVec.{octets_of_bits}
-use Rattle.rq_elimination.proofs.EntryRows.{bits_place, bits_room, filled_long, filled_other, filled_place, filled_read, filled_width, filled_written, filled_written_seen, has_octets, own_octets, own_place, row_unpacked, sum_are, sum_seen}
+use Rattle.rq_elimination.proofs.EntryRows.{bits_place, bits_room, can_unpack, filled_long, filled_other, filled_place, filled_read, filled_width, filled_written, filled_written_seen, has_octets, own_octets, own_place, row_unpacked, sum_are, sum_seen}
 use Rattle.rq_elimination.proofs.entries.InactiveEntries.add_multiple.Goals as goal
 
 -- ---- both are bits
@@ -31,14 +31,8 @@ returns-then-is_bits-2-clause-octets c = has_octets c.self.inside.octets.width c
 
 -- ---- the row that takes gets octets
 
-pub unpack_row-requires-clause-bits : goal.unpack_row-requires-clause-bits
-unpack_row-requires-clause-bits c = bits_place c.self.inside c.self.invariant c.self.view_is c.args.dest c.requires.dest
-
-pub unpack_row-requires-clause-room : goal.unpack_row-requires-clause-room
-unpack_row-requires-clause-room c = bits_room c.self.inside c.self.invariant c.self.view_is c.args.dest c.requires.dest
-
-pub unpack_row-requires-clause-row : goal.unpack_row-requires-clause-row
-unpack_row-requires-clause-row c = own_place c.self.inside c.self.invariant c.self.view_is c.args.dest c.requires.dest
+pub unpack_row-requires : goal.unpack_row-requires
+unpack_row-requires c = can_unpack c.self.inside c.self.invariant c.self.view_is c.args.dest c.requires.dest
 
 pub is_bits-requires-2 : goal.is_bits-requires-2
 is_bits-requires-2 c = filled_place c.self.inside c.self.invariant c.self.view_is c.args.dest c.requires.dest c.unpack_row.new.self c.in_ok-unpack_row.ensures.row c.args.src (own_place c.self.inside c.self.invariant c.self.view_is c.args.src c.requires.src)

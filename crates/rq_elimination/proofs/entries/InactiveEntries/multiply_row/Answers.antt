@@ -2,17 +2,11 @@
 use Rattle.std.proofs.Common.{List, ℕ, ap, ◌∙◌}
 use Rattle.rq_parts.specs.DenseOctetMatrix.{with_row}
 use Rattle.rq_standard.specs.Rows.{row_multiple}
-use Rattle.rq_elimination.proofs.EntryRows.{bits_place, bits_room, filled_long, filled_place, filled_read, filled_written, filled_written_seen, has_octets, own_place}
+use Rattle.rq_elimination.proofs.EntryRows.{can_unpack, filled_long, filled_place, filled_read, filled_written, filled_written_seen, has_octets, own_place}
 use Rattle.rq_elimination.proofs.entries.InactiveEntries.multiply_row.Goals as goal
 
-pub unpack_row-requires-clause-bits : goal.unpack_row-requires-clause-bits
-unpack_row-requires-clause-bits c = bits_place c.self.inside c.self.invariant c.self.view_is c.args.row c.requires.row
-
-pub unpack_row-requires-clause-room : goal.unpack_row-requires-clause-room
-unpack_row-requires-clause-room c = bits_room c.self.inside c.self.invariant c.self.view_is c.args.row c.requires.row
-
-pub unpack_row-requires-clause-row : goal.unpack_row-requires-clause-row
-unpack_row-requires-clause-row c = own_place c.self.inside c.self.invariant c.self.view_is c.args.row c.requires.row
+pub unpack_row-requires : goal.unpack_row-requires
+unpack_row-requires c = can_unpack c.self.inside c.self.invariant c.self.view_is c.args.row c.requires.row
 
 pub multiply-requires-clause-row : goal.multiply-requires-clause-row
 multiply-requires-clause-row c = filled_place c.self.inside c.self.invariant c.self.view_is c.args.row c.requires.row c.unpack_row.new.self c.in_ok-unpack_row.ensures.row c.args.row (own_place c.self.inside c.self.invariant c.self.view_is c.args.row c.requires.row)
