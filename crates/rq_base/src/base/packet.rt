@@ -52,7 +52,7 @@ impl PayloadId {
 
     /// The id that four bytes spell: a byte of block number, three of encoding symbol id, most
     /// significant first.
-    pub fn deserialize(bytes: &[u8; 4]) -> PayloadId
+    pub fn deserialize(bytes: &[u8; PAYLOAD_ID_LENGTH]) -> PayloadId
         ensures value { result ≡ id_of_bytes bytes.now }
         ensures written { id_bytes result ≡ bytes.now }
     {
@@ -64,7 +64,7 @@ impl PayloadId {
     }
 
     /// The four bytes that spell the id.
-    pub fn serialize(&self) -> [u8; 4]
+    pub fn serialize(&self) -> [u8; PAYLOAD_ID_LENGTH]
         ensures value { result ≡ id_bytes self.now }
         ensures read { id_of_bytes result ≡ self.now }
     {
