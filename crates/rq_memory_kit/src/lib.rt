@@ -141,7 +141,7 @@ impl Endings {
     }
 }
 
-/// Counts how calls ended.
+/// Counts how calls ended, one for each, in their order: there are as many of both.
 pub fn add_all(endings: &mut [Endings], ended: &[Ending]) {
     for (endings, ending) in endings.iter_mut().zip(ended) {
         endings.add(*ending);

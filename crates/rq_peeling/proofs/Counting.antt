@@ -1,5 +1,5 @@
 -- Counts and sums of any list of numbers.
-use Rattle.std.proofs.Common.{Bool, ◌≡◌, ◌≢◌, ℕ, ◌+◌, ◌-◌, ◌*◌, ◌<◌, ◌≤◌, List, [], All, ◌∷◌, ◌++◌, Contains, length, take, replicate, get_or, refl, sym, ap, subst, ◌∙◌, arith, inl, inr, cond, true, false, ◌==◌, zero, suc, add-zero, zero-add}
+use Rattle.std.proofs.Common.{Bool, ◌≡◌, ◌≢◌, ℕ, ◌+◌, ◌-◌, ◌*◌, ◌<◌, ◌≤◌, List, [], All, ◌∷◌, Contains, length, take, replicate, get_or, refl, sym, ap, subst, ◌∙◌, arith, inl, inr, cond, true, false, ◌==◌, zero, suc, add-zero, zero-add}
 use Rattle.std.specs.List.{concat, count_by, sum, sum_by}
 use Rattle.std.proofs.lemmas.Bool.{eq-eqb, ne_eqb}
 use Rattle.std.proofs.lemmas.Bool.Decides.{eqb_tells}

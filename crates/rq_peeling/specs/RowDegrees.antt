@@ -42,7 +42,7 @@ pub record HasFewestLeft (lists : List (List ℕ)) (lt_columns : ℕ) (taken : L
 abbrev pub TakesFewestLeft : List (List ℕ) → ℕ → List ℕ → Type 0
 TakesFewestLeft lists lt_columns taken = (p : ℕ) → p < length taken → HasFewestLeft lists lt_columns (take p taken) (at taken p)
 
--- so it was, and in the columns that are left now no row has any
+-- each had, and in the columns that are left now no row has a one
 pub record TakesFewest (lists : List (List ℕ)) (lt_columns : ℕ) (taken : List ℕ) : Type 0 where
   pub each : TakesFewestLeft lists lt_columns taken
   pub last : (r : ℕ) → r < length lists → ones_left lists lt_columns taken r ≡ 0

@@ -11,8 +11,8 @@ use Rattle.raptorq.proofs.Numbered.{IsTurn, turn_of, length-numbered, mapped_at,
 use Rattle.raptorq.proofs.encoder.Encoder.get_encoded_packets.Goals as goal
 use Rattle.raptorq.proofs.encoder.Encoder.get_encoded_packets.Goals.{After-source_symbol_count}
 
-abbrev ok_of : Unit {0} → Result (Unit {0}) AllocError
-ok_of u = Ok u
+abbrev all_taken : Unit {0} → Result (Unit {0}) AllocError
+all_taken u = Ok u
 
 -- the block of this turn is its encoder's, and has the symbols of its number
 module _ (c : After-source_symbol_count) where
@@ -38,7 +38,7 @@ loop-block-preserved c =
     let x = c.block-item.result in
     let n = c.loop-block.block-index in
     let more = c.in_ok-packets.field-0.items in
-    let grown : c.extend.new.self.items ≡ c.loop-block.packets.items ++ more = fact_from_extend (λ p. p) (ok_of c.in_ok-extend.field-0) c.in_ok-extend.ensures.ran (λ it made. YieldsList-from_vec more made.0 (made.1 ∙ c.in_ok-packets.field-0.ok.0))
+    let grown : c.extend.new.self.items ≡ c.loop-block.packets.items ++ more = fact_from_extend (λ p. p) (all_taken c.in_ok-extend.field-0) c.in_ok-extend.ensures.ran (λ it made. YieldsList-from_vec more made.0 (made.1 ∙ c.in_ok-packets.field-0.ok.0))
     (λ xs are grows. grows.0 ∙ ap (λ l. c.loop-block.packets.items ++ l) (sym (map-id xs) ∙ are)) in
     encoded_more (encoded_of s) c.args.repair_packets_per_block n (c.source_symbol_count.result + c.args.repair_packets_per_block - 0) (block_encoded_of x) c.loop-block.packets.items more c.extend.new.self.items (within at)
     (block_at s.config items n x (turn at).below (turn at).is) (numbered_at encoder_number s.config.source_blocks items s.numbered n x (within at) (turn at).is) (count at) (omega (arith, c.source_symbol_count.ensures)) c.loop-block.invariant c.in_ok-packets.ensures.packets grown
