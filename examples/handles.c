@@ -51,18 +51,17 @@ static void cut_file(size_t length, uint8_t *configuration)
     check("write_configuration", reamertan_write_configuration(&cut, configuration));
 }
 
-/* Whether a block is complete. Then its bytes are written to their place in the file. */
+/* Writes the bytes of a block to their place in the file, once its packets determine it. */
 static bool write_complete(struct reamertan_handle *receiver, const uint8_t *configuration, uint8_t block,
                            uint8_t *back, size_t length)
 {
-    uint32_t packets;
-    check("missing_packets", reamertan_missing_packets(receiver, block, &packets));
-    if (packets > 0)
-        return false;
     struct reamertan_range range;
     check("block_range", reamertan_block_range(configuration, block, &range));
     size_t end = range.end < length ? range.end : length;
-    check("write_block", reamertan_write_block(receiver, block, back + range.start, end - range.start));
+    uint8_t answer = reamertan_write_block(receiver, block, back + range.start, end - range.start);
+    if (answer == REAMERTAN_INCOMPLETE)
+        return false;
+    check("write_block", answer);
     return true;
 }
 

@@ -45,6 +45,12 @@ pub struct Refusal(pub u8);
 /// The packets contradict each other.
 pub const CONTRADICTION: Refusal = Refusal(22);
 
+/// The buffer has another length than what is to be written.
+const WRONG_BUFFER: Refusal = Refusal(24);
+
+/// The packets don't determine what is asked for.
+const INCOMPLETE: Refusal = Refusal(25);
+
 const NAMES: [&str; 26] = [
     "Done",
     "TransferTooLong",
@@ -135,7 +141,6 @@ unsafe extern "C" {
         handle: *mut Handle,
     ) -> u8;
     fn reamertan_add_packet(handle: *mut Handle, packet: *const u8, packet_length: usize) -> u8;
-    fn reamertan_missing_packets(handle: *mut Handle, block: u8, missing: *mut u32) -> u8;
     fn reamertan_write_block(handle: *mut Handle, block: u8, bytes: *mut u8, length: usize) -> u8;
     fn reamertan_close(handle: *mut Handle);
 }
@@ -264,12 +269,14 @@ impl Handle {
         answered(number, ())
     }
 
-    /// How many packets more a block needs at least.
-    pub fn missing_packets(&mut self, block: u8) -> Result<u32, Refusal> {
-        let mut missing = 0;
-        // SAFETY: as above.
-        let number = unsafe { reamertan_missing_packets(self, block, &mut missing) };
-        answered(number, missing)
+    /// Whether the packets of a block determine it. A buffer of no bytes asks: only a block of none
+    /// fills it.
+    pub fn is_complete(&mut self, block: u8) -> Result<bool, Refusal> {
+        match self.write_block(block, &mut []) {
+            Ok(()) | Err(WRONG_BUFFER) => Ok(true),
+            Err(INCOMPLETE) => Ok(false),
+            Err(refusal) => Err(refusal),
+        }
     }
 
     /// Fills a buffer with the bytes of a block.
