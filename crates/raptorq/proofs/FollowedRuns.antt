@@ -12,14 +12,15 @@ use Rattle.rq_standard.specs.Configuration.{Configuration}
 use Rattle.rq_standard.specs.Cutting.{block_symbols}
 use Rattle.rq_standard.specs.Packet.{Packet}
 use Rattle.rq_standard.specs.Headline.{block_row}
-use Rattle.rq_standard.specs.ReceivedBlock.{ReceivedBlock, has_received, with_received, CanAnswer, IsContradictory}
+use Rattle.rq_standard.specs.ReceivedBlock.{ReceivedBlock, with_received, CanAnswer, IsBlockAnswer, IsContradictory}
 use Rattle.rq_standard.specs.DecoderState.{State, IsReceivedOf, new_received, new_answer, IsNewState}
 use Rattle.rq_standard.specs.DecoderSteps.{AddsToBlock, Adds, Contradicts, received_after}
-use Rattle.rq_standard.proofs.KnownIds.{block_more, none_determined}
-use Rattle.rq_standard.proofs.Firsts.{has_id-push}
+use Rattle.rq_standard.specs.Following.{FollowsRun, IsFirstAnswer}
+use Rattle.rq_standard.proofs.FirstAnswers.{IsAnsweredBy, can_more, first_stays, first_now, first_none}
+use Rattle.rq_standard.proofs.KnownIds.{none_determined}
 use Rattle.rq_standard.proofs.Contradictions.{contradictory-no_answer, received_later, received_meanwhile, contradicted_after, received_more, received_none}
 use Rattle.raptorq.specs.Refused.{packet_refusal, IsPacketRefusal}
-use Rattle.raptorq.specs.Runs.{ContradictsReceived, IsNextRefusal, IsRefusalBehind, IsRunRefusal, AnswersRun, FollowsRun}
+use Rattle.raptorq.specs.Runs.{ContradictsReceived, IsNextRefusal, IsRefusalBehind, IsRunRefusal, AnswersRun}
 
 -- ---- the tests
 
@@ -37,57 +38,60 @@ passes_below c p h = ltb-true p.id.block c.source_blocks (block_passes (ltb p.id
 
 -- ---- a block
 
--- what can be answered still can be one packet later
-can_more : (table : List TableRow) (c : Configuration) (b : ℕ) (earlier : List Packet) (p : Packet) → CanAnswer (received_after table c b earlier) → CanAnswer (received_after table c b (earlier ++ p ∷ []))
-can_more table c b earlier p (inl all) = inl (record { each = λ e below. has_id-push b earlier p e (all.each e below) })
-can_more table c b earlier p (inr d) =
-    let now = received_after table c b earlier in
-    let later = received_after table c b (earlier ++ p ∷ []) in
-    inr (block_more now.row now.source_symbols (has_received now) (has_received later) (has_id-push b earlier p) d)
-
 -- what a packet makes of its block
 module _ (table : List TableRow) (c : Configuration) (earlier : List Packet) (p : Packet) (old : ReceivedBlock) (new : ReceivedBlock) (after : Option (List ℕ)) where
   abbrev b : ℕ
   b = p.id.block
 
-  -- it is answered then exactly where it can be, and isn't contradicted
-  added_here : (before : Option (List ℕ)) → AddsToBlock old before p new after → (before ≡ None → old ≡ received_after table c b earlier) → (IsSome before ↔ CanAnswer (received_after table c b earlier))
-      → (IsSome after ↔ CanAnswer (received_after table c b (earlier ++ p ∷ []))) × (ContradictsReceived table c earlier p → ⊥)
-  added_here None add holds answers =
-      let is : with_received old p.id.esi p.payload ≡ received_after table c b (earlier ++ p ∷ []) = ap (λ h. with_received h p.id.esi p.payload) (holds refl) ∙ received_later table c earlier p in (
-        subst (λ h. IsSome after ↔ CanAnswer h) is (add.answers.some, add.answers.none),
+  -- it is answered so, and isn't contradicted
+  added_here : (before : Option (List ℕ)) → AddsToBlock old before p new after → (before ≡ None → old ≡ received_after table c b earlier) → IsAnsweredBy table c b earlier before
+      → IsAnsweredBy table c b (earlier ++ p ∷ []) after × (ContradictsReceived table c earlier p → ⊥)
+  added_here None add holds answered =
+      let is : with_received old p.id.esi p.payload ≡ received_after table c b (earlier ++ p ∷ []) = ap (λ h. with_received h p.id.esi p.payload) (holds refl) ∙ received_later table c earlier p in
+      let answers : IsBlockAnswer (received_after table c b (earlier ++ p ∷ [])) after = subst (λ h. IsBlockAnswer h after) is add.answers in (
+        ((answers.some, answers.none), λ _. first_now table c b earlier p after (λ can. absurd (cc (answered.0.1 can))) answers),
         λ x. contradictory-no_answer (with_received old p.id.esi p.payload) after add.answers (subst IsContradictory (sym is) x.contradictory),
       )
-  added_here (Some bytes) add holds answers = ((λ some. can_more table c b earlier p (answers.0 refl), λ can. ap is_some add.1), λ x. x.unanswered (answers.0 refl))
+  added_here (Some bytes) add holds answered = (
+    ((λ some. can_more table c b earlier p (answered.0.0 refl), λ can. ap is_some add.1), λ _. subst (IsFirstAnswer table c b (earlier ++ p ∷ [])) (sym add.1) (first_stays table c b earlier p (Some bytes) (answered.1 refl))),
+    λ x. x.unanswered (answered.0.0 refl),
+  )
 
 -- ---- all blocks
 
 module _ (table : List TableRow) (earlier : List Packet) (p : Packet) (old new : State) (follows : FollowsRun table earlier old) where
   -- what it makes of its block
-  added : p.id.block < old.configuration.source_blocks → Adds old p new → (IsSome (new.answer p.id.block) ↔ CanAnswer (received_after table old.configuration p.id.block (earlier ++ p ∷ []))) × (ContradictsReceived table old.configuration earlier p → ⊥)
+  added : p.id.block < old.configuration.source_blocks → Adds old p new → IsAnsweredBy table old.configuration p.id.block (earlier ++ p ∷ []) (new.answer p.id.block) × (ContradictsReceived table old.configuration earlier p → ⊥)
   added within add =
       let b = p.id.block in
-      added_here table old.configuration earlier p (old.received b) (new.received b) (new.answer b) (old.answer b) add.here (follows.received b within) (follows.answers b within)
+      added_here table old.configuration earlier p (old.received b) (new.received b) (new.answer b) (old.answer b) add.here (follows.received b within) (follows.answers b within, follows.first b within)
 
   -- a packet that is taken doesn't contradict what was received,
   pub taken_fits : p.id.block < old.configuration.source_blocks → Adds old p new → ContradictsReceived table old.configuration earlier p → ⊥
   taken_fits within add = (added within add).1
 
-  -- and is followed
+  -- and each block is answered so
+  answered_more : p.id.block < old.configuration.source_blocks → Adds old p new → (b : ℕ) → b < new.configuration.source_blocks → IsAnsweredBy table new.configuration b (earlier ++ p ∷ []) (new.answer b)
+  answered_more within add b below =
+      let c = old.configuration in
+      let in_old : b < c.source_blocks = subst (λ (k : Configuration). b < k.source_blocks) add.elsewhere.configuration below in
+      subst (λ (k : Configuration). IsAnsweredBy table k b (earlier ++ p ∷ []) (new.answer b)) (sym add.elsewhere.configuration)
+      (elim (cases_eq p.id.block b) [
+        | inl e ↦ subst (λ n. IsAnsweredBy table c n (earlier ++ p ∷ []) (new.answer n)) e (added within add).0
+        | inr ne ↦
+            let same : old.answer b ≡ new.answer b = sym (add.elsewhere.other b in_old (λ e. ne (sym e))).1 in
+            subst (IsAnsweredBy table c b (earlier ++ p ∷ [])) same (
+              subst (λ h. IsSome (old.answer b) ↔ CanAnswer h) (received_meanwhile table c b earlier p ne) (follows.answers b in_old),
+              λ some. first_stays table c b earlier p (old.answer b) (follows.first b in_old some),
+            )
+      ])
+
+  -- so they are followed
   pub follows_more : p.id.block < old.configuration.source_blocks → Adds old p new → FollowsRun table (earlier ++ p ∷ []) new
   follows_more within add = record {
     received = received_more old p new within add table earlier follows.received;
-    answers = λ b below.
-        let c = old.configuration in
-        let in_old : b < c.source_blocks = subst (λ (k : Configuration). b < k.source_blocks) add.elsewhere.configuration below in
-        subst (λ (k : Configuration). IsSome (new.answer b) ↔ CanAnswer (received_after table k b (earlier ++ p ∷ []))) (sym add.elsewhere.configuration)
-        (elim (cases_eq p.id.block b) [
-          | inl e ↦ subst (λ n. IsSome (new.answer n) ↔ CanAnswer (received_after table c n (earlier ++ p ∷ []))) e (added within add).0
-          | inr ne ↦
-              let q = add.elsewhere.other b in_old (λ e. ne (sym e)) in
-              subst (λ h. IsSome (new.answer b) ↔ CanAnswer h) (received_meanwhile table c b earlier p ne)
-              (subst (λ o. IsSome o ↔ CanAnswer (received_after table c b earlier)) (sym q.1) (follows.answers b in_old))
-        ]);
+    answers = λ b below. (answered_more within add b below).0;
+    first = λ b below. (answered_more within add b below).1;
   }
 
   contradicted : p.id.block < old.configuration.source_blocks → Contradicts old p new → ContradictsReceived table old.configuration earlier p
@@ -109,30 +113,33 @@ module _ (table : List TableRow) (earlier : List Packet) (p : Packet) (old new :
 -- ---- before any packet
 
 -- a block is answered then exactly where it has no symbols
-new_answers : (table : List TableRow) (c : Configuration) (b : ℕ) → block_symbols c b ≤ (block_row table c b).extended_symbols → IsSome (new_answer c b) ↔ CanAnswer (received_after table c b [])
-new_answers table c b fits = elim (cases_eq (block_symbols c b) 0) [
-  | inl none ↦ (
-    λ some. inl (record { each = λ e below. absurd (omega (arith, none)) }),
-    λ can. rw (eq-eqb (block_symbols c b) 0 none) refl,
-  )
+new_answers : (table : List TableRow) (c : Configuration) (b : ℕ) → IsReceivedOf table c b (new_received table c b) → IsAnsweredBy table c b [] (new_answer c b)
+new_answers table c b shape = elim (cases_eq (block_symbols c b) 0) [
+  | inl none ↦
+      let a : Some [] ≡ new_answer c b = sym (rw (eq-eqb (block_symbols c b) 0 none) refl) in
+      subst (IsAnsweredBy table c b []) a ((λ _. inl (record { each = λ e below. absurd (omega (arith, none)) }), λ _. refl), λ _. first_none table c b shape.checked none)
   | inr some ↦
-      let a : new_answer c b ≡ None = rw (ne_eqb (block_symbols c b) 0 some) refl in (
-        λ is. absurd (cc (ap is_some a, is)),
+      let a : None ≡ new_answer c b = sym (rw (ne_eqb (block_symbols c b) 0 some) refl) in
+      subst (IsAnsweredBy table c b []) a ((
+        λ is. absurd (cc is),
         λ can. absurd (elim can [
           | inl all ↦ let first : false ≡ true = all.each 0 (omega (arith, some)) in cc first
-          | inr d ↦ none_determined (block_row table c b) (block_symbols c b) (omega (arith, some)) fits d
+          | inr d ↦ none_determined (block_row table c b) (block_symbols c b) (omega (arith, some)) shape.fits d
         ]),
-      )
+      ), λ is. absurd (cc is))
 ]
 
 pub follows_no_packets : (table : List TableRow) (c : Configuration) (s : State) → ((b : ℕ) → b < c.source_blocks → IsReceivedOf table c b (new_received table c b)) → IsNewState table c s → FollowsRun table [] s
 follows_no_packets table c s shape new = record {
   received = received_none table c s new;
-  answers = λ b below.
+  answers = λ b below. (answered b below).0;
+  first = λ b below. (answered b below).1;
+} where
+  answered : (b : ℕ) → b < s.configuration.source_blocks → IsAnsweredBy table s.configuration b [] (s.answer b)
+  answered b below =
       let in_new : b < c.source_blocks = subst (λ (k : Configuration). b < k.source_blocks) new.configuration below in
-      subst (λ (k : Configuration). IsSome (s.answer b) ↔ CanAnswer (received_after table k b [])) (sym new.configuration)
-      (subst (λ o. IsSome o ↔ CanAnswer (received_after table c b [])) (sym (new.answer b in_new)) (new_answers table c b (shape b in_new).fits));
-}
+      subst (λ (k : Configuration). IsAnsweredBy table k b [] (s.answer b)) (sym new.configuration)
+      (subst (IsAnsweredBy table c b []) (sym (new.answer b in_new)) (new_answers table c b (shape b in_new)))
 
 -- ---- a list of packets
 

@@ -1,5 +1,5 @@
 -- What comes of a list of packets, each with the sparse threshold that is set before it.
-use Rattle.std.specs.Prelude.{◌≡◌, ◌↔◌, ◌⊎◌, ℕ, ◌<◌, List, [], ◌∷◌, ◌++◌, map, Result, Ok, Err, MatchResult, IsErr, IsSome}
+use Rattle.std.specs.Prelude.{◌≡◌, ◌⊎◌, ℕ, List, [], ◌∷◌, ◌++◌, map, Result, Ok, Err, MatchResult, IsErr}
 use Rattle.rq_bytes.specs.declared.error.Error.{Error}
 use Rattle.rq_bytes.specs.declared.error.Error.TheVariants.{OutOfMemory, Contradiction}
 use Rattle.rq_bytes.specs.Refusals.{IsRefusal}
@@ -10,7 +10,8 @@ use Rattle.rq_standard.specs.Headline.{IsHonestRun}
 use Rattle.rq_standard.specs.ReceivedBlock.{CanAnswer, IsContradictory}
 use Rattle.rq_standard.specs.Packet.{Packet}
 use Rattle.rq_standard.specs.DecoderState.{State}
-use Rattle.rq_standard.specs.DecoderSteps.{received_after, HasReceivedRun}
+use Rattle.rq_standard.specs.DecoderSteps.{received_after}
+use Rattle.rq_standard.specs.Following.{FollowsRun}
 use Rattle.rq_base.specs.RefusedInput.{checked_configuration}
 use Rattle.raptorq.specs.Refused.{packet_refusal}
 
@@ -39,12 +40,6 @@ IsNextRefusal table c earlier p (Err e) =
 abbrev pub AnswersNext : {X : Type 0} → List TableRow → Configuration → List Packet → Packet → Result X Error → Type 0
 AnswersNext table c earlier p (Ok x) = IsNextRefusal table c earlier p (Ok tt)
 AnswersNext table c earlier p (Err e) = (e ≡ OutOfMemory) ⊎ IsNextRefusal table c earlier p (Err e)
-
--- A decoder follows packets that were received: a block has an answer exactly where what was received of it can answer it, and of each
--- block without one all packets are recorded.
-pub record FollowsRun (table : List TableRow) (earlier : List Packet) (s : State) : Type 0 where
-  pub received : HasReceivedRun table earlier s
-  pub answers : (b : ℕ) → b < s.configuration.source_blocks → IsSome (s.answer b) ↔ CanAnswer (received_after table s.configuration b earlier)
 
 -- a decoder that followed a list follows it with a packet more
 abbrev pub FollowsMore : State → Packet → State → Type 0

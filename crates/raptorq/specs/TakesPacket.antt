@@ -8,7 +8,8 @@ use Rattle.rq_standard.specs.DecoderState.{State}
 use Rattle.rq_standard.specs.DecoderSteps.{Adds, Contradicts, IsBlockContradictory, KeepsContradictions, HasReceivedMore}
 use Rattle.rq_standard.specs.Standing.{IsHonestPacket, StandsForMore, AnswersLateBlock}
 use Rattle.raptorq.specs.Refused.{packet_refusal, IsPacketRefusal}
-use Rattle.raptorq.specs.Runs.{AnswersNext, FollowsRun, FollowsMore}
+use Rattle.rq_standard.specs.Following.{FollowsRun}
+use Rattle.raptorq.specs.Runs.{AnswersNext, FollowsMore}
 
 pub record TakesPacket {X : Type 0} (old : State) (packet : Packet) (result : Result X Error) (new : State) : Type 0 where
   -- a refusal is the tests', in their order, or comes where these refuse nothing

@@ -1,5 +1,5 @@
 //! Laws of packets, blocks and answers: each is the contract of a function that does nothing.
-ghost use Rattle.rq_standard.specs.PacketLaws.{IntermediateSymbolsAreOnly, SourcePacketsAreSymbols, AnswerableIsOnlyObject, MorePacketsDetermine, MorePacketsAreAnswerable, AnswersStay, SameIdsAreAnswerable, SameIdsAnswerTheSame, DeterminedByIdsAlone, ContradictionsStay, JoiningUndoesCutting, CuttingUndoesJoining};
+ghost use Rattle.rq_standard.specs.PacketLaws.{IntermediateSymbolsAreOnly, SourcePacketsAreSymbols, AnswerableIsOnlyObject, MorePacketsDetermine, MorePacketsAreAnswerable, AnswersStay, SameIdsAreAnswerable, SameIdsAnswerTheSame, AnswerIsOne, DeterminedByIdsAlone, ContradictionsStay, JoiningUndoesCutting, CuttingUndoesJoining};
 ghost use Rattle.raptorq.specs.Laws.{FirstRefusalIsOne, AnsweredPartsMakeObject};
 
 /// A block has no more than one column of intermediate symbols where its row isn't singular: any two
@@ -50,6 +50,12 @@ pub fn contradictions()
 /// [`decode_all`](crate::decoder::decode_all) refuses but for want of memory.
 pub fn first_refusals()
     ensures { FirstRefusalIsOne }
+{}
+
+/// Over any packets, whoever sent them, a run has one answer at most: what
+/// [`decode_all`](crate::decoder::decode_all) answers where nothing is refused.
+pub fn answers()
+    ensures { AnswerIsOne }
 {}
 
 /// Cutting a block of K symbols into sub-blocks and symbols loses nothing: joining its symbols by

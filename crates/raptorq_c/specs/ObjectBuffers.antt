@@ -9,6 +9,7 @@ use Rattle.rq_standard.specs.declared.row.TableRow.{TableRow}
 use Rattle.rq_standard.specs.Packet.{Packet, packet_of_bytes}
 use Rattle.rq_standard.specs.Streams.{frame_size, frames_in}
 use Rattle.rq_base.specs.RefusedInput.{read_packet}
+use Rattle.rq_standard.specs.Following.{IsAnswerAfter}
 use Rattle.raptorq.specs.Runs.{IsRunRefusal}
 use Rattle.raptorq_c.specs.declared.rows.Row.{Row}
 use Rattle.raptorq_c.specs.FurtherRows.{table_of, HoldsOver}
@@ -51,6 +52,12 @@ pub record Answered (number : ℕ) (before after : List ℕ) (P : Option (List �
   pub no_room : number ≡ 24 → (object : List ℕ) × P (Some object) × (length object ≢ length before)
   pub incomplete : number ≡ 25 → P None
 
+-- what is answered of packets in a buffer, whoever sent them
+abbrev pub AnswersAnyPackets : List Row → List ℕ → List ℕ → Option (List ℕ) → Type 0
+AnswersAnyPackets rows header bytes answer =
+    let c = configuration_of_bytes header in
+    HoldsOver rows (λ table. IsAnswerAfter table c (packets_in c bytes) answer)
+
 -- the object of packets in a buffer, exactly where they determine it
 abbrev pub AnswersPackets : List Row → List ℕ → List ℕ → Option (List ℕ) → Type 0
 AnswersPackets rows header bytes answer =
@@ -66,6 +73,7 @@ AnswersWhereOthersCan rows header bytes answer =
 -- What a call answers and does to a buffer: it is filled with the object of packets (0), or is as it was.
 pub record FillsWithObject (rows : List Row) (header bytes : List ℕ) (answer : ℕ) (before after : List ℕ) : Type 0 where
   pub refused : IsDecoded answer rows header bytes
+  pub answered : Answered answer before after (AnswersAnyPackets rows header bytes)
   pub headline : Answered answer before after (AnswersPackets rows header bytes)
   pub only_object : Answered answer before after (AnswersWhereOthersCan rows header bytes)
   pub kept : answer ≢ 0 → after ≡ before

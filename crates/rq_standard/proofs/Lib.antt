@@ -4,6 +4,7 @@ pub mod BlockRows
 pub mod Columns
 pub mod Contradictions
 pub mod DifferenceColumns
+pub mod FirstAnswers
 pub mod FirstOctets
 pub mod Firsts
 pub mod FrameLaws
@@ -15,6 +16,7 @@ pub mod KnownIds
 pub mod LeastNumbers
 pub mod MorePackets
 pub mod ObjectAnswers
+pub mod OneAnswer
 pub mod OneObject
 pub mod OptionValues
 pub mod OtherObjects

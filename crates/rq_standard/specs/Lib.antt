@@ -7,6 +7,7 @@ pub mod DecoderState
 pub mod DecoderSteps
 pub mod Differences
 pub mod Equations
+pub mod Following
 pub mod Headline
 pub mod ReceivedBlock
 pub mod IdLists

@@ -8,6 +8,7 @@ use Rattle.rq_standard.specs.Joining.{symbols_of_block, joined_block}
 use Rattle.rq_standard.specs.Packet.{Packet}
 use Rattle.rq_standard.specs.Received.{has_id}
 use Rattle.rq_standard.specs.ReceivedBlock.{ReceivedBlock, has_received, with_received, ReceivedDetermine, IsContradictory}
+use Rattle.rq_standard.specs.Following.{IsAnswerAfter}
 use Rattle.rq_standard.specs.SameIds.{HasIdsOf, HaveSameIds}
 use Rattle.rq_standard.specs.Headline.{IsNonsingular, DetermineBlock, IsIntermediateColumn, IsOnlyIntermediateColumn, IsPacketOf, IsHonestRun, IsAnswerable, IsOnlyObject, AnswersExactly}
 
@@ -68,6 +69,14 @@ SameIdsAnswerTheSame =
     → IsHonestRun table c object one → IsHonestRun table c object other → HaveSameIds one other
     → AnswersExactly table c one answer → AnswersExactly table c other again
     → answer ≡ again
+
+-- ---- whoever sent the packets
+
+-- Of any packets there is one answer at most.
+abbrev pub AnswerIsOne : Type 0
+AnswerIsOne =
+    (table : List TableRow) (c : Configuration) (packets : List Packet) (one other : Option (List ℕ))
+    → IsAligned c → IsAnswerAfter table c packets one → IsAnswerAfter table c packets other → one ≡ other
 
 -- ---- contradictions
 

@@ -21,7 +21,7 @@ use Rattle.rq_streams.specs.declared.run.Stop.{Stop}
 use Rattle.rq_streams.specs.Frames.{skipped_in, packets_in_bytes, skipped_in_bytes}
 use Rattle.rq_streams.specs.MixedStreams.{Frame, packets_among, other_count, IsMixedStream}
 use Rattle.rq_streams.specs.declared.run.Stop.TheVariants.{Refused}
-use Rattle.rq_streams.specs.ReceivedStreams.{header_configuration, IsWantedOf, WantsWhere, AnswersStream, RefusesStream, RefusesFirst, ReceivesExactly, ReceivesWhereAnyCan, CountsOthers}
+use Rattle.rq_streams.specs.ReceivedStreams.{header_configuration, WantsWhere, AnswersStream, RefusesStream, ReceivesExactly, ReceivesWhereAnyCan, CountsOthers}
 use Rattle.rq_streams.specs.Ends.{Wanted, Ends, EndsAs, outcome_of}
 use Rattle.rq_streams.proofs.Skipping.{FillsFrame, kept_packets-mixed, skipped_count-mixed}
 
@@ -109,8 +109,8 @@ module _ (table : List TableRow) (input : Option (List ℕ)) (read bytes : List 
       wants_by table c object frames rest xs s answer (outcome_of result) old new (answers c object frames rest (mixed_before c object frames rest xs is s)) ends)
 
   -- what is wanted, where it ends so
-  pub receives_wanted : (result : Result (Outcome × ℕ) Stop) (old new : Option (List ℕ)) → EndsAs (outcome_of result) old new (IsWantedOf table bytes) → RefusesFirst table result input old new
-  receives_wanted result old new ends = IfSome_then input all (λ xs is. subst (λ ys. EndsAs (outcome_of result) old new (IsWantedOf table ys)) (same ∙ is) ends)
+  pub receives_wanted : (IsWanted : List ℕ → Wanted → Type 0) (result : Result (Outcome × ℕ) Stop) (old new : Option (List ℕ)) → EndsAs (outcome_of result) old new (IsWanted bytes) → IfSome input (λ xs. EndsAs (outcome_of result) old new (IsWanted xs))
+  receives_wanted IsWanted result old new ends = IfSome_then input all (λ xs is. subst (λ ys. EndsAs (outcome_of result) old new (IsWanted ys)) (same ∙ is) ends)
 
   -- a refusal for want of memory, and then nothing is written
   pub receives_refused : (e : Error) (old : Option (List ℕ)) → RefusesStream table bytes e → ReceivesExactly table (Err (Refused e)) input old old

@@ -9,13 +9,14 @@ use Rattle.rq_standard.specs.DecoderState.{State}
 use Rattle.rq_standard.specs.Standing.{StandsFor, IsHonestPacket}
 use Rattle.rq_bytes.specs.declared.error.Error.{Error}
 use Rattle.rq_bytes.specs.declared.error.Error.TheVariants.{Contradiction}
-use Rattle.raptorq.specs.Runs.{IsNextRefusal, IsRefusalBehind, FollowsRun}
+use Rattle.rq_standard.specs.Following.{FollowsRun}
+use Rattle.raptorq.specs.Runs.{IsNextRefusal, IsRefusalBehind}
 use Rattle.raptorq.specs.TakesPacket.{TakesPacket}
 use Rattle.raptorq.proofs.FollowedRuns.{one_passes, one_stops}
 use Rattle.raptorq.proofs.Lists.{all_at}
 use Rattle.rq_standard.specs.Streams.{frame_size, frames_in}
 use Rattle.rq_streams.specs.Frames.{is_skipped, kept_packet, kept_packets, skipped_count, packets_in_bytes, skipped_in_bytes}
-use Rattle.rq_streams.specs.ReceivedStreams.{StandsForFrames, IsFramesRefusal}
+use Rattle.rq_streams.specs.ReceivedStreams.{StandsForFrames, FollowsFrames, IsFramesRefusal}
 use Rattle.rq_standard.proofs.FrameLaws.{frames_in-next, frames_in-none}
 use Rattle.rq_streams.proofs.Skipping.{skipped_count-cons}
 
@@ -120,6 +121,9 @@ module _ (c : Configuration) (bytes left : List ℕ) (skipped : ℕ) (old now : 
 
   pub taken_all : StandsForFrames c old bytes now
   taken_all table object st honest = subst (λ ps. StandsFor table object ps now) (sym all_done) (t.stands table object st honest)
+
+  pub taken_follows : FollowsFrames c old bytes now
+  taken_follows table none = subst (λ ps. FollowsRun table ps now) (sym all_done) (t.follows table none)
 
   -- nothing was refused
   pub taken_passed : IsFramesRefusal c old bytes (Ok tt)

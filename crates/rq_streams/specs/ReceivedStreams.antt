@@ -1,5 +1,5 @@
 -- What a receiver refuses and skips of any bytes, and what it answers over a mixed stream of an object's packets.
-use Rattle.std.specs.Prelude.{◌≡◌, ℕ, List, [], length, Option, Result, Ok, Err, MatchResult, Some, None, IfSome, IfOk, unwrap_or, if◌then◌else◌, nat_lt, ◌⊎◌}
+use Rattle.std.specs.Prelude.{◌≡◌, ℕ, List, [], length, Option, Result, Ok, Err, MatchResult, Some, None, IfSome, IfOk, IsOkAnd, unwrap_or, if◌then◌else◌, nat_lt, ◌⊎◌}
 use Rattle.std.specs.List.{AllByRecursion}
 use Rattle.rq_bytes.specs.declared.error.Error.{Error}
 use Rattle.rq_bytes.specs.declared.error.Error.TheVariants.{HeaderTooShort, OutOfMemory}
@@ -12,7 +12,8 @@ use Rattle.rq_standard.specs.Standing.{StandsFor}
 use Rattle.rq_standard.specs.Streams.{stream_of}
 use Rattle.raptorq.specs.declared.decoder.object.Decoder.{Decoder}
 use Rattle.raptorq.specs.Decoder.{state_of}
-use Rattle.raptorq.specs.Runs.{IsRefusalBehind, IsRunRefusal, FollowsRun}
+use Rattle.rq_standard.specs.Following.{FollowsRun, IsAnswerAfter}
+use Rattle.raptorq.specs.Runs.{IsRefusalBehind, IsRunRefusal}
 use Rattle.rq_streams.specs.declared.run.Outcome.{Outcome}
 use Rattle.rq_streams.specs.declared.run.Stop.{Stop}
 use Rattle.rq_streams.specs.Ends.{Wanted, Ends, EndsAs, outcome_of}
@@ -33,6 +34,14 @@ abbrev pub IsWantedOf : List TableRow → List ℕ → Wanted → Type 0
 IsWantedOf table bytes (Ok answer) = IsStreamRefusal table bytes (Ok tt)
 IsWantedOf table bytes (Err e) = IsStreamRefusal table bytes (Err e)
 
+-- what is answered of a stream, whoever sent it: what is of the packets of frames that aren't skipped
+abbrev pub IsStreamAnswer : List TableRow → List ℕ → Option (List ℕ) → Type 0
+IsStreamAnswer table bytes answer = IsOkAnd (header_configuration bytes) (λ c. IsAnswerAfter table c (packets_in_bytes c (bytes_of_frames bytes)) answer)
+
+-- that is wanted, where nothing is refused
+abbrev pub IsWantedAnswer : List TableRow → List ℕ → Wanted → Type 0
+IsWantedAnswer table bytes wanted = IfOk wanted (IsStreamAnswer table bytes)
+
 -- the bytes are a stream of packets of the object
 pub record IsStreamOf (table : List TableRow) (c : Configuration) (object : List ℕ) (packets : List Packet) (bytes : List ℕ) : Type 0 where
   pub stream_run : IsStreamRun table c object packets
@@ -49,6 +58,10 @@ StandsForFrames c old bytes new =
     → let packets = packets_in_bytes c bytes in
     StandsFor table object [] old → AllByRecursion (IsPacketOf table c object) packets
     → StandsFor table object packets new
+
+-- a decoder that followed no packets follows those of the frames that aren't skipped
+abbrev pub FollowsFrames : Configuration → State → List ℕ → State → Type 0
+FollowsFrames c old bytes new = (table : List TableRow) → FollowsRun table [] old → FollowsRun table (packets_in_bytes c bytes) new
 
 -- the first refusal of the packets of frames that aren't skipped, by a decoder that followed no packets
 abbrev pub IsFramesRefusal : Configuration → State → List ℕ → Result (Unit {0}) Error → Type 0
@@ -85,6 +98,10 @@ pub record WantsWhere (Fact : Type 0) (object : List ℕ) (P : Wanted → Type 0
 -- Whatever it reads, it refuses the stream's first refusal, and then nothing is written; where nothing is refused, it ends with an answer.
 abbrev pub RefusesFirst : List TableRow → Result (Outcome × ℕ) Stop → Option (List ℕ) → Option (List ℕ) → Option (List ℕ) → Type 0
 RefusesFirst table result input before after = IfSome input (λ bytes. EndsAs (outcome_of result) before after (IsWantedOf table bytes))
+
+-- Whatever it reads, it writes what is answered of it where nothing is refused, and nothing exactly where there is no answer.
+abbrev pub ReceivesAnswer : List TableRow → Result (Outcome × ℕ) Stop → Option (List ℕ) → Option (List ℕ) → Option (List ℕ) → Type 0
+ReceivesAnswer table result input before after = IfSome input (λ bytes. EndsAs (outcome_of result) before after (IsWantedAnswer table bytes))
 
 -- Whatever it reads, it answers how many frames are skipped.
 abbrev pub CountsSkipped : Result (Outcome × ℕ) Stop → Option (List ℕ) → Type 0

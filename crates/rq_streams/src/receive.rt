@@ -7,7 +7,7 @@ ghost use Rattle.rq_standard.specs.Streams.{frame_size};
 ghost use Rattle.rq_standard.specs.DecoderState.{result_of};
 ghost use Rattle.rq_streams.specs.Ends.{AnswersAs, Ends, EndsAtFailure, failed_calls};
 ghost use Rattle.rq_streams.specs.Frames.{header_length, kept_packet, skipped_in, skipped_in_bytes};
-ghost use Rattle.rq_streams.specs.ReceivedStreams.{header_configuration, object_of, StandsForFrames, AnswersFrames, StopsHonestFrames, IsWantedOf, AnswersStream, RefusesStream, RefusesFirst, CountsSkipped, ReceivesExactly, ReceivesWhereAnyCan, CountsOthers};
+ghost use Rattle.rq_streams.specs.ReceivedStreams.{header_configuration, object_of, StandsForFrames, FollowsFrames, AnswersFrames, StopsHonestFrames, IsStreamAnswer, IsWantedOf, AnswersStream, RefusesStream, RefusesFirst, ReceivesAnswer, CountsSkipped, ReceivesExactly, ReceivesWhereAnyCan, CountsOthers};
 
 use crate::counted::Counted;
 use crate::run::{Outcome, Stop, flush, read_all, write_bytes};
@@ -63,6 +63,7 @@ fn add_frames(
     ensures refused { AnswersFrames config.now (state_of decoder.old) frames.now result }
     ensures honest { IfErr result (StopsHonestFrames config.now (state_of decoder.old) frames.now) }
     ensures configuration { (state_of decoder.new).configuration ≡ (state_of decoder.old).configuration }
+    ensures follows { OnOk result (FollowsFrames config.now (state_of decoder.old) frames.now (state_of decoder.new)) }
     ensures stands { OnOk result (StandsForFrames config.now (state_of decoder.old) frames.now (state_of decoder.new)) }
 {
     let size = config.frame_size();
@@ -79,6 +80,7 @@ fn add_frames(
 // The decoder that took the packets of a stream, and how many frames are skipped.
 fn received(alloc: Global, table: &SystematicTable, bytes: Vec<u8>) -> Result<(Decoder, u64), Error>
     ensures refused { AnswersAs (λ r. result_of (state_of r.0)) result (IsWantedOf table.now bytes.items) }
+    ensures follows { IfOk result (λ r. IsStreamAnswer table.now bytes.items (result_of (state_of r.0))) }
     ensures answer { IfOk result (λ r. AnswersStream table.now bytes.items (result_of (state_of r.0))) }
     ensures memory { IfErr result (RefusesStream table.now bytes.items) }
     ensures skipped { IfOk result (λ r. r.1 ≡ skipped_in bytes.items) }
@@ -159,6 +161,11 @@ pub fn run_receive<R: Read, W: Write>(
     // Whatever is read, its first refusal is refused, that of its packets that contradict each other
     // among it, and then nothing is written.
     ensures refused { RefusesFirst table.now result
+        (R.remaining (inner reader.old)) (W.contents (inner writer.old)) (W.contents (inner writer.new)) }
+
+    // Whatever is read, where nothing is refused what its packets answer is written, and nothing
+    // exactly where they have no answer.
+    ensures answer { ReceivesAnswer table.now result
         (R.remaining (inner reader.old)) (W.contents (inner writer.old)) (W.contents (inner writer.new)) }
 
     // Whatever is read, the frames that can't be used are counted.

@@ -6,7 +6,8 @@ ghost use Rattle.rq_bytes.specs.Refusals.{IsAnswer};
 ghost use Rattle.rq_standard.specs.Configuration.{IsAccepted, IsAligned, largest_block, total_symbols};
 ghost use Rattle.rq_standard.specs.Cutting.{block_symbols};
 ghost use Rattle.rq_standard.specs.Headline.{AnswersExactly, AnswersWhereAnyCan};
-ghost use Rattle.raptorq.specs.Runs.{packets_of, AnswersRun, RefusesConfiguration, FollowsRun};
+ghost use Rattle.rq_standard.specs.Following.{FollowsRun, IsAnswerAfter};
+ghost use Rattle.raptorq.specs.Runs.{packets_of, AnswersRun, RefusesConfiguration};
 ghost use Rattle.rq_standard.specs.TableRows.{greatest_size};
 ghost use Rattle.rq_base.specs.RefusedInput.{checked_configuration};
 ghost use Rattle.raptorq.specs.SourceBlockDecoder.{received_of};
@@ -417,6 +418,7 @@ pub fn decode_all(
     steps: Vec<(u32, EncodingPacket)>,
 ) -> Result<Option<Vec<u8>>, Error>
     ensures in_order { AnswersRun table.now config (packets_of steps.items) result }
+    ensures answer { IfOk result (λ r. IsAnswerAfter table.now config (packets_of steps.items) (option_map vec_items r)) }
     ensures refused { IfErr result (RefusesConfiguration table.now config (packets_of steps.items)) }
     ensures headline { IfOk result (λ r. AnswersExactly table.now config (packets_of steps.items) (option_map vec_items r)) }
     ensures only_object { IfOk result (λ r. AnswersWhereAnyCan table.now config (packets_of steps.items) (option_map vec_items r)) }

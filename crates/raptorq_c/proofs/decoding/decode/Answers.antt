@@ -8,10 +8,11 @@ use Rattle.rq_standard.specs.Configuration.{Configuration, configuration_of_byte
 use Rattle.rq_standard.specs.Headline.{AnswersExactly, AnswersWhereAnyCan}
 use Rattle.rq_standard.specs.Packet.{Packet, packet_of_bytes}
 use Rattle.rq_standard.specs.Streams.{frame_size, frames_in}
+use Rattle.rq_standard.specs.Following.{IsAnswerAfter}
 use Rattle.raptorq.specs.Runs.{packets_of, IsRunRefusal, AnswersRun}
 use Rattle.raptorq_c.specs.declared.rows.Row.{Row}
 use Rattle.raptorq_c.specs.FurtherRows.{HoldsOver, table_of}
-use Rattle.raptorq_c.specs.ObjectBuffers.{Answered, AnswersPackets, AnswersWhereOthersCan, FillsWithObject, IsDecoded, frames_refusal, packets_in}
+use Rattle.raptorq_c.specs.ObjectBuffers.{Answered, AnswersAnyPackets, AnswersPackets, AnswersWhereOthersCan, FillsWithObject, IsDecoded, frames_refusal, packets_in}
 use Rattle.raptorq_c.specs.Numbers.{number_of}
 use Rattle.raptorq_c.proofs.Ending.{is_stopped}
 use Rattle.raptorq_c.proofs.HandleAnswers.{answered_by, unanswered, refused_row, refused_frames, refused_run, filled_run}
@@ -54,6 +55,7 @@ module _ (c : In_ok-answer) where
 refused_with : (rows : List Row) (header bytes buffer : List ℕ) (e : Error) → IsDecoded (code_of e) rows header bytes → FillsWithObject rows header bytes (code_of e) buffer buffer
 refused_with rows header bytes buffer e refused = record {
   refused = refused;
+  answered = unanswered e buffer buffer (AnswersAnyPackets rows header bytes);
   headline = unanswered e buffer buffer (AnswersPackets rows header bytes);
   only_object = unanswered e buffer buffer (AnswersWhereOthersCan rows header bytes);
   kept = λ _. refl;
@@ -96,6 +98,7 @@ returns c =
     let passed = subst (λ d. IsRunRefusal table d (packets_of c.in_ok-steps.steps.items) (Ok tt)) c.deserialize-config.ensures c.in_ok-answer.ensures.in_order in
     record {
       refused = filled_run c.args.rows.now table c.args.configuration.now c.args.packets.now c.in_ok-table.ensures number (spelled read) (subst (λ ps. IsRunRefusal table k ps (Ok tt)) (came read) passed) (inr c.fill_answer.ensures.number);
+      answered = filled at IsAnswerAfter c.in_ok-answer.ensures.answer number after c.fill_answer.ensures.answered;
       headline = filled at AnswersExactly c.in_ok-answer.ensures.headline number after c.fill_answer.ensures.answered;
       only_object = filled at AnswersWhereAnyCan c.in_ok-answer.ensures.only_object number after c.fill_answer.ensures.answered;
       kept = is_stopped c.fill_answer.result (after ≡ c.args.object.now) c.fill_answer.ensures.kept;

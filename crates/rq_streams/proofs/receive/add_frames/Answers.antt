@@ -5,7 +5,7 @@ use Rattle.raptorq.specs.Refused.{packet_refusal, IsPacketRefusal}
 use Rattle.rq_standard.specs.Streams.{frame_size}
 use Rattle.rq_streams.specs.Frames.{kept_packet}
 use Rattle.rq_streams.proofs.Skipping.{packet_refusal-kept}
-use Rattle.rq_streams.proofs.TakenFrames.{taken_packet, taken_skipped, taken_count, taken_all, taken_passed, honest_packet, contradicts_frames}
+use Rattle.rq_streams.proofs.TakenFrames.{taken_packet, taken_skipped, taken_count, taken_all, taken_follows, taken_passed, honest_packet, contradicts_frames}
 use Rattle.rq_streams.proofs.receive.add_frames.Goals as goal
 use Rattle.rq_streams.proofs.receive.add_frames.Goals.{In-Some-2}
 
@@ -70,6 +70,9 @@ returns-clause-skipped c = taken_count _ _ _ _ _ _ c.in-None.ensures.steps.1.0 c
 
 pub returns-clause-stands : goal.returns-clause-stands
 returns-clause-stands c = taken_all _ _ _ _ _ _ c.in-None.ensures.steps.1.0 c.loop-frame.invariant.taken
+
+pub returns-clause-follows : goal.returns-clause-follows
+returns-clause-follows c = taken_follows _ _ _ _ _ _ c.in-None.ensures.steps.1.0 c.loop-frame.invariant.taken
 
 pub returns-in_err-packet-clause-refused : goal.returns-in_err-packet-clause-refused
 returns-in_err-packet-clause-refused c =

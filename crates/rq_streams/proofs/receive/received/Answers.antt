@@ -1,4 +1,5 @@
 use Rattle.std.proofs.Common.{◌≡◌, ◌-◌, [], take, drop, length, sym, ap, ◌∙◌, subst, refl, ℕ, false, List, Result, Ok, Err, inl, inr}
+use Rattle.std.specs.Prelude.{IsOkAnd}
 use Rattle.std.specs.List.{AllByRecursion}
 use Rattle.std.proofs.lemmas.List.{take_rest}
 use Rattle.std.proofs.lemmas.Result.{err_from_is_err_and}
@@ -14,10 +15,11 @@ use Rattle.rq_streams.specs.Frames.{packets_in_bytes}
 use Rattle.rq_standard.specs.Configuration.{Configuration}
 use Rattle.rq_standard.specs.Packet.{Packet}
 use Rattle.rq_bytes.specs.declared.error.Error.{Error}
+use Rattle.rq_standard.specs.Following.{FollowsRun, IsAnswerAfter}
 use Rattle.raptorq.specs.Runs.{IsRunRefusal}
 use Rattle.raptorq.proofs.FollowedRuns.{run_behind, run_unmade}
 use Rattle.rq_streams.specs.MixedStreams.{Frame, IsMixedStream, packets_among}
-use Rattle.rq_streams.specs.ReceivedStreams.{RefusesStream, AnswersStream, IsStreamRefusal, IsFramesRefusal}
+use Rattle.rq_streams.specs.ReceivedStreams.{RefusesStream, AnswersStream, IsStreamRefusal, IsStreamAnswer, IsFramesRefusal}
 use Rattle.rq_streams.proofs.Refusing.{refused_run, refused_header}
 use Rattle.rq_streams.proofs.Streaming.{accepted_unrefused, stream_header, stream_packets, same_header}
 use Rattle.rq_streams.proofs.receive.received.Goals as goal
@@ -115,6 +117,21 @@ returns-in_err-skipped-clause-refused c =
 pub returns-clause-refused : goal.returns-clause-refused
 returns-clause-refused c =
     subst (λ read. IsStreamRefusal c.args.table.now read (Ok tt)) c.as_slice-stream.ensures.value (of_frames (goal.at.returns-clause-refused c).In_ok-decoder (Ok tt) c.in_ok-skipped.ensures.refused)
+
+pub returns-clause-follows : goal.returns-clause-follows
+returns-clause-follows c =
+    let at = (goal.at.returns-clause-follows c).In_ok-decoder in
+    let table = c.args.table.now in
+    let state = state_of c.add_frames.new.decoder in
+    let here = bytes at in
+    let of : List ℕ → List Packet = packets_in_bytes (config at) in
+    subst (λ read. IsStreamAnswer table read (result_of state)) c.as_slice-stream.ensures.value
+    (subst (λ header. IsOkAnd header (λ k. IsAnswerAfter table k (packets_in_bytes k (drop 12 here)) (result_of state))) c.in_ok-config.ensures.value (record {
+      state = state;
+      configuration = c.in_ok-skipped.ensures.configuration ∙ c.in_ok-decoder.ensures.state.configuration;
+      follows = subst (λ xs. FollowsRun table (of xs) state) (take_rest here 12) (c.in_ok-skipped.ensures.follows table c.in_ok-decoder.ensures.follows);
+      value = refl;
+    }))
 
 pub returns-clause-answer : goal.returns-clause-answer
 returns-clause-answer c =

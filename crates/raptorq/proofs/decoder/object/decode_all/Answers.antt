@@ -7,7 +7,8 @@ use Rattle.rq_bytes.specs.Refusals.{IsRefusal}
 use Rattle.rq_standard.specs.Headline.{IsHonestRun}
 use Rattle.rq_standard.specs.Standing.{StandsFor}
 use Rattle.raptorq.specs.Decoder.{state_of}
-use Rattle.raptorq.specs.Runs.{packets_of, IsNextRefusal, IsRefusalBehind, FollowsRun}
+use Rattle.rq_standard.specs.Following.{FollowsRun}
+use Rattle.raptorq.specs.Runs.{packets_of, IsNextRefusal, IsRefusalBehind}
 use Rattle.raptorq.proofs.FollowedRuns.{one_passes, run_unmade, run_answers, run_stops}
 use Rattle.raptorq.proofs.Lists.{next_whole, done_is_all, step_honest, packets_of-push, answers_exactly, answers_where_any_can}
 use Rattle.raptorq.proofs.decoder.object.decode_all.Goals as goal
@@ -75,10 +76,19 @@ module _ (c : In-None) where
   none : into_iter_items c.loop-step.step-iterator ≡ []
   none = nil_from_length (into_iter_items c.loop-step.step-iterator) (omega (arith, c.in-None.ensures.steps.0))
 
+  all : packets_of c.loop-step.yielded ≡ packets_of c.args.steps.items
+  all = ap packets_of (done_is_all c.args.steps.items c.loop-step.yielded (into_iter_items c.loop-step.step-iterator) c.loop-step.invariant.whole none)
+
+  follows_all : FollowsRun c.args.table.now (packets_of c.args.steps.items) (state_of c.loop-step.decoder)
+  follows_all = subst (λ ps. FollowsRun c.args.table.now ps (state_of c.loop-step.decoder)) all c.loop-step.invariant.follows
+
   stands_for_all : (object : List ℕ) → IsHonestRun c.args.table.now c.args.config object (packets_of c.args.steps.items) → StandsFor c.args.table.now object (packets_of c.args.steps.items) (state_of c.loop-step.decoder)
-  stands_for_all object run =
-      let all = ap packets_of (done_is_all c.args.steps.items c.loop-step.yielded (into_iter_items c.loop-step.step-iterator) c.loop-step.invariant.whole none) in
-      subst (λ ps. StandsFor c.args.table.now object ps (state_of c.loop-step.decoder)) all (c.loop-step.invariant.stands object run)
+  stands_for_all object run = subst (λ ps. StandsFor c.args.table.now object ps (state_of c.loop-step.decoder)) all (c.loop-step.invariant.stands object run)
+
+pub returns-clause-answer : goal.returns-clause-answer
+returns-clause-answer c =
+    let followed = c.loop-step.invariant in
+    IfOk-weaker c.get_result.result _ _ (λ r is. record { state = state_of c.loop-step.decoder; configuration = followed.configuration; follows = follows_all (goal.at.returns-clause-answer c).In-None; value = is.value }) c.get_result.ensures.answer
 
 pub returns-clause-headline : goal.returns-clause-headline
 returns-clause-headline c =
@@ -111,5 +121,5 @@ pub returns-clause-in_order : goal.returns-clause-in_order
 returns-clause-in_order c =
     let table = c.args.table.now in
     let k = c.args.config in
-    let all = ap packets_of (done_is_all c.args.steps.items c.loop-step.yielded (into_iter_items c.loop-step.step-iterator) c.loop-step.invariant.whole (none (goal.at.returns-clause-in_order c).In-None)) in
-    run_answers table k (packets_of c.args.steps.items) c.in_ok-decoder.ensures.refused c.get_result.result (subst (λ ps. IsRefusalBehind table k [] ps (Ok tt)) all c.loop-step.invariant.passed) c.get_result.ensures.memory
+    let behind = subst (λ ps. IsRefusalBehind table k [] ps (Ok tt)) (all (goal.at.returns-clause-in_order c).In-None) c.loop-step.invariant.passed in
+    run_answers table k (packets_of c.args.steps.items) c.in_ok-decoder.ensures.refused c.get_result.result behind c.get_result.ensures.memory

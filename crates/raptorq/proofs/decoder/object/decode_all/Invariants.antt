@@ -3,7 +3,8 @@ use Rattle.std.specs.Vec.Iter.{into_iter_items}
 use Rattle.rq_standard.specs.Headline.{IsHonestRun}
 use Rattle.rq_standard.specs.Standing.{StandsFor}
 use Rattle.raptorq.specs.Decoder.{state_of}
-use Rattle.raptorq.specs.Runs.{packets_of, IsRefusalBehind, FollowsRun}
+use Rattle.rq_standard.specs.Following.{FollowsRun}
+use Rattle.raptorq.specs.Runs.{packets_of, IsRefusalBehind}
 use Rattle.raptorq.proofs.decoder.object.decode_all.Given as goal
 
 -- nothing is refused of the packets so far, and the decoder follows them and stands for them
