@@ -18,7 +18,8 @@ use Rattle.rq_standard.specs.DecoderState.{State, new_received, new_answer, IsNe
 use Rattle.rq_standard.specs.DecoderSteps.{AddsToBlock, RecordsInBlock, IsSameElsewhere, Adds, RecordsOnly}
 use Rattle.rq_standard.proofs.ObjectAnswers.{joined_some, joined_each}
 use Rattle.rq_standard.proofs.OptionValues.{is_some-mapped}
-use Rattle.raptorq.specs.SourceBlockDecoder.{received_of}
+use Rattle.raptorq.specs.SourceBlockDecoder.{received_of, solving_of}
+use Rattle.raptorq.specs.declared.decoder.last_outcome.LastOutcome.TheVariants.{Untried}
 use Rattle.raptorq.specs.Decoder.{received_at, answer_at, answer_of, IsBlockAt}
 use Rattle.raptorq.specs.Refused.{block_refusal}
 use Rattle.raptorq.specs.Stopping.{AddsHereOrStops, AddsOrStops}
@@ -47,6 +48,12 @@ answer_here items i x below is = get_or-map answer_of items i x None below ∙ a
 -- what is said of it is said of the state
 said_here : (c : Configuration) (items : List ObjectBlock) (i : ℕ) (x : ObjectBlock) → i < length items → x ≡ get_or items i x → (P : ReceivedBlock → Option (List ℕ) → Type 0) → P (received_of x.decoder) (answer_of x) → P (received_at c items i) (answer_at items i)
 said_here c items i x below is P so = subst (λ h. P h (answer_at items i)) (sym (received_here c items i x below is)) (subst (P (received_of x.decoder)) (sym (answer_here items i x below is)) so)
+
+-- how it is solved, where it is found
+pub found_solving : (items : List ObjectBlock) (n : ℕ) (found : Option (Bor ObjectBlock)) → is_some found ≡ ltb n (length items) → IfSome found (λ x. x.now ≡ get_or items n x.now)
+    → IfSome (option_copied found) (λ b. solving_of b.decoder ≡ get_or (map (λ x. solving_of x.decoder) items) n (record { sparse_threshold = 0; last_outcome = Untried }))
+found_solving items n None none is = tt
+found_solving items n (Some x) some is = sym (get_or-map (λ b. solving_of b.decoder) items n x.now _ (ltb-true n (length items) (sym some)) ∙ ap (λ b. solving_of b.decoder) (sym is))
 
 -- the block of a number is found, exactly where the object has it
 pub block_found : (c : Configuration) (items : List ObjectBlock) (n : ℕ) (found : Option (Bor ObjectBlock)) → map block_number items ≡ range_with_len 0 c.source_blocks

@@ -7,7 +7,9 @@ use Rattle.rq_standard.specs.DecoderState.{State, result_of}
 use Rattle.rq_standard.specs.Standing.{AnswersObject, AnswersNothingElse, AnswersOnlyObject}
 use Rattle.raptorq.specs.declared.decoder.object.ObjectBlock.{ObjectBlock}
 use Rattle.raptorq.specs.declared.decoder.object.Decoder.{Decoder}
-use Rattle.raptorq.specs.SourceBlockDecoder.{received_of}
+use Rattle.raptorq.specs.declared.decoder.last_outcome.LastOutcome.TheVariants.{Untried}
+use Rattle.raptorq.specs.MissingPackets.{missing_in}
+use Rattle.raptorq.specs.SourceBlockDecoder.{Solving, received_of, solving_of}
 
 -- the answer of a block
 abbrev pub answer_of : ObjectBlock → Option (List ℕ)
@@ -23,6 +25,18 @@ answer_at blocks n = slice_index_or (map answer_of blocks) n None
 -- what it holds, and what it has answered
 abbrev pub state_of : Decoder → State
 state_of d = record { configuration = d.config; received = received_at d.config d.blocks.items; answer = answer_at d.blocks.items }
+
+-- how its blocks are solved
+abbrev pub solving_of_blocks : Decoder → List Solving
+solving_of_blocks d = map (λ b. solving_of b.decoder) d.blocks.items
+
+-- how the block of a number is: one that the object hasn't wasn't tried
+abbrev pub solving_at : Decoder → ℕ → Solving
+solving_at d n = slice_index_or (solving_of_blocks d) n (record { sparse_threshold = 0; last_outcome = Untried })
+
+-- how many packets more it says that the block of a number needs
+abbrev pub missing_of : Decoder → ℕ → Option ℕ
+missing_of d n = missing_in (answer_at d.blocks.items n) (solving_at d n).last_outcome (received_at d.config d.blocks.items n)
 
 -- the block of a number
 pub record HoldsBlock (s : State) (number : ℕ) (block : ObjectBlock) : Type 0 where

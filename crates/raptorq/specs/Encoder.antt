@@ -2,6 +2,7 @@
 use Rattle.std.specs.Prelude.{◌≡◌, ℕ, ◌+◌, ◌*◌, ◌<◌, ◌^◌, List, [], length, map, Result, Ok, Err, if◌then◌else◌, nat_lt, slice_index_or}
 use Rattle.rq_bytes.specs.declared.error.Error.{Error}
 use Rattle.rq_bytes.specs.declared.error.Error.TheVariants.{UnknownBlock, EsiTooLarge}
+use Rattle.rq_bytes.specs.SymbolSlab.{Slab}
 use Rattle.rq_standard.specs.declared.row.TableRow.{TableRow}
 use Rattle.rq_standard.specs.TableRows.{no_row}
 use Rattle.rq_standard.specs.Configuration.{Configuration, total_symbols}
@@ -10,7 +11,7 @@ use Rattle.rq_standard.specs.Packet.{SymbolId, Packet}
 use Rattle.rq_standard.specs.Headline.{IsPacketOf}
 use Rattle.rq_standard.specs.ObjectPackets.{AreEncoded}
 use Rattle.rq_standard.specs.Cutting.{block_symbols}
-use Rattle.raptorq.specs.SourceBlockEncoder.{BlockEncoded, block_encoded_of, new_block_encoded}
+use Rattle.raptorq.specs.SourceBlockEncoder.{BlockEncoded, block_encoded_of, new_block_encoded, slabs_of}
 use Rattle.raptorq.specs.declared.encoder.Encoder.{Encoder}
 
 -- how an object is cut, and what is encoded of each of its blocks
@@ -24,6 +25,10 @@ no_block number size = record { number = number; row = no_row; size = size; sour
 
 abbrev pub encoded_of : Encoder → Encoded
 encoded_of e = record { configuration = e.config; block = λ b. slice_index_or (map block_encoded_of e.blocks.items) b (no_block b e.config.symbol_size) }
+
+-- the slabs of its blocks, which `==` compares
+abbrev pub block_slabs_of : Encoder → List (Slab × Slab)
+block_slabs_of e = map slabs_of e.blocks.items
 
 -- an encoder of this object, over this table
 pub record IsEncoderOf (table : List TableRow) (object : List ℕ) (e : Encoded) : Type 0 where

@@ -1,7 +1,9 @@
 -- How many packets a block needs besides those that were received.
-use Rattle.std.specs.Prelude.{◌≡◌, ◌⊎◌, ℕ, ◌-◌, ◌^◌, ◌<◌, ◌≤◌, true, List, length, Contains, Option, Some, MatchOption}
+use Rattle.std.specs.Prelude.{◌≡◌, ◌⊎◌, ℕ, ◌-◌, ◌^◌, ◌<◌, ◌≤◌, max, true, List, length, Contains, Option, Some, None, MatchOption}
 use Rattle.rq_standard.specs.ReceivedBlock.{ReceivedBlock, has_received, CanAnswer, IsContradictory}
 use Rattle.raptorq.specs.Missing.{missing_count}
+use Rattle.raptorq.specs.declared.decoder.last_outcome.LastOutcome.{LastOutcome}
+use Rattle.raptorq.specs.declared.decoder.last_outcome.LastOutcome.TheVariants.{Untried, Undetermined, Contradictory}
 
 -- how many encoding symbol ids were received, of the 2^24 that there are
 abbrev pub received_count : ReceivedBlock → ℕ
@@ -25,6 +27,17 @@ IsMissing h n = (n ≡ h.source_symbols - received_count h) ⊎ ((n ≡ 1) × (h
 abbrev pub TellsMissing : ReceivedBlock → Option ℕ → Type 0
 TellsMissing h missing = MatchOption missing (IsContradictory h) (IsMissing h)
 
+-- which of these it is, by what the last attempt to answer the block found
+abbrev pub missing_after : LastOutcome → ReceivedBlock → Option ℕ
+missing_after Untried h = Some (h.source_symbols - received_count h)
+missing_after Undetermined h = Some (max (h.source_symbols - received_count h) 1)
+missing_after Contradictory h = None
+
 -- of a block of an object: that where it has no answer, and 0 where it has one
+abbrev pub missing_in : Option (List ℕ) → LastOutcome → ReceivedBlock → Option ℕ
+missing_in None outcome h = missing_after outcome h
+missing_in (Some block) outcome h = Some 0
+
+-- and what is so of it
 abbrev pub TellsMissingOf : ReceivedBlock → Option (List ℕ) → Option ℕ → Type 0
 TellsMissingOf h answer missing = MatchOption answer (TellsMissing h missing) (λ _. missing ≡ Some 0)

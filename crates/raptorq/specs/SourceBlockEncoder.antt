@@ -18,6 +18,10 @@ pub record BlockEncoded : Type 0 where
 abbrev pub block_encoded_of : SourceBlockEncoder → BlockEncoded
 block_encoded_of b = record { number = b.number; row = b.row.numbers; size = b.intermediate.symbol_size; source = b.source.values }
 
+-- the slabs of its source symbols and of its intermediate symbols, which `==` compares
+abbrev pub slabs_of : SourceBlockEncoder → Slab × Slab
+slabs_of b = (b.source, b.intermediate)
+
 -- what is encoded of a block of this object, over this table
 abbrev pub new_block_encoded : List TableRow → Configuration → List ℕ → ℕ → BlockEncoded
 new_block_encoded table c object b = record { number = b; row = block_row table c b; size = c.symbol_size; source = block_source c object b }

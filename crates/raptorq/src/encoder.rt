@@ -150,9 +150,9 @@ impl Encoder {
 }
 
 impl Clone for Encoder {
-    ghost use Rattle.raptorq.specs.Encoder.{encoded_of};
+    ghost use Rattle.raptorq.specs.Encoder.{encoded_of, block_slabs_of};
 
-    ghost is_clone = { λ a b. encoded_of b ≡ encoded_of a };
+    ghost is_clone = { λ a b. (encoded_of b ≡ encoded_of a) × (block_slabs_of b ≡ block_slabs_of a) };
 
     fn clone(&self) -> Result<Encoder, AllocError> {
         Ok(Encoder {

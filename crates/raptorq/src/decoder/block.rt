@@ -66,10 +66,10 @@ impl SourceBlockDecoder {
     ghost use Rattle.rq_standard.specs.DecoderSteps.{emptied};
     ghost use Rattle.rq_standard.specs.TableRows.{greatest_size, intermediate_symbols};
     ghost use Rattle.raptorq.specs.Refused.{checked_block, block_refusal};
-    ghost use Rattle.raptorq.specs.SourceBlockDecoder.{received_of, empty_block};
+    ghost use Rattle.raptorq.specs.SourceBlockDecoder.{received_of, solving_of, empty_block};
     ghost use Rattle.raptorq.specs.Decoding.{DecodesFrom, DecodesOrStops, IsUnanswered, answer_bytes};
     ghost use Rattle.raptorq.specs.Stopping.{StopsPacket, StopsAnswer};
-    ghost use Rattle.raptorq.specs.MissingPackets.{NeedsMore, TellsMissing};
+    ghost use Rattle.raptorq.specs.MissingPackets.{NeedsMore, TellsMissing, missing_after};
     ghost use Rattle.std.specs.Iterator.{IsFinite};
 
     /// The decoder of the source block with this number, of this length in bytes, that holds
@@ -214,6 +214,7 @@ impl SourceBlockDecoder {
     /// [`SourceBlockDecoder::decode`] tries it again, as after a refusal. `None` where what was received
     /// is contradictory. The Rust crate has no such call.
     pub fn missing_packets(&self) -> Option<u32>
+        ensures value { result ≡ missing_after (solving_of self.now).last_outcome (received_of self.now) }
         ensures told { TellsMissing (received_of self.now) result }
         ensures needed { IfSome result (NeedsMore (received_of self.now)) }
     {
@@ -383,9 +384,9 @@ impl SourceBlockDecoder {
 }
 
 impl Clone for SourceBlockDecoder {
-    ghost use Rattle.raptorq.specs.SourceBlockDecoder.{received_of};
+    ghost use Rattle.raptorq.specs.SourceBlockDecoder.{received_of, solving_of};
 
-    ghost is_clone = { λ a b. received_of b ≡ received_of a };
+    ghost is_clone = { λ a b. (received_of b ≡ received_of a) × (solving_of b ≡ solving_of a) };
 
     fn clone(&self) -> Result<SourceBlockDecoder, AllocError> {
         Ok(SourceBlockDecoder {

@@ -10,7 +10,7 @@ ghost use Rattle.rq_standard.specs.Following.{FollowsRun, IsAnswerAfter};
 ghost use Rattle.raptorq.specs.Runs.{packets_of, AnswersRun, RefusesConfiguration};
 ghost use Rattle.rq_standard.specs.TableRows.{greatest_size};
 ghost use Rattle.rq_base.specs.RefusedInput.{checked_configuration};
-ghost use Rattle.raptorq.specs.SourceBlockDecoder.{received_of};
+ghost use Rattle.raptorq.specs.SourceBlockDecoder.{received_of, solving_of};
 
 use crate::blocks::{block_symbols, symbols_before};
 use crate::decoder::block::SourceBlockDecoder;
@@ -34,7 +34,7 @@ impl ObjectBlock {
     ghost use Rattle.rq_standard.specs.DecoderState.{IsReceivedOf, new_received, new_answer};
     ghost use Rattle.raptorq.specs.Stopping.{AddsHereOrStops};
     ghost use Rattle.raptorq.specs.Decoder.{answer_of};
-    ghost use Rattle.raptorq.specs.MissingPackets.{NeedsMore, TellsMissingOf};
+    ghost use Rattle.raptorq.specs.MissingPackets.{NeedsMore, TellsMissingOf, missing_in};
     ghost use Rattle.raptorq.specs.Refused.{block_refusal};
 
     // A block that has no packets. It is answered where it has no symbols.
@@ -83,6 +83,7 @@ impl ObjectBlock {
 
     // How many packets more the block needs at least.
     fn missing_packets(&self) -> Option<u32>
+        ensures value { result ≡ missing_in (answer_of self.now) (solving_of self.now.decoder).last_outcome (received_of self.now.decoder) }
         ensures told { TellsMissingOf (received_of self.now.decoder) (answer_of self.now) result }
         ensures needed { IfSome result (NeedsMore (received_of self.now.decoder)) }
     {
@@ -107,7 +108,7 @@ impl ObjectBlock {
 impl Clone for ObjectBlock {
     ghost use Rattle.raptorq.specs.Decoder.{answer_of};
 
-    ghost is_clone = { λ a b. (received_of b.decoder ≡ received_of a.decoder) × (answer_of b ≡ answer_of a) };
+    ghost is_clone = { λ a b. (received_of b.decoder ≡ received_of a.decoder) × (answer_of b ≡ answer_of a) × (solving_of b.decoder ≡ solving_of a.decoder) };
 
     fn clone(&self) -> Result<ObjectBlock, AllocError> {
         Ok(ObjectBlock {
@@ -144,7 +145,7 @@ impl Decoder {
     ghost use Rattle.raptorq.specs.Stopping.{StopsAsTested, AddsOrStops, AddsAndJoinsOrStops};
     ghost use Rattle.raptorq.specs.MissingPackets.{NeedsMore, TellsMissingOf};
     ghost use Rattle.raptorq.specs.Refused.{packet_refusal};
-    ghost use Rattle.raptorq.specs.Decoder.{state_of, IsAnswerOf, IsBlockAt};
+    ghost use Rattle.raptorq.specs.Decoder.{state_of, solving_at, missing_of, IsAnswerOf, IsBlockAt};
 
     /// The decoder of an object in this configuration, before any packet.
     ///
@@ -272,7 +273,8 @@ impl Decoder {
 
     // The block of a number, where the object has it.
     fn block(&self, number: u8) -> Option<&ObjectBlock>
-        ensures { IsBlockAt (state_of self.now) number (option_copied result) }
+        ensures at { IsBlockAt (state_of self.now) number (option_copied result) }
+        ensures solving { IfSome (option_copied result) (λ b. solving_of b.decoder ≡ solving_at self.now number) }
     {
         self.blocks.get(usize::from(number))
     }
@@ -343,6 +345,7 @@ impl Decoder {
     /// Refuses [`Error::UnknownBlock`] where the block is none of the object's.
     pub fn missing_packets(&self, source_block_number: u8) -> Result<Option<u32>, Error>
         ensures known { OnOk result (source_block_number < (state_of self.now).configuration.source_blocks) }
+        ensures value { IfOk result (λ r. r ≡ missing_of self.now source_block_number) }
         ensures told { IfOk result (TellsMissingOf ((state_of self.now).received source_block_number) ((state_of self.now).answer source_block_number)) }
         ensures needed { IfOk result (λ r. IfSome r (NeedsMore ((state_of self.now).received source_block_number))) }
         ensures refused { IfErr result (λ e. e ≡ Error.UnknownBlock) }
@@ -383,9 +386,9 @@ impl Decoder {
 }
 
 impl Clone for Decoder {
-    ghost use Rattle.raptorq.specs.Decoder.{state_of};
+    ghost use Rattle.raptorq.specs.Decoder.{state_of, solving_of_blocks};
 
-    ghost is_clone = { λ a b. state_of b ≡ state_of a };
+    ghost is_clone = { λ a b. (state_of b ≡ state_of a) × (solving_of_blocks b ≡ solving_of_blocks a) };
 
     fn clone(&self) -> Result<Decoder, AllocError> {
         Ok(Decoder {

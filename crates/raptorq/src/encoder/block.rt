@@ -288,9 +288,9 @@ fn source_symbol_count(
 }
 
 impl Clone for SourceBlockEncoder {
-    ghost use Rattle.raptorq.specs.SourceBlockEncoder.{block_encoded_of};
+    ghost use Rattle.raptorq.specs.SourceBlockEncoder.{block_encoded_of, slabs_of};
 
-    ghost is_clone = { λ a b. block_encoded_of b ≡ block_encoded_of a };
+    ghost is_clone = { λ a b. (block_encoded_of b ≡ block_encoded_of a) × (slabs_of b ≡ slabs_of a) };
 
     fn clone(&self) -> Result<SourceBlockEncoder, AllocError> {
         Ok(SourceBlockEncoder {

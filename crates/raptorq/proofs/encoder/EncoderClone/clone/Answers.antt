@@ -1,5 +1,5 @@
 use Rattle.std.proofs.Common.{◌≡◌, List, length, get_or, map, ap, ◌∙◌}
-use Rattle.raptorq.specs.SourceBlockEncoder.{BlockEncoded, block_encoded_of}
+use Rattle.raptorq.specs.SourceBlockEncoder.{BlockEncoded, block_encoded_of, slabs_of}
 use Rattle.raptorq.specs.Encoder.{Encoded, no_block}
 use Rattle.raptorq.proofs.Numbered.{mapped_through}
 use Rattle.raptorq.proofs.PlanLaws.{map-clones}
@@ -8,7 +8,7 @@ use Rattle.raptorq.proofs.encoder.EncoderClone.clone.Goals.{In_ok-clone}
 
 module _ (c : In_ok-clone) where
   same : map block_encoded_of c.in_ok-clone.field-0.items ≡ map block_encoded_of c.args.self.now.blocks.items
-  same = map-clones _ block_encoded_of (λ x y e. e) c.args.self.now.blocks.items c.in_ok-clone.field-0.items c.in_ok-clone.ensures.cases.0
+  same = map-clones _ block_encoded_of (λ x y cloned. cloned.0) c.args.self.now.blocks.items c.in_ok-clone.field-0.items c.in_ok-clone.ensures.cases.0
 
 pub invariant_of-result : goal.invariant_of-result
 invariant_of-result c =
@@ -28,4 +28,9 @@ pub returns : goal.returns
 returns c =
     let s = c.args.self.now in
     let seen : List BlockEncoded → Encoded = λ bs. record { configuration = s.config; block = λ b. get_or bs b (no_block b s.config.symbol_size) } in
-    record { cases = ap seen (same (goal.at.returns c).In_ok-clone) }
+    record {
+      cases = (
+        ap seen (same (goal.at.returns c).In_ok-clone),
+        map-clones _ slabs_of (λ x y cloned. cloned.1) s.blocks.items c.in_ok-clone.field-0.items c.in_ok-clone.ensures.cases.0,
+      );
+    }

@@ -1,6 +1,6 @@
-use Rattle.std.proofs.Common.{inl, inr, refl, arith}
+use Rattle.std.proofs.Common.{◌≡◌, ◌-◌, max, Some, inl, inr, refl, sym, ap, ◌∙◌, arith}
 use Rattle.std.proofs.lemmas.Bool.{cases_lt}
-use Rattle.raptorq.specs.MissingPackets.{IsMissing}
+use Rattle.raptorq.specs.MissingPackets.{received_count, IsMissing, missing_after}
 use Rattle.raptorq.specs.SourceBlockDecoder.{received_of}
 use Rattle.raptorq.proofs.NeededIds.{needs_missing, received_count_is}
 use Rattle.raptorq.proofs.decoder.block.SourceBlockDecoder.missing_packets.Goals as goal
@@ -8,10 +8,26 @@ use Rattle.raptorq.proofs.decoder.block.SourceBlockDecoder.missing_packets.Goals
 
 module _ (c : After-saturating_sub-missing) where
   -- as many as are missing where nothing was found yet
-  untried : IsMissing (received_of c.args.self.now) c.saturating_sub-missing.result
-  untried =
+  missing : c.saturating_sub-missing.result ≡ c.args.self.now.source_symbols - received_count (received_of c.args.self.now)
+  missing =
       let d = c.args.self.now in
-      inl (omega (arith, c.saturating_sub-missing.ensures, c.len.ensures.len, received_count_is (received_of d) d.received c.len.ensures.ordered d.few (λ e. refl)))
+      omega (arith, c.saturating_sub-missing.ensures, c.len.ensures.len, received_count_is (received_of d) d.received c.len.ensures.ordered d.few (λ e. refl))
+
+  untried : IsMissing (received_of c.args.self.now) c.saturating_sub-missing.result
+  untried = inl missing
+
+pub returns-in-Untried-clause-value : goal.returns-in-Untried-clause-value
+returns-in-Untried-clause-value c =
+    let h = received_of c.args.self.now in
+    ap (λ n. Some n) (missing (goal.at.returns-in-Untried-clause-value c).After-saturating_sub-missing) ∙ ap (λ found. missing_after found h) (sym c.in-Untried.is)
+
+pub returns-in-Undetermined-clause-value : goal.returns-in-Undetermined-clause-value
+returns-in-Undetermined-clause-value c =
+    let h = received_of c.args.self.now in
+    ap (λ n. Some n) (c.max.ensures ∙ ap (λ n. max n 1) (missing (goal.at.returns-in-Undetermined-clause-value c).After-saturating_sub-missing)) ∙ ap (λ found. missing_after found h) (sym c.in-Undetermined.is)
+
+pub returns-in-Contradictory-clause-value : goal.returns-in-Contradictory-clause-value
+returns-in-Contradictory-clause-value c = ap (λ found. missing_after found (received_of c.args.self.now)) (sym c.in-Contradictory.is)
 
 pub returns-in-Untried-clause-told : goal.returns-in-Untried-clause-told
 returns-in-Untried-clause-told c = untried (goal.at.returns-in-Untried-clause-told c).After-saturating_sub-missing

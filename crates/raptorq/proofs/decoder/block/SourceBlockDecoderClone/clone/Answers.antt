@@ -1,4 +1,4 @@
-use Rattle.std.proofs.Common.{◌≡◌, ℕ, sym, ap, ◌∙◌}
+use Rattle.std.proofs.Common.{◌≡◌, ℕ, refl, sym, ap, ◌∙◌}
 use Rattle.std.specs.Prelude.{is_some}
 use Rattle.raptorq.specs.Missing.{payload_of}
 use Rattle.raptorq.proofs.Payloads.{payload_of-cloned}
@@ -33,4 +33,4 @@ pub returns : goal.returns
 returns c =
     let d = c.args.self.now in
     let same = same (goal.at.returns c).In_ok-clone in
-    record { cases = λ i. record { configuration = d.config; number = d.number; row = d.row.numbers; source_symbols = d.source_symbols; received = λ e. same e i } }
+    record { cases = (λ i. record { configuration = d.config; number = d.number; row = d.row.numbers; source_symbols = d.source_symbols; received = λ e. same e i }, refl) }

@@ -2,7 +2,7 @@ use Rattle.std.proofs.Common.{◌≡◌, ℕ, List, Option, None, get_or, map, a
 use Rattle.rq_standard.specs.ReceivedBlock.{ReceivedBlock, nothing_received}
 use Rattle.rq_standard.specs.DecoderState.{State}
 use Rattle.rq_standard.specs.TableRows.{no_row}
-use Rattle.raptorq.specs.SourceBlockDecoder.{received_of}
+use Rattle.raptorq.specs.SourceBlockDecoder.{received_of, solving_of}
 use Rattle.raptorq.specs.Decoder.{answer_of}
 use Rattle.raptorq.proofs.ObjectBlocks.{same_numbers, same_each, IsCut}
 use Rattle.raptorq.proofs.PlanLaws.{map-clones}
@@ -36,4 +36,5 @@ returns c =
     let new = c.in_ok-clone.field-0.items in
     let answers : map answer_of new ≡ map answer_of old = map-clones _ answer_of (λ x y same. same.1) old new c.in_ok-clone.ensures.cases.0 in
     let seen : List ReceivedBlock → List (Option (List ℕ)) → State = λ hs answered. record { configuration = s.config; received = λ n. get_or hs n (nothing_received s.config n no_row 0); answer = λ n. get_or answered n None } in
-    record { cases = ap (λ hs. seen hs (map answer_of new)) (received (goal.at.returns c).In_ok-clone) ∙ ap (seen (map (λ b. received_of b.decoder) old)) answers }
+    let solving : map (λ b. solving_of b.decoder) new ≡ map (λ b. solving_of b.decoder) old = map-clones _ (λ b. solving_of b.decoder) (λ x y same. same.2) old new c.in_ok-clone.ensures.cases.0 in
+    record { cases = (ap (λ hs. seen hs (map answer_of new)) (received (goal.at.returns c).In_ok-clone) ∙ ap (seen (map (λ b. received_of b.decoder) old)) answers, solving) }
