@@ -98,6 +98,17 @@ fn neighbours_of_nodes(rt: HostRuntime) -> Result<(), Error> {
     Ok(())
 }
 
+// The third edge makes one component of two.
+#[test]
+fn merged_components(rt: HostRuntime) -> Result<(), Fail> {
+    let mut graph = ConnectedComponentGraph::new(rt.alloc(), 4)?;
+    graph.add_edge(0, 1);
+    graph.add_edge(2, 3);
+    graph.add_edge(1, 2);
+    same!(rt; graph.get_node_in_largest_connected_component(2, 4), Some(2));
+    Ok(())
+}
+
 // The assertions are steps without which no proof is found of what the later calls require.
 #[test]
 fn connected_components(rt: HostRuntime) -> Result<(), Fail> {
