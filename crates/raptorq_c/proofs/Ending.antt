@@ -1,43 +1,46 @@
 -- What a number says of how a call ended.
-use Rattle.std.proofs.Common.{◌≡◌, ◌≢◌, ◌⊎◌, inl, inr, ◌<◌, List, [], ◌∷◌, get_or, Ok, Err, Result, refl, sym, ap, ◌∙◌, arith, lit<}
+use Rattle.std.proofs.Common.{◌≡◌, ◌≢◌, ◌⊎◌, inl, inr, ℕ, ◌<◌, List, [], ◌∷◌, get_or, Ok, Err, Result, refl, sym, ap, ◌∙◌, arith, lit<}
 use Rattle.std.specs.Prelude.{OnErr}
 use Rattle.rq_bytes.specs.declared.error.Error.{Error}
 use Rattle.rq_bytes.specs.declared.error.Error.TheVariants.{TransferTooLong, AlignmentZero, Misaligned, TooManySymbols, SymbolSizeZero, SourceBlocksZero, BlockOverTable, WrongDataLength, Singular, PlanMismatch, EsiTooLarge, PacketTooShort, WrongPayloadSize, UnknownBlock, PacketSizeZero, TransferLengthZero, MemoryRequirementTooSmall, TooManyBlocks, RowRefused, AlreadyExecuted, OutOfMemory, Contradiction, HeaderTooShort}
 use Rattle.rq_bytes.specs.Error.{code_of}
 use Rattle.raptorq_c.specs.declared.call_end.CallEnd.{CallEnd}
-use Rattle.raptorq_c.specs.Numbers.{number_of, refusal_number, Fills}
+use Rattle.raptorq_c.specs.Numbers.{IsOfCalls, number_of, refusal_number, Fills}
 
--- a refusal's number is neither 0 nor one of those above the refusals'
-code_between : (e : Error) → (0 < code_of e) × (code_of e < 24)
-code_between TransferTooLong = (lit< tt, lit< tt)
-code_between AlignmentZero = (lit< tt, lit< tt)
-code_between Misaligned = (lit< tt, lit< tt)
-code_between TooManySymbols = (lit< tt, lit< tt)
-code_between SymbolSizeZero = (lit< tt, lit< tt)
-code_between SourceBlocksZero = (lit< tt, lit< tt)
-code_between BlockOverTable = (lit< tt, lit< tt)
-code_between WrongDataLength = (lit< tt, lit< tt)
-code_between Singular = (lit< tt, lit< tt)
-code_between PlanMismatch = (lit< tt, lit< tt)
-code_between EsiTooLarge = (lit< tt, lit< tt)
-code_between PacketTooShort = (lit< tt, lit< tt)
-code_between WrongPayloadSize = (lit< tt, lit< tt)
-code_between UnknownBlock = (lit< tt, lit< tt)
-code_between PacketSizeZero = (lit< tt, lit< tt)
-code_between TransferLengthZero = (lit< tt, lit< tt)
-code_between MemoryRequirementTooSmall = (lit< tt, lit< tt)
-code_between TooManyBlocks = (lit< tt, lit< tt)
-code_between (RowRefused place check) = (lit< tt, lit< tt)
-code_between AlreadyExecuted = (lit< tt, lit< tt)
-code_between OutOfMemory = (lit< tt, lit< tt)
-code_between Contradiction = (lit< tt, lit< tt)
-code_between HeaderTooShort = (lit< tt, lit< tt)
+below_calls : (number : ℕ) → number < 24 → IsOfCalls number → ⊥
+below_calls number below is = omega (arith, below, is.0)
+
+-- a refusal's number is neither 0 nor one of the library for C
+code_apart : (e : Error) → (0 < code_of e) × (IsOfCalls (code_of e) → ⊥)
+code_apart TransferTooLong = (lit< tt, below_calls _ (lit< tt))
+code_apart AlignmentZero = (lit< tt, below_calls _ (lit< tt))
+code_apart Misaligned = (lit< tt, below_calls _ (lit< tt))
+code_apart TooManySymbols = (lit< tt, below_calls _ (lit< tt))
+code_apart SymbolSizeZero = (lit< tt, below_calls _ (lit< tt))
+code_apart SourceBlocksZero = (lit< tt, below_calls _ (lit< tt))
+code_apart BlockOverTable = (lit< tt, below_calls _ (lit< tt))
+code_apart WrongDataLength = (lit< tt, below_calls _ (lit< tt))
+code_apart Singular = (lit< tt, below_calls _ (lit< tt))
+code_apart PlanMismatch = (lit< tt, below_calls _ (lit< tt))
+code_apart EsiTooLarge = (lit< tt, below_calls _ (lit< tt))
+code_apart PacketTooShort = (lit< tt, below_calls _ (lit< tt))
+code_apart WrongPayloadSize = (lit< tt, below_calls _ (lit< tt))
+code_apart UnknownBlock = (lit< tt, below_calls _ (lit< tt))
+code_apart PacketSizeZero = (lit< tt, below_calls _ (lit< tt))
+code_apart TransferLengthZero = (lit< tt, below_calls _ (lit< tt))
+code_apart MemoryRequirementTooSmall = (lit< tt, below_calls _ (lit< tt))
+code_apart TooManyBlocks = (lit< tt, below_calls _ (lit< tt))
+code_apart (RowRefused place check) = (lit< tt, below_calls _ (lit< tt))
+code_apart AlreadyExecuted = (lit< tt, below_calls _ (lit< tt))
+code_apart OutOfMemory = (lit< tt, below_calls _ (lit< tt))
+code_apart Contradiction = (lit< tt, below_calls _ (lit< tt))
+code_apart HeaderTooShort = (lit< tt, below_calls _ (lit< tt))
 
 pub code_positive : (e : Error) → 0 < code_of e
-code_positive e = (code_between e).0
+code_positive e = (code_apart e).0
 
-pub code_small : (e : Error) → code_of e < 24
-code_small e = (code_between e).1
+pub code_no_call : (e : Error) → IsOfCalls (code_of e) → ⊥
+code_no_call e = (code_apart e).1
 
 -- another number than 0 is answered where a call isn't done alone
 pub is_stopped : (ended : Result (Unit {0}) CallEnd) (P : Type 0) → OnErr ended P → number_of ended ≢ 0 → P

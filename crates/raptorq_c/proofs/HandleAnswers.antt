@@ -25,7 +25,7 @@ use Rattle.raptorq.specs.Decoder.{IsAnswerOf}
 use Rattle.raptorq.proofs.FollowedRuns.{packet_tests}
 use Rattle.raptorq_c.specs.Handles.{bytes_refusal, FillsWithAnswer, FillsWithBlock, IsAdded, IsPartOf, IsTakenNumber, StaysUnread, TakesRead}
 use Rattle.raptorq_c.specs.Numbers.{number_of, refusal_number}
-use Rattle.raptorq_c.proofs.Ending.{code_positive, code_small, is_memory, is_stopped}
+use Rattle.raptorq_c.proofs.Ending.{code_positive, code_no_call, is_memory, is_stopped}
 use Rattle.raptorq_c.proofs.PacketFrames.{packet_read}
 use Rattle.raptorq_c.proofs.Tables.{refused_over, row_refused}
 
@@ -41,8 +41,8 @@ answered_by P answer number before after holds a = record {
 pub unanswered : (e : Error) (before after : List ℕ) (P : Option (List ℕ) → Type 0) → Answered (code_of e) before after P
 unanswered e before after P = record {
   written = λ is. absurd (omega (arith, is, code_positive e));
-  no_room = λ is. absurd (omega (arith, is, code_small e));
-  incomplete = λ is. absurd (omega (arith, is, code_small e));
+  no_room = λ is. absurd (code_no_call e (omega (arith, is), omega (arith, is)));
+  incomplete = λ is. absurd (code_no_call e (omega (arith, is), omega (arith, is)));
 }
 
 filled_small : (number : ℕ) → IsFilled number → number < 26

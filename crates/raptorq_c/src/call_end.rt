@@ -5,7 +5,8 @@ ghost use Rattle.raptorq_c.specs.Numbers.{number_of};
 
 use raptorq::error::Error;
 
-/// What ends a call without its result.
+/// What ends a call without its result. What the codec doesn't refuse has numbers from 24 to 31, which
+/// no refusal has.
 #[derive(Clone, Copy, Debug, PartialEq, Eq)]
 pub enum CallEnd {
     /// The codec refuses.

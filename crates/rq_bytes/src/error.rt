@@ -84,7 +84,8 @@ pub enum Error {
 impl Error {
     ghost use Rattle.rq_bytes.specs.Error.{code_of};
 
-    /// The number of the refusal, from 1 to 23, in the order of the variants.
+    /// The number of the refusal, from 1 to 23, in the order of the variants. Those from 24 to 31 are
+    /// for what the library for C answers beside them, so the next refusal's is 32.
     pub fn code(&self) -> u8
         ensures { result ≡ code_of self.now }
     {
