@@ -80,7 +80,7 @@ int main(int count, char **words)
     if (!back || !packet)
         return 1;
 
-    struct reamertan_handle sender = {0}, receiver = {0};
+    struct reamertan_handle sender = REAMERTAN_HANDLE_INIT, receiver = REAMERTAN_HANDLE_INIT;
     check("open_encoder", reamertan_open_encoder(NULL, 0, configuration, object, length, &sender));
     check("open_decoder", reamertan_open_decoder(NULL, 0, configuration, &receiver));
     unsigned sent = 0, lost = 0, written = 0;

@@ -35,7 +35,7 @@ static void is_object(const char *how)
 /* Makes the packets one by one, and hands on those that aren't lost. */
 static void by_handles(const uint8_t *header)
 {
-    struct reamertan_handle sender = {0}, receiver = {0};
+    struct reamertan_handle sender = REAMERTAN_HANDLE_INIT, receiver = REAMERTAN_HANDLE_INIT;
     uint8_t packet[PACKET];
     check("open_encoder", 0, reamertan_open_encoder(ROWS, header, object, sizeof object, &sender));
     check("open_decoder", 0, reamertan_open_decoder(ROWS, header, &receiver));

@@ -50,7 +50,7 @@ static void configurations(void)
 static void rows(void)
 {
     const struct reamertan_row next = {511, 800, 37, 10, 523}, even = {511, 800, 36, 10, 523};
-    struct reamertan_handle none = {0};
+    struct reamertan_handle none = REAMERTAN_HANDLE_INIT;
     uint8_t large[REAMERTAN_CONFIGURATION_BYTES], zeros[REAMERTAN_CONFIGURATION_BYTES] = {0};
     memcpy(large, HEADER, sizeof large), large[3] = 3, large[4] = 232;
     expect("500 symbols", 7, reamertan_check_configuration(NULL, 0, large));
@@ -66,7 +66,7 @@ static void rows(void)
 
 static void handles(void)
 {
-    struct reamertan_handle none = {0}, sender = {0}, receiver = {0};
+    struct reamertan_handle none = REAMERTAN_HANDLE_INIT, sender = none, receiver = none;
     uint8_t back[3], over[REAMERTAN_CONFIGURATION_BYTES] = {0};
     uint32_t *missing = (uint32_t *)(void *)buffer;
     expect("packets of none", 26, reamertan_write_packet(&none, 0, 0, buffer, 6));
@@ -108,7 +108,7 @@ static void handles(void)
 
 static void contradictions(void)
 {
-    struct reamertan_handle receiver = {0};
+    struct reamertan_handle receiver = REAMERTAN_HANDLE_INIT;
     expect("a forged packet", 22, reamertan_decode(NULL, 0, ONE, FORGED, 10, buffer, 1));
     expect("opened", 0, reamertan_open_decoder(NULL, 0, ONE, &receiver));
     expect("one of both", 0, reamertan_add_packet(&receiver, FORGED, 5));

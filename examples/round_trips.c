@@ -21,7 +21,7 @@ static int by_handles(const uint8_t *configuration, const uint8_t *object, size_
                       const uint8_t *packets, size_t count, const uint8_t *came, size_t kept,
                       size_t size, int answer, const uint8_t *back)
 {
-    struct reamertan_handle handle = {0};
+    struct reamertan_handle handle = REAMERTAN_HANDLE_INIT;
     uint8_t *made = malloc(size), *again = malloc(length);
     if (!made || !again)
         exit(1);

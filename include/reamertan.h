@@ -9,9 +9,12 @@
  * before the packets in a stream. Any 12 bytes may be handed in.
  *
  * Calls on buffers read and write these alone and keep no memory. Calls on a handle keep a coder in it
- * between them, for those who send or receive packet by packet. `rows` may be null where `row_count` is 0,
- * and no other pointer, also where a length is 0. What a call writes may not overlap what it reads. A call
- * that answers another number than REAMERTAN_DONE leaves the caller's buffers as they were.
+ * between them, for those who send or receive packet by packet. What a call writes may not overlap what it
+ * reads. A call that answers another number than REAMERTAN_DONE leaves the caller's buffers as they were.
+ *
+ * `rows` may be null where `row_count` is 0, which is tested. No other pointer may be null, also where its length
+ * is 0: what is proved is of bytes that lie somewhere. `data()` of an empty vector of C++ may be null: hand in any
+ * other address then.
  *
  * The library takes memory by malloc and realloc and gives it back by free, and starts no thread. It is
  * proved for programs that keep to this, which nothing looks for:
@@ -57,7 +60,8 @@ extern "C" {
 /* The decoder's memory, in bytes, of a default configuration. */
 #define REAMERTAN_DEFAULT_DECODER_MEMORY 10485760
 
-/* What calls answer. The refusals have the numbers of the library's `Error::code`. */
+/* What calls answer. Refusals have the numbers of the codec's `Error::code`: those from 1 to 23 and, in later
+ * versions, from 32 on. Those from 24 to 31 are for what this library answers beside them. */
 enum reamertan_answer {
     /* The call did what it is for. */
     REAMERTAN_DONE = 0,
@@ -240,9 +244,10 @@ uint8_t reamertan_encode(const struct reamertan_row *rows, size_t row_count,
                          uint8_t *packets, size_t packets_length);
 
 /* Fills `object` with the object of packets, in any order, each any number of times, where they
- * determine it. They lie one behind another in `packets`. `object_length` has to be the object's, F. What
- * is written, and whether anything is, is said of packets of one object alone: others, forged or damaged,
- * may give other bytes, CONTRADICTION, INCOMPLETE or WRONG_BUFFER.
+ * determine it. They lie one behind another in `packets`. `object_length` has to be the object's, F. Of
+ * packets that aren't all of one object, as forged or damaged ones, a block is what the first of its packets say
+ * that determine it, the first of each id; those behind them aren't looked at. So they may give other bytes,
+ * CONTRADICTION, INCOMPLETE or WRONG_BUFFER.
  *
  * Refuses, in this order:
  *   ROW_REFUSED;
@@ -259,9 +264,9 @@ uint8_t reamertan_decode(const struct reamertan_row *rows, size_t row_count,
                          const uint8_t *packets, size_t packets_length, uint8_t *object,
                          size_t object_length);
 
-/* A coder between calls: an encoder, a decoder, or none. It begins as zeros, `struct reamertan_handle
- * handle = {0};`, which is none, and is then changed by the calls below alone. The caller doesn't copy it,
- * except to move it: of the two only one is used from then on. It is used by one call at a time, and may go
+/* A coder between calls: an encoder, a decoder, or none. It begins as none, by `struct reamertan_handle handle =
+ * REAMERTAN_HANDLE_INIT;` or with all bytes zero, and is then changed by the calls below alone. The caller doesn't
+ * copy it, except to move it: of the two only one is used from then on. It is used by one call at a time, and may go
  * to another thread, in the order of a lock, of a thread's start or join, or of a sequentially consistent
  * atomic. What a call opened stays until `reamertan_close` frees it, or another call opens a coder in its
  * place. A handle that isn't closed leaks its coder. */
@@ -271,6 +276,9 @@ struct reamertan_handle {
         uint8_t *at;
     } owned;
 };
+
+/* A handle that holds none, in C and in C++. */
+#define REAMERTAN_HANDLE_INIT {false, {NULL}}
 
 /* Makes the encoder of an object, which the handle holds from then on. A coder that it held is freed.
  * The object's bytes and the rows aren't needed any more.

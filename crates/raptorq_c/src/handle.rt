@@ -14,6 +14,14 @@ pub struct Handle {
     pub ghost known: { full ≡ is_some owned.value },
 }
 
+/// A handle may cross threads: this hands it to a call that takes values of such types alone.
+pub fn crosses_threads(handle: &Handle) {
+    crosses(handle);
+}
+
+// Takes values of types that may cross threads alone.
+fn crosses<T: Send>(_value: &T) {}
+
 impl Handle {
     ghost use Rattle.raptorq_c.specs.Handles.{coder_of};
 

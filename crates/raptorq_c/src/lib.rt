@@ -1,8 +1,8 @@
 //! The codec for programs in C and for those that link C: `include/reamertan.h` declares these calls.
 //!
 //! A configuration crosses as the twelve bytes that go before a stream's packets, an object and
-//! packets as buffers of the caller's, and an answer as a number: 0, that of a refusal, or one of the
-//! three above them. A call that answers another number than 0 leaves the caller's buffers as they
+//! packets as buffers of the caller's, and an answer as a number: 0, that of a refusal, or one from
+//! 24 to 31, which are this library's. A call that answers another number than 0 leaves the caller's buffers as they
 //! were. Calls on buffers keep no memory. A handle holds an encoder or a decoder between calls, until
 //! it is closed.
 //!
@@ -33,7 +33,7 @@ pub use configurations::{
 };
 pub use decoding::reamertan_decode;
 pub use encoding::reamertan_encode;
-pub use handle::Handle;
+pub use handle::{Handle, crosses_threads};
 pub use receiving::{
     reamertan_add_packet, reamertan_missing_packets, reamertan_open_decoder, reamertan_write_block,
     reamertan_write_object,

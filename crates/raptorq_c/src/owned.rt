@@ -36,7 +36,7 @@ impl Model for Owned {
     ghost also_owns = { λ o. owned_at o.at o.value };
 }
 
-// With it a handle may cross threads. C gives it to one call at a time.
+// With it a handle may cross threads, as `crosses_threads` shows. C gives it to one call at a time.
 unsafe impl Send for Owned {}
 
 impl Owned {

@@ -195,20 +195,6 @@ fn blocks(rt: HostRuntime) -> Result<(), Fail> {
     Ok(())
 }
 
-// Takes values of types that may cross threads alone.
-fn crosses<T: Send>(_value: &T) -> bool {
-    true
-}
-
-#[test]
-fn threads(rt: HostRuntime) -> Result<(), Fail> {
-    let handle = Handle::empty();
-    let sent = crosses(&handle);
-    handle.let_go();
-    assert!(rt; sent);
-    Ok(())
-}
-
 // Of one source symbol: repair symbol 133 is zero, whatever that is.
 #[test]
 fn contradictions(rt: HostRuntime) -> Result<(), Fail> {
