@@ -23,7 +23,7 @@ const MULTIPLES: usize = 4;
 // `double_add_and_spread` does.
 const TARGETS: usize = 2;
 
-/// PerformsFirst steps on the symbols of a slab, first to last.
+/// Performs steps on the symbols of a slab, first to last.
 pub(crate) fn replay(steps: &[Step], symbols: &mut SymbolSlab)
     requires { AreAllowed (length symbols.old.values) symbols.old.order (map operation_of_step steps.now) }
     ensures { symbols.new ≡ after_all (map operation_of_step steps.now) symbols.old }
@@ -60,7 +60,7 @@ impl Performer {
         }
     }
 
-    // PerformsFirst a step, and those behind it that are done in the same pass over a symbol. Returns how
+    // Performs a step, and those behind it that are done in the same pass over a symbol. Returns how
     // many of those behind it these are.
     fn perform(&mut self, step: &Step, behind: &[Step], symbols: &mut SymbolSlab) -> usize
         requires { AreAllowed (length symbols.old.values) symbols.old.order (operation_of_step step.now ∷ map operation_of_step behind.now) }
@@ -79,7 +79,7 @@ impl Performer {
         }
     }
 
-    // PerformsFirst an addition, and the additions to the same symbol that follow, as far as there is room.
+    // Performs an addition, and the additions to the same symbol that follow, as far as there is room.
     // Returns how many follow.
     fn add(&mut self, dest: u32, src: u32, behind: &[Step], symbols: &mut SymbolSlab) -> usize
         requires { AreAllowed (length symbols.old.values) symbols.old.order (AddAssign dest src ∷ map operation_of_step behind.now) }
@@ -91,7 +91,7 @@ impl Performer {
         more
     }
 
-    // PerformsFirst a multiplication. Where it is a doubling and the next step adds to the same symbol, both
+    // Performs a multiplication. Where it is a doubling and the next step adds to the same symbol, both
     // are done in one pass, and so are the steps behind them that add this symbol to others, as far as
     // there is room. Returns how many steps follow the multiplication.
     fn multiply(
@@ -118,7 +118,7 @@ impl Performer {
         0
     }
 
-    // PerformsFirst the addition of a multiple of the symbol at `src`, and those that follow, as far as there
+    // Performs the addition of a multiple of the symbol at `src`, and those that follow, as far as there
     // is room. Multiples of zeros are left out. Returns how many follow.
     fn add_multiples(
         &mut self,
