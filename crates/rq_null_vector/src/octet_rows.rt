@@ -61,7 +61,7 @@ fn copy_octets(
     }
 }
 
-// Copies the columns of a row of bits of LT symbols to a row of zeros.
+// Copies the columns of LT symbols of a row of bits to a row of zeros.
 fn copy_leading_bits<T: BinaryMatrix>(
     bits: &T,
     row: usize,
