@@ -11,8 +11,12 @@ MANIFEST = '[package]\nname = "{}"\nversion = "0.0.0"\nedition = "2021"\n[depend
 
 
 def arguments(usage, names=None, least=1):
-    """The words that a script was called with. With too few, or a first one that isn't among the names, it prints its usage, and ends with 2."""
+    """The words that a script was called with. Asked for help it prints its usage, and ends with 0; with too few words, or a first one
+    that isn't among the names, with 2."""
     words = sys.argv[1:]
+    if words and words[0] in ("-h", "--help"):
+        print(usage)
+        sys.exit(0)
     if len(words) < least or (names is not None and words[0] not in names):
         print(usage, file=sys.stderr)
         sys.exit(2)
