@@ -1,0 +1,120 @@
+"""Reads the calls of the library for C, and their structs, from the three places where they stand: what crates/raptorq_c exports, what
+include/reamertan.h declares, and what wrapper/src/calls.rs declares. A type is spelled as in Rust. A call is its parameters, as pairs
+of name and type, and its result; a struct is its fields, as such pairs."""
+import re
+
+C_TYPES = {"uint8_t": "u8", "uint16_t": "u16", "uint32_t": "u32", "uint64_t": "u64", "size_t": "usize", "void": "()"}
+
+
+def squeezed(text):
+    return " ".join(text.split())
+
+
+def parts(text, separator):
+    return [squeezed(part) for part in text.split(separator) if part.strip()]
+
+
+def c_pair(text):
+    """The name and the type of a parameter or field in C."""
+    found = re.fullmatch(r"(const )?(struct reamertan_)?(\w+) (\*?)(\w+)(\[REAMERTAN_CONFIGURATION_BYTES\])?", text)
+    if not found:
+        raise ValueError(f"include/reamertan.h: no parameter or field that can be read: {text}")
+    constant, struct, kind, star, name, array = found.groups()
+    kind = kind.capitalize() if struct else C_TYPES.get(kind, kind)
+    if array:
+        kind = "Configuration"
+    return name, f"*{'const' if constant else 'mut'} {kind}" if star or array else kind
+
+
+def header(text):
+    """The calls and structs of the header, in its order."""
+    text = re.sub(r"/\*.*?\*/", "", text, flags=re.S)
+    # A struct that stands within another one has the name of its field.
+    nested = r"struct \{([^{}]*)\} (\w+);"
+    structs = {name.capitalize(): fields for fields, name in re.findall(nested, text)}
+    text = re.sub(nested, lambda found: f"{found[2].capitalize()} {found[2]};", text)
+    structs |= {name.capitalize(): fields for name, fields in re.findall(r"^struct reamertan_(\w+) \{([^{}]*)\};", text, re.M)}
+    calls = {}
+    for result, name, parameters in re.findall(r"^(\w+) (reamertan_\w+)\(([^()]*)\);", text, re.M):
+        pairs = [] if parameters == "void" else [c_pair(part) for part in parts(parameters, ",")]
+        calls[name] = pairs, C_TYPES.get(result, result)
+    return calls, {name: [c_pair(part) for part in parts(fields, ";")] for name, fields in structs.items()}
+
+
+def c_pairs(name, kind):
+    """What a parameter in Rattle is in C: a slice is a pointer and a length, whose name is the header's alone."""
+    if kind == "Global":
+        return []
+    found = re.fullmatch(r"&(mut )?(.*)", kind)
+    if not found:
+        return [(name, kind)]
+    pointer, kind = f"*{'mut' if found[1] else 'const'} ", found[2]
+    if kind == "[u8; CONFIGURATION_LENGTH]":
+        return [(name, f"{pointer}Configuration")]
+    if kind.startswith("["):
+        return [(name, pointer + kind.strip("[]")), (None, "usize")]
+    return [(name, pointer + kind)]
+
+
+def rust_calls(text, start, spelled):
+    """The calls behind these words, in their order."""
+    calls = {}
+    unread = len(re.findall(start + r"fn \w+", text))
+    for name, parameters, result in re.findall(start + r"fn (reamertan_\w+)\(([^()]*)\)(?: -> (\w+))?", text):
+        pairs = [part.split(": ", 1) for part in parts(parameters, ",")]
+        calls[name] = [pair for name_and_kind in pairs for pair in spelled(*name_and_kind)], result or "()"
+        unread -= 1
+    if unread:
+        raise ValueError(f"of the calls of Rust {unread} can't be read")
+    return calls
+
+
+def rust_structs(text):
+    """The structs that have the layout of C, without what is ghost. An array stands for a struct whose fields have no names."""
+    structs = {}
+    for name, fields in re.findall(r"^#\[repr\(C\)\]\n(?:#\[[^\n]*\n)*(?:pub )?struct (\w+) \{(.*?)^\}", text, re.M | re.S):
+        structs[name] = re.findall(r"^    (?:pub )?(\w+): ([\w* ]+),$", fields, re.M)
+    for name, kind, count in re.findall(r"^type (\w+) = \[(\w+); (\d+)\];", text, re.M):
+        structs[name] = [(None, kind)] * int(count)
+    return structs
+
+
+def exports(texts):
+    """The calls and structs of the sources of crates/raptorq_c."""
+    text = "\n".join(texts)
+    return rust_calls(text, r'pub extern "C" ', c_pairs), rust_structs(text)
+
+
+def wrapper(text):
+    """The calls and structs of wrapper/src/calls.rs."""
+    declared = "".join(re.findall(r'^unsafe extern "C" \{(.*?)^\}', text, re.M | re.S))
+    return rust_calls(declared, "", lambda name, kind: [(name, kind)]), rust_structs(text)
+
+
+def equal(first, second):
+    """Whether pairs are equal, as far as both have names."""
+    return len(first) == len(second) and all(
+        kind == other_kind and (None in (name, other_name) or name == other_name) for (name, kind), (other_name, other_kind) in zip(first, second)
+    )
+
+
+def shown(pairs, result=None):
+    listed = ", ".join(f"{name or '_'}: {kind}" for name, kind in pairs)
+    return f"({listed}) -> {result}" if result else f"({listed})"
+
+
+def differences(place, found, wanted, is_whole):
+    """What differs in the calls and structs of a place from those of the header, of whose calls it may lack some where it isn't whole."""
+    (calls, structs), (wanted_calls, wanted_structs) = found, wanted
+    for name in sorted(structs.keys() | wanted_structs.keys()):
+        if not equal(structs.get(name, []), wanted_structs.get(name, [])):
+            yield f"{place}: struct {name} is {shown(structs.get(name, []))}, and in the header {shown(wanted_structs.get(name, []))}"
+    for name, (pairs, result) in calls.items():
+        other_pairs, other_result = wanted_calls.get(name, ([], "none"))
+        if not equal(pairs, other_pairs) or result != other_result:
+            yield f"{place}: {name} is {shown(pairs, result)}, and in the header {shown(other_pairs, other_result)}"
+    if is_whole:
+        yield from (f"{place}: {name} isn't there" for name in wanted_calls if name not in calls)
+    else:
+        order = [name for name in wanted_calls if name in calls]
+        yield from (f"{place}: {name} stands where the header has {other}" for name, other in zip(calls, order) if name != other)
