@@ -110,7 +110,10 @@ def differences(place, found, wanted, is_whole):
         if not equal(structs.get(name, []), wanted_structs.get(name, [])):
             yield f"{place}: struct {name} is {shown(structs.get(name, []))}, and in the header {shown(wanted_structs.get(name, []))}"
     for name, (pairs, result) in calls.items():
-        other_pairs, other_result = wanted_calls.get(name, ([], "none"))
+        if name not in wanted_calls:
+            yield f"{place}: {name} isn't in the header"
+            continue
+        other_pairs, other_result = wanted_calls[name]
         if not equal(pairs, other_pairs) or result != other_result:
             yield f"{place}: {name} is {shown(pairs, result)}, and in the header {shown(other_pairs, other_result)}"
     if is_whole:
