@@ -2,12 +2,10 @@
 
 use crate::base::ObjectTransmissionInformation;
 use crate::calls::{self, accepted};
-
-/// The sizes K' of the table of RFC 6330, section 5.6, in rising order.
-const EXTENDED_SIZES: &[u32] = &include!(concat!(env!("OUT_DIR"), "/sizes.rs"));
+use crate::rows::{BUILT_IN_SIZES, ROWS};
 
 /// The greatest number of source symbols of a source block.
-pub(crate) const GREATEST_BLOCK: u32 = EXTENDED_SIZES[EXTENDED_SIZES.len() - 1];
+pub(crate) const GREATEST_BLOCK: u32 = ROWS[ROWS.len() - 1][0];
 
 /// The function Partition of RFC 6330, section 4.4.1.2: `i` things in `j` parts as equal as they can
 /// be. Answers the size of the larger parts, that of the smaller ones, and how many there are of
@@ -47,7 +45,9 @@ pub fn calculate_block_offsets(
 /// The number K' of symbols of the extended source block, with padding symbols, of so many source
 /// symbols (RFC 6330, section 5.3.1). Panics above 56403.
 pub fn extended_source_block_symbols(source_block_symbols: u32) -> u32 {
-    assert!(source_block_symbols <= GREATEST_BLOCK, "TooManySymbols");
-    let place = EXTENDED_SIZES.partition_point(|&size| size < source_block_symbols);
-    EXTENDED_SIZES[place]
+    let further = ROWS.iter().map(|[size, ..]| size);
+    let mut sizes = BUILT_IN_SIZES.iter().chain(further).copied();
+    sizes
+        .find(|&size| size >= source_block_symbols)
+        .expect("TooManySymbols")
 }

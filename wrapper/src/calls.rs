@@ -4,6 +4,8 @@
 use std::fmt;
 use std::ptr::null_mut;
 
+use crate::rows::ROWS;
+
 /// How many bytes spell a configuration.
 const CONFIGURATION_LENGTH: usize = 12;
 
@@ -88,9 +90,6 @@ impl fmt::Display for Refusal {
 
 /// A row of RFC 6330, section 5.6: K', J, S, H and W.
 type Row = [u32; 5];
-
-/// The rows beyond the built-in ones, with which a source block has up to 56403 symbols.
-const ROWS: &[Row] = &include!(concat!(env!("OUT_DIR"), "/rows.rs"));
 
 unsafe extern "C" {
     fn reamertan_derive_configuration(

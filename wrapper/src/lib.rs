@@ -22,6 +22,7 @@ mod blocks;
 mod calls;
 mod decoder;
 mod encoder;
+mod rows;
 
 pub use base::{EncodingPacket, ObjectTransmissionInformation, PayloadId};
 pub use blocks::{calculate_block_offsets, extended_source_block_symbols, partition};
