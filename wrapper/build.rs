@@ -1,9 +1,16 @@
 //! Links the codec's static library: the one in the folder or the PREFIX that `REAMERTAN_LIB` names, or else the one
-//! that pkg-config knows. Without a library there is a warning, since `cargo check` and `cargo doc` need none.
+//! that pkg-config knows. Where there is none of this package's version, `src/calls.rs` gets a sentence to end the build
+//! with, since `cargo check` and `cargo doc` need none.
 
 use std::env;
+use std::fs;
 use std::path::{Path, PathBuf};
-use std::process::{Command, exit};
+use std::process::Command;
+
+use version::VERSION;
+
+#[path = "src/version.rs"]
+mod version;
 
 const LIBRARY: &str = "libreamertan.a";
 
@@ -12,36 +19,55 @@ const PKG_CONFIG: [&str; 3] = ["PKG_CONFIG", "PKG_CONFIG_PATH", "PKG_CONFIG_LIBD
 
 fn main() {
     println!("cargo:rerun-if-changed=build.rs");
+    println!("cargo:rerun-if-changed=src/version.rs");
     println!("cargo:rerun-if-env-changed=REAMERTAN_LIB");
     let named = env::var_os("REAMERTAN_LIB").map(PathBuf::from);
-    let found = named.as_deref().map_or_else(in_pkg_config, in_named);
-    match (found, named) {
-        (Some(folder), _) => link(&folder),
-        (None, Some(named)) => refuse(&named),
-        (None, None) => warn(),
-    }
+    let folder = named.as_deref().map_or_else(in_pkg_config, in_named);
+    let fault = match &folder {
+        Some(folder) => link(folder),
+        None => Some(missing(named.as_deref())),
+    };
+    println!(
+        "cargo:rustc-env=REAMERTAN_FAULT={}",
+        fault.unwrap_or_default()
+    );
 }
 
-fn link(folder: &Path) {
+// Links a folder's library, or says why not.
+fn link(folder: &Path) -> Option<String> {
     println!("cargo:rerun-if-changed={}", folder.join(LIBRARY).display());
     println!("cargo:rustc-link-search=native={}", folder.display());
     println!("cargo:rustc-link-lib=static=reamertan");
+    let other = version_in(folder).filter(|version| version != VERSION)?;
+    Some(format!(
+        "{LIBRARY} in {} has version {other}, and this package is for version {VERSION}",
+        folder.display()
+    ))
 }
 
-fn refuse(named: &Path) {
-    eprintln!(
-        "REAMERTAN_LIB is {}, where there is neither {LIBRARY} nor lib/{LIBRARY}",
-        named.display()
-    );
-    exit(1);
+// The version of a folder's library, where it was put in place with its file for pkg-config.
+fn version_in(folder: &Path) -> Option<String> {
+    let file = folder.join("pkgconfig/reamertan.pc");
+    println!("cargo:rerun-if-changed={}", file.display());
+    let text = fs::read_to_string(file).ok()?;
+    let version = text
+        .lines()
+        .find_map(|line| line.strip_prefix("Version: "))?;
+    Some(version.to_string())
 }
 
-fn warn() {
-    println!(
-        "cargo:warning=no {LIBRARY} to link: ./install makes it, and REAMERTAN_LIB names its folder"
-    );
+fn missing(named: Option<&Path>) -> String {
     // A file that isn't there has the library looked for again at the next build.
     println!("cargo:rerun-if-changed={LIBRARY}");
+    match named {
+        Some(named) => format!(
+            "REAMERTAN_LIB is {}, where there is neither {LIBRARY} nor lib/{LIBRARY}",
+            named.display()
+        ),
+        None => format!(
+            "there is no {LIBRARY} to link: Reamertan's `./install PREFIX` makes it, and REAMERTAN_LIB=PREFIX names it"
+        ),
+    }
 }
 
 // The folder of the library, by a path that begins where cargo was called or else at this file, as an editor may call it.

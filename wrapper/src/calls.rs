@@ -3,8 +3,10 @@
 
 use std::fmt;
 use std::ptr::null_mut;
+use std::sync::LazyLock;
 
 use crate::rows::ROWS;
+use crate::version::VERSION;
 
 /// How many bytes spell a configuration.
 const CONFIGURATION_LENGTH: usize = 12;
@@ -92,6 +94,7 @@ impl fmt::Display for Refusal {
 type Row = [u32; 5];
 
 unsafe extern "C" {
+    fn reamertan_version() -> u32;
     fn reamertan_derive_configuration(
         rows: *const Row,
         row_count: usize,
@@ -144,6 +147,31 @@ unsafe extern "C" {
     fn reamertan_close(handle: *mut Handle);
 }
 
+/// Why no library is linked, or nothing.
+const FAULT: &str = env!("REAMERTAN_FAULT");
+
+/// Ends a build where no library is linked. A generic function's constants are evaluated once it is
+/// compiled for a type, which `cargo check` and `cargo doc` don't do, and they need no library.
+fn link_library<T>() {
+    const { assert!(FAULT.is_empty(), "{}", FAULT) }
+}
+
+/// Panics where the library that is linked isn't of this package's version.
+fn meet_library() {
+    link_library::<()>();
+    static LINKED: LazyLock<String> = LazyLock::new(|| {
+        // SAFETY: the declaration is the header's.
+        let number = unsafe { reamertan_version() };
+        let [major, minor] = [number / 1_000_000, number / 1_000 % 1_000];
+        format!("{major}.{minor}.{}", number % 1_000)
+    });
+    let linked = LINKED.as_str();
+    assert!(
+        linked == VERSION,
+        "the library that is linked has version {linked}, and this package is for version {VERSION}"
+    );
+}
+
 fn answered<T>(number: u8, value: T) -> Result<T, Refusal> {
     match number {
         0 => Ok(value),
@@ -158,6 +186,7 @@ pub fn accepted<T>(answer: Result<T, Refusal>) -> T {
 }
 
 pub fn derive(length: u64, packet_size: u16, memory: u64) -> Result<Configuration, Refusal> {
+    meet_library();
     let mut made = [0; CONFIGURATION_LENGTH];
     // SAFETY: the declaration is the header's, a row has the layout of its struct, and the other
     // pointer is that of twelve bytes.
@@ -175,6 +204,7 @@ pub fn derive(length: u64, packet_size: u16, memory: u64) -> Result<Configuratio
 }
 
 pub fn write(parameters: &Parameters) -> Result<Configuration, Refusal> {
+    meet_library();
     let mut made = [0; CONFIGURATION_LENGTH];
     // SAFETY: as above, and the struct has the header's layout.
     let number = unsafe { reamertan_write_configuration(parameters, &mut made) };
@@ -182,6 +212,7 @@ pub fn write(parameters: &Parameters) -> Result<Configuration, Refusal> {
 }
 
 pub fn read(configuration: &Configuration) -> Parameters {
+    meet_library();
     let mut read = Parameters::default();
     // SAFETY: as above.
     unsafe { reamertan_read_configuration(configuration, &mut read) };
@@ -189,12 +220,14 @@ pub fn read(configuration: &Configuration) -> Parameters {
 }
 
 pub fn check(configuration: &Configuration) -> Result<(), Refusal> {
+    meet_library();
     // SAFETY: as above.
     let number = unsafe { reamertan_check_configuration(ROWS.as_ptr(), ROWS.len(), configuration) };
     answered(number, ())
 }
 
 pub fn block_range(configuration: &Configuration, block: u8) -> Result<Range, Refusal> {
+    meet_library();
     let mut range = Range::default();
     // SAFETY: as above.
     let number = unsafe { reamertan_block_range(configuration, block, &mut range) };
@@ -228,6 +261,7 @@ impl Handle {
 
     /// The encoder of an object.
     pub fn encoder(configuration: &Configuration, object: &[u8]) -> Result<Handle, Refusal> {
+        meet_library();
         let mut made = Handle::empty();
         // SAFETY: the struct has the header's layout, and the pointers go with their slices' lengths.
         let number = unsafe {
@@ -254,6 +288,7 @@ impl Handle {
 
     /// A decoder, before any packet.
     pub fn decoder(configuration: &Configuration) -> Result<Handle, Refusal> {
+        meet_library();
         let mut made = Handle::empty();
         // SAFETY: as for encoders.
         let number =

@@ -23,6 +23,7 @@ mod calls;
 mod decoder;
 mod encoder;
 mod rows;
+mod version;
 
 pub use base::{EncodingPacket, ObjectTransmissionInformation, PayloadId};
 pub use blocks::{calculate_block_offsets, extended_source_block_symbols, partition};
