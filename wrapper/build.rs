@@ -21,6 +21,8 @@ fn main() {
     println!("cargo:rerun-if-changed=build.rs");
     println!("cargo:rerun-if-changed=src/version.rs");
     println!("cargo:rerun-if-env-changed=REAMERTAN_LIB");
+    // A feature of the manifest in the folder serde.
+    println!("cargo:rustc-check-cfg=cfg(feature, values(\"serde\"))");
     let named = env::var_os("REAMERTAN_LIB").map(PathBuf::from);
     let folder = named.as_deref().map_or_else(in_pkg_config, in_named);
     let fault = match &folder {

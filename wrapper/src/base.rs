@@ -1,12 +1,18 @@
 //! Packets and configurations.
 
 use crate::calls::{
-    self, Configuration, DEFAULT_DECODER_MEMORY, ENCODING_SYMBOL_IDS, PAYLOAD_ID_LENGTH,
-    Parameters, accepted,
+    self, Configuration, DEFAULT_DECODER_MEMORY, ENCODING_SYMBOL_IDS, ESI_TOO_LARGE,
+    PAYLOAD_ID_LENGTH, Parameters, Refusal, accepted,
 };
+#[cfg(feature = "serde")]
+use crate::fields::{ConfigurationFields, PayloadIdFields};
+#[cfg(feature = "serde")]
+use serde::{Deserialize, Serialize};
 
 /// Which symbol of which source block a packet carries.
 #[derive(Clone, Debug, PartialEq, PartialOrd, Eq, Ord, Hash)]
+#[cfg_attr(feature = "serde", derive(Serialize, Deserialize))]
+#[cfg_attr(feature = "serde", serde(try_from = "PayloadIdFields"))]
 pub struct PayloadId {
     source_block_number: u8,
     encoding_symbol_id: u32,
@@ -15,11 +21,20 @@ pub struct PayloadId {
 impl PayloadId {
     /// An id. Panics where the encoding symbol id doesn't fit 24 bits.
     pub fn new(source_block_number: u8, encoding_symbol_id: u32) -> PayloadId {
-        assert!(encoding_symbol_id < ENCODING_SYMBOL_IDS, "EsiTooLarge");
-        PayloadId {
+        accepted(Self::checked(source_block_number, encoding_symbol_id))
+    }
+
+    pub(crate) fn checked(
+        source_block_number: u8,
+        encoding_symbol_id: u32,
+    ) -> Result<PayloadId, Refusal> {
+        if encoding_symbol_id >= ENCODING_SYMBOL_IDS {
+            return Err(ESI_TOO_LARGE);
+        }
+        Ok(PayloadId {
             source_block_number,
             encoding_symbol_id,
-        }
+        })
     }
 
     /// The id that four bytes spell.
@@ -49,6 +64,7 @@ impl PayloadId {
 
 /// A packet: an id, and the encoding symbol that it names.
 #[derive(Clone, Debug, PartialEq, PartialOrd, Eq, Ord, Hash)]
+#[cfg_attr(feature = "serde", derive(Serialize, Deserialize))]
 pub struct EncodingPacket {
     payload_id: PayloadId,
     data: Vec<u8>,
@@ -89,6 +105,8 @@ impl EncodingPacket {
 
 /// What encoder and decoder both know of an object: its length and how it is cut.
 #[derive(Copy, Clone, Debug, PartialEq, PartialOrd, Eq, Ord, Hash)]
+#[cfg_attr(feature = "serde", derive(Serialize, Deserialize))]
+#[cfg_attr(feature = "serde", serde(try_from = "ConfigurationFields"))]
 pub struct ObjectTransmissionInformation {
     transfer_length: u64,
     symbol_size: u16,
@@ -113,7 +131,11 @@ impl ObjectTransmissionInformation {
             source_blocks,
             alignment,
         };
-        Self::deserialize(&accepted(calls::write(&asked)))
+        accepted(Self::checked(&asked))
+    }
+
+    pub(crate) fn checked(asked: &Parameters) -> Result<ObjectTransmissionInformation, Refusal> {
+        calls::write(asked).map(|bytes| Self::deserialize(&bytes))
     }
 
     /// The default configuration of an object. Panics where it is refused.

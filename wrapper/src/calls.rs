@@ -46,6 +46,9 @@ pub struct Range {
 #[derive(Clone, Copy, Debug, PartialEq, Eq)]
 pub struct Refusal(pub u8);
 
+/// An encoding symbol id doesn't fit 24 bits.
+pub const ESI_TOO_LARGE: Refusal = Refusal(11);
+
 /// The packets contradict each other.
 pub const CONTRADICTION: Refusal = Refusal(22);
 

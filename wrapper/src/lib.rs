@@ -10,9 +10,9 @@ compile_error!(
 );
 #[cfg(feature = "python")]
 compile_error!("the feature `python` isn't offered: this is a library for Rust alone.");
-#[cfg(feature = "serde_support")]
+#[cfg(all(feature = "serde_support", not(feature = "serde")))]
 compile_error!(
-    "the feature `serde_support` isn't offered: with `serde` as a dependency, even an optional one, nothing would build where cargo can't reach crates.io; and what it would write of coders and plans isn't here: a library for C keeps coders, and a plan is a number. Ids, packets and configurations have `serialize` and `deserialize`."
+    "`serde_support` is a feature of the package in wrapper/serde: name that folder in the place of wrapper. This package has no dependency, not even an optional one, so that it builds where cargo can't reach crates.io."
 );
 
 mod base;
@@ -22,6 +22,8 @@ mod blocks;
 mod calls;
 mod decoder;
 mod encoder;
+#[cfg(feature = "serde")]
+mod fields;
 mod rows;
 mod version;
 
