@@ -23,39 +23,39 @@ fn main() {
     println!("cargo:rerun-if-env-changed=REAMERTAN_LIB");
     // A feature of the manifest in the folder serde.
     println!("cargo:rustc-check-cfg=cfg(feature, values(\"serde\"))");
-    let named = env::var_os("REAMERTAN_LIB").map(PathBuf::from);
+    let named = env::var_os("REAMERTAN_LIB")
+        .filter(|named| !named.is_empty())
+        .map(PathBuf::from);
     let folder = named.as_deref().map_or_else(in_pkg_config, in_named);
     let fault = match &folder {
-        Some(folder) => link(folder),
-        None => Some(missing(named.as_deref())),
+        Some(folder) => {
+            link(folder);
+            other_version(folder).unwrap_or_default()
+        }
+        None => missing(named.as_deref()),
     };
-    println!(
-        "cargo:rustc-env=REAMERTAN_FAULT={}",
-        fault.unwrap_or_default()
-    );
+    println!("cargo:rustc-env=REAMERTAN_FAULT={fault}");
 }
 
-// Links a folder's library, or says why not.
-fn link(folder: &Path) -> Option<String> {
+fn link(folder: &Path) {
     println!("cargo:rerun-if-changed={}", folder.join(LIBRARY).display());
     println!("cargo:rustc-link-search=native={}", folder.display());
     println!("cargo:rustc-link-lib=static=reamertan");
-    let other = version_in(folder).filter(|version| version != VERSION)?;
+}
+
+// What is wrong with a folder's library of another version, by its file for pkg-config where it was put in place with one.
+fn other_version(folder: &Path) -> Option<String> {
+    let file = folder.join("pkgconfig/reamertan.pc");
+    let text = fs::read_to_string(&file).ok()?;
+    println!("cargo:rerun-if-changed={}", file.display());
+    let mut versions = text
+        .lines()
+        .filter_map(|line| line.strip_prefix("Version: "));
+    let other = versions.next().filter(|&version| version != VERSION)?;
     Some(format!(
         "{LIBRARY} in {} has version {other}, and this package is for version {VERSION}",
         folder.display()
     ))
-}
-
-// The version of a folder's library, where it was put in place with its file for pkg-config.
-fn version_in(folder: &Path) -> Option<String> {
-    let file = folder.join("pkgconfig/reamertan.pc");
-    println!("cargo:rerun-if-changed={}", file.display());
-    let text = fs::read_to_string(file).ok()?;
-    let version = text
-        .lines()
-        .find_map(|line| line.strip_prefix("Version: "))?;
-    Some(version.to_string())
 }
 
 fn missing(named: Option<&Path>) -> String {
