@@ -153,15 +153,15 @@ unsafe extern "C" {
 /// Why no library is linked, or nothing.
 const FAULT: &str = env!("REAMERTAN_FAULT");
 
-/// Ends a build where no library is linked. A generic function's constants are evaluated once it is
-/// compiled for a type, which `cargo check` and `cargo doc` don't do, and they need no library.
-fn link_library<T>() {
-    const { assert!(FAULT.is_empty(), "{}", FAULT) }
+/// Ends a build where no library is linked. By its parameter the constant is evaluated no sooner than
+/// this is compiled, which `cargo check` and `cargo doc` don't do. They need no library.
+fn link_library<const FOUND: bool>() {
+    const { assert!(FOUND, "{}", FAULT) }
 }
 
 /// Panics where the library that is linked isn't of this package's version.
 fn meet_library() {
-    link_library::<()>();
+    link_library::<{ FAULT.is_empty() }>();
     static LINKED: LazyLock<String> = LazyLock::new(|| {
         // SAFETY: the declaration is the header's.
         let number = unsafe { reamertan_version() };
