@@ -1,6 +1,6 @@
-"""Reads the calls of the library for C, and their structs, from the three places where they stand: what crates/raptorq_c exports, what
-include/reamertan.h declares, and what wrapper/src/calls.rs declares. A type is spelled as in Rust. A call is its parameters, as pairs
-of name and type, and its result; a struct is its fields, as such pairs."""
+"""Reads the calls of the library for C, and their structs, from the places where they stand: what crates/raptorq_c exports and
+include/constants.c defines, what include/reamertan.h declares, and what wrapper/src/calls.rs declares. A type is spelled as in Rust. A
+call is its parameters, as pairs of name and type, and its result; a struct is its fields, as such pairs."""
 import re
 
 C_TYPES = {"uint8_t": "u8", "uint16_t": "u16", "uint32_t": "u32", "uint64_t": "u64", "size_t": "usize", "void": "()"}
@@ -15,15 +15,29 @@ def parts(text, separator):
 
 
 def c_pair(text):
-    """The name and the type of a parameter or field in C."""
+    """The name and the type of a parameter, a field or a call in C."""
     found = re.fullmatch(r"(const )?(struct reamertan_)?(\w+) (\*?)(\w+)(\[REAMERTAN_CONFIGURATION_BYTES\])?", text)
     if not found:
-        raise ValueError(f"include/reamertan.h: no parameter or field that can be read: {text}")
+        raise ValueError(f"no parameter, field or call of C that can be read: {text}")
     constant, struct, kind, star, name, array = found.groups()
     kind = kind.capitalize() if struct else C_TYPES.get(kind, kind)
     if array:
         kind = "Configuration"
     return name, f"*{'const' if constant else 'mut'} {kind}" if star or array else kind
+
+
+def c_calls(text, end):
+    """The calls in C behind whose parameters these characters stand, in their order."""
+    calls = {}
+    for call, parameters in re.findall(r"^(\w[\w *]* \*?reamertan_\w+)\(([^()]*)\)" + end, text, re.M):
+        name, result = c_pair(call)
+        calls[name] = [] if parameters == "void" else [c_pair(part) for part in parts(parameters, ",")], result
+    return calls
+
+
+def constants(text):
+    """The calls that include/constants.c defines."""
+    return c_calls(text, r"\n{")
 
 
 def header(text):
@@ -34,11 +48,7 @@ def header(text):
     structs = {name.capitalize(): fields for fields, name in re.findall(nested, text)}
     text = re.sub(nested, lambda found: f"{found[2].capitalize()} {found[2]};", text)
     structs |= {name.capitalize(): fields for name, fields in re.findall(r"^struct reamertan_(\w+) \{([^{}]*)\};", text, re.M)}
-    calls = {}
-    for result, name, parameters in re.findall(r"^(\w+) (reamertan_\w+)\(([^()]*)\);", text, re.M):
-        pairs = [] if parameters == "void" else [c_pair(part) for part in parts(parameters, ",")]
-        calls[name] = pairs, C_TYPES.get(result, result)
-    return calls, {name: [c_pair(part) for part in parts(fields, ";")] for name, fields in structs.items()}
+    return c_calls(text, ";"), {name: [c_pair(part) for part in parts(fields, ";")] for name, fields in structs.items()}
 
 
 def c_pairs(name, kind):

@@ -46,15 +46,19 @@ static void configurations(void)
     expect("over the table", 7, reamertan_check_configuration(NULL, 0, changed));
 }
 
-/* A row with an even number of LDPC symbols is refused before all else. */
+/* A row with an even number of LDPC symbols is refused before all else. Those of the library are taken. */
 static void rows(void)
 {
     const struct reamertan_row next = {511, 800, 37, 10, 523}, even = {511, 800, 36, 10, 523};
     struct reamertan_handle none = REAMERTAN_HANDLE_INIT;
     uint8_t large[REAMERTAN_CONFIGURATION_BYTES], zeros[REAMERTAN_CONFIGURATION_BYTES] = {0};
+    size_t count = 0;
+    const struct reamertan_row *further = reamertan_further_rows(&count);
     memcpy(large, HEADER, sizeof large), large[3] = 3, large[4] = 232;
     expect("500 symbols", 7, reamertan_check_configuration(NULL, 0, large));
     expect("500 symbols and their row", 0, reamertan_check_configuration(&next, 1, large));
+    expect("500 symbols and all rows", 0, reamertan_check_configuration(further, count, large));
+    expect("the greatest row", 56403, (int)further[count - 1].extended_symbols);
     expect("derived", 19, reamertan_derive_configuration(&even, 1, 0, 0, 0, buffer));
     expect("checked", 19, reamertan_check_configuration(&even, 1, zeros));
     expect("sized", 19, reamertan_packets_length(&even, 1, zeros, 0, (uint64_t *)(void *)buffer));
@@ -151,6 +155,6 @@ int main(void)
     expect("one packet of two", 25, reamertan_decode(NULL, 0, HEADER, PACKETS, 6, buffer, 3));
     expect("no packet", 25, reamertan_decode(NULL, 0, HEADER, PACKETS, 0, buffer, 3));
     expect("another buffer", 24, reamertan_decode(NULL, 0, HEADER, PACKETS, 12, buffer, 2));
-    printf("%d calls answered otherwise than they may\n", failures);
+    printf("%d calls answered otherwise than they may, by the library for %s\n", failures, reamertan_processor());
     return failures != 0;
 }

@@ -31,6 +31,11 @@
  * machine has it. Where an x86-64 machine hasn't, glibc's loader starts no program that GNU's ld linked with the
  * library, but ends it with 127 and a line that says why. What is linked statically, or by another linker, runs until
  * a call ends it (SIGILL).
+ *
+ * `reamertan_processor`, `reamertan_answer_text` and `reamertan_further_rows` answer constants, so that a program in
+ * another language reads no header. They are written in C, and not proved. Any processor of the architecture runs
+ * them, so that a program may ask for the library's before it makes another call. What they point at is there as long
+ * as the library is loaded.
  */
 #ifndef REAMERTAN_H
 #define REAMERTAN_H
@@ -113,40 +118,14 @@ enum reamertan_answer {
     REAMERTAN_NO_CODER = 26
 };
 
-/* What a call answered, in words. */
-static inline const char *reamertan_answer_text(uint8_t answer)
-{
-    switch (answer) {
-    case REAMERTAN_DONE: return "done";
-    case REAMERTAN_TRANSFER_TOO_LONG: return "the object is too long";
-    case REAMERTAN_ALIGNMENT_ZERO: return "the symbol alignment is 0";
-    case REAMERTAN_MISALIGNED: return "the symbol alignment doesn't divide the symbol size";
-    case REAMERTAN_TOO_MANY_SYMBOLS: return "a source block has more than 56403 symbols";
-    case REAMERTAN_SYMBOL_SIZE_ZERO: return "the symbol size is 0";
-    case REAMERTAN_SOURCE_BLOCKS_ZERO: return "the number of source blocks is 0";
-    case REAMERTAN_BLOCK_OVER_TABLE: return "a source block has more symbols than the table's greatest row";
-    case REAMERTAN_WRONG_DATA_LENGTH: return "the object has another length than its configuration says";
-    case REAMERTAN_SINGULAR: return "a row of the table doesn't determine the intermediate symbols";
-    case REAMERTAN_ESI_TOO_LARGE: return "an encoding symbol id is above 16777215";
-    case REAMERTAN_PACKET_TOO_SHORT: return "a packet is shorter than its payload id";
-    case REAMERTAN_WRONG_PAYLOAD_SIZE: return "a packet's payload has another length than a symbol";
-    case REAMERTAN_UNKNOWN_BLOCK: return "the object has no such source block";
-    case REAMERTAN_PACKET_SIZE_ZERO: return "the packet size is 0";
-    case REAMERTAN_TRANSFER_LENGTH_ZERO: return "the object's length is 0";
-    case REAMERTAN_MEMORY_REQUIREMENT_TOO_SMALL: return "no row of the table fits the decoder's memory";
-    case REAMERTAN_TOO_MANY_BLOCKS: return "the object would need more than 255 source blocks";
-    case REAMERTAN_ROW_REFUSED: return "a row that is handed in fails a check";
-    case REAMERTAN_OUT_OF_MEMORY: return "there is no memory";
-    case REAMERTAN_CONTRADICTION: return "packets of a source block contradict each other";
-    case REAMERTAN_WRONG_BUFFER: return "the buffer has another length than what is to be written";
-    case REAMERTAN_INCOMPLETE: return "the packets don't determine it";
-    case REAMERTAN_NO_CODER: return "the handle holds no coder of this kind";
-    default: return "no answer of this version";
-    }
-}
+/* What a call answered, in words. Each number has a text, and those that are no answers have one in common. */
+const char *reamertan_answer_text(uint8_t answer);
 
 /* The version of the library that is linked or loaded: its REAMERTAN_VERSION. */
 uint32_t reamertan_version(void);
+
+/* The processor that the library was built for: "x86-64-v2", "x86-64-v3" or "aarch64". */
+const char *reamertan_processor(void);
 
 /* The numbers of a configuration. */
 struct reamertan_parameters {
@@ -184,6 +163,9 @@ struct reamertan_row {
     uint32_t hdpc_symbols;     /* H */
     uint32_t lt_symbols;       /* W */
 };
+
+/* The first of the rows of reamertan_rows.h, which lie one behind another. Writes how many there are. */
+const struct reamertan_row *reamertan_further_rows(size_t *count);
 
 /* Writes the configuration of an object of `object_length` bytes in packets of at most `packet_size`
  * bytes of payload, each of whose sub-blocks fits `decoder_memory` bytes (RFC 6330, 4.3).
