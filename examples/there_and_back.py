@@ -1,5 +1,5 @@
 #!/usr/bin/env python3
-"""Makes packets of a file, loses each tenth, and gets the file back, by the library for C and ctypes alone."""
+"""Makes packets of a file, loses each tenth, and gets the file back, by ctypes alone. Rows and texts are the library's."""
 import argparse
 import pathlib
 import sys
