@@ -1,7 +1,8 @@
 //! The proved codec beside the crate `raptorq` 2.0.1, in one process: on 2,000 random configurations,
 //! losses and orders, packets are equal byte for byte and both answer at the same packet. One in eight
 //! has blocks of more than 497 symbols. So are those of 2,000 blocks by themselves. On 2,000 lengths and packet sizes default configurations are
-//! equal. Then both take 400 packets that decide nothing, encode and decode, one block and 64, in turn, and
+//! equal. Then both encode blocks by a plan and further blocks of a size, take 400 packets that decide nothing, and encode
+//! and decode objects of one block and of 64, in turn, and
 //! the medians of the ratios of their times are printed (above 1 the proved one is faster).
 
 use std::hint::black_box;
@@ -205,6 +206,36 @@ fn measure_idle() {
     println!("{} packets that decide nothing: {taken:.2}", idle.len());
 }
 
+/// One block after another of so many symbols, by a plan that is handed in, and without one: a repair packet for
+/// each ten source symbols.
+fn measure_blocks(symbols: u16, size: u16) {
+    let data = Numbers(7).bytes(usize::from(symbols) * usize::from(size));
+    let repair = u32::from(symbols / 10);
+    let ours = proved::ObjectTransmissionInformation::new(0, size, 0, 1, 8);
+    let theirs = raptorq::ObjectTransmissionInformation::new(0, size, 0, 1, 8);
+    let our_plan = proved::SourceBlockEncodingPlan::generate(symbols);
+    let their_plan = raptorq::SourceBlockEncodingPlan::generate(symbols);
+    let planned = ratio(
+        || {
+            let block = proved::SourceBlockEncoder::with_encoding_plan(0, &ours, &data, &our_plan);
+            black_box(block.repair_packets(0, repair));
+        },
+        || {
+            let block = raptorq::SourceBlockEncoder::with_encoding_plan(0, &theirs, &data, &their_plan);
+            black_box(block.repair_packets(0, repair));
+        },
+    );
+    let again = ratio(
+        || {
+            black_box(proved::SourceBlockEncoder::new(0, &ours, &data).repair_packets(0, repair));
+        },
+        || {
+            black_box(raptorq::SourceBlockEncoder::new(0, &theirs, &data).repair_packets(0, repair));
+        },
+    );
+    println!("K = {symbols}, T = {size}: a block by a plan {planned:.2}, a further block of a size {again:.2}");
+}
+
 fn main() {
     let mut numbers = Numbers(2026);
     for number in 0..2_000 {
@@ -215,6 +246,11 @@ fn main() {
     println!("2000 configurations: the same packets, the same answers at the same packets");
     println!("2000 blocks: the same packets by a plan, the same answers, the same decoders equal");
     println!("2000 lengths and packet sizes: the same default configurations");
+    for size in [1280, 64] {
+        for symbols in [10, 101, 248, 497, 1002, 10120] {
+            measure_blocks(symbols, size);
+        }
+    }
     measure_idle();
     for size in [1280, 64] {
         for symbols in [10, 101, 248, 497, 1002, 10120] {
