@@ -1,9 +1,9 @@
 //! The proved codec beside the crate `raptorq` 2.0.1, in one process: on 2,000 random configurations,
 //! losses and orders, packets are equal byte for byte and both answer at the same packet. One in eight
-//! has blocks of more than 497 symbols. So are those of 2,000 blocks by themselves. On 2,000 lengths and packet sizes default configurations are
-//! equal. Then both encode blocks by a plan and further blocks of a size, take 400 packets that decide nothing, and encode
-//! and decode objects of one block and of 64, in turn, and
-//! the medians of the ratios of their times are printed (above 1 the proved one is faster).
+//! has blocks of more than 497 symbols. So are those of 2,000 blocks by themselves. On 2,000 lengths and
+//! packet sizes default configurations are equal. Then both encode blocks by a plan and further blocks of
+//! a size, take 400 packets that decide nothing, and encode and decode objects of one block and of 64, in
+//! turn, and the medians of the ratios of their times are printed (above 1 the proved one is faster).
 
 use std::hint::black_box;
 use std::time::Instant;
