@@ -18,8 +18,6 @@ const LIBRARY: &str = "libreamertan.a";
 const PKG_CONFIG: [&str; 3] = ["PKG_CONFIG", "PKG_CONFIG_PATH", "PKG_CONFIG_LIBDIR"];
 
 fn main() {
-    println!("cargo:rerun-if-changed=build.rs");
-    println!("cargo:rerun-if-changed=src/version.rs");
     println!("cargo:rerun-if-env-changed=REAMERTAN_LIB");
     // A feature of the manifest in the folder serde.
     println!("cargo:rustc-check-cfg=cfg(feature, values(\"serde\"))");
