@@ -21,9 +21,9 @@ use Rattle.raptorq.specs.declared.decoder.object.Decoder.{Decoder}
 use Rattle.raptorq.specs.declared.decoder.object.ObjectBlock.{ObjectBlock}
 use Rattle.raptorq.specs.BlockBytes.{bytes_of_block, object_part, answered_part, PartsMakeObject, IsPartAnswer, AnswersPart}
 use Rattle.raptorq.specs.Decoder.{answer_of, state_of, HoldsBlock}
-use Rattle.raptorq.specs.SourceBlockDecoder.{received_of}
+use Rattle.rq_block.specs.SourceBlockDecoder.{received_of}
 use Rattle.raptorq.proofs.EncodedBlocks.{bytes_of_block-byte}
-use Rattle.raptorq.proofs.Numbered.{length-numbered, numbered_at}
+use Rattle.rq_block.proofs.Numbered.{length-numbered, numbered_at}
 use Rattle.rq_standard.proofs.OptionValues.{is_some-mapped}
 use Rattle.raptorq.proofs.ObjectBlocks.{state, block_number, IsCut}
 

@@ -17,17 +17,19 @@ use Rattle.rq_standard.specs.ObjectPackets.{first_ids, AreEncoded}
 use Rattle.rq_standard.proofs.PlainCut.{length-block_bytes}
 use Rattle.rq_standard.proofs.StandingSteps.{length-block_source, AllByRecursion-append}
 use Rattle.rq_standard.proofs.BlockCuts.{block_symbols_few, symbols_before-first, symbols_before-next}
-use Rattle.raptorq.specs.SourceBlockEncodingPlan.{RefusesPlan}
+use Rattle.rq_block.specs.SourceBlockEncodingPlan.{RefusesPlan}
 use Rattle.raptorq.specs.BlockBytes.{bytes_of_block}
 use Rattle.raptorq.specs.BlockCutting.{from_block}
-use Rattle.raptorq.specs.Encoder.{Encoded, IsEncoderOf, IsPacketIn, no_block, packets_refusal}
-use Rattle.raptorq.proofs.Numbered.{mapped_through}
-use Rattle.raptorq.proofs.PlanLaws.{plan_refused}
-use Rattle.raptorq.proofs.NumberRanges.{flat_map-push}
-use Rattle.raptorq.specs.declared.encoder.block.SourceBlockEncoder.{SourceBlockEncoder}
-use Rattle.rq_base.specs.RefusedInput.{checked_configuration}
+use Rattle.raptorq.specs.Encoder.{Encoded, IsEncoderOf, IsPacketIn, no_block, packets_refusal, id_in}
+use Rattle.raptorq.specs.BlocksEncoded.{new_block_encoded}
+use Rattle.rq_block.proofs.Numbered.{mapped_through}
+use Rattle.rq_block.proofs.PlanLaws.{plan_refused}
+use Rattle.rq_block.proofs.NumberRanges.{flat_map-push}
+use Rattle.rq_block.specs.declared.encoder.block.SourceBlockEncoder.{SourceBlockEncoder}
+use Rattle.rq_base.specs.RefusedInput.{checked_configuration, new_id}
+use Rattle.rq_base.proofs.Accepted.{ok_of}
 use Rattle.raptorq.specs.Refused.{new_encoder, RefusesEncoder}
-use Rattle.raptorq.specs.SourceBlockEncoder.{BlockEncoded, block_encoded_of, IsBlockPacket, AreBlockPackets, new_block_encoded}
+use Rattle.rq_block.specs.SourceBlockEncoder.{BlockEncoded, block_encoded_of, IsBlockPacket, AreBlockPackets}
 
 -- ---- the bytes of a block
 
@@ -173,3 +175,12 @@ enough_ids c repair enough = elim (cases_lt (2 ^ 24) (block_symbols c 0 + repair
       absurd (cc (refused, enough))
   | inr few ↦ few
 ]
+
+-- ---- the id that was asked for
+
+-- where the object has its block, it is the id of the block's packet
+pub new_id-in : (c : Configuration) (n e : ℕ) (i : SymbolId) → i.block < c.source_blocks → e < 2 ^ 24 → n ≡ i.block → e ≡ i.esi → new_id n e ≡ id_in c i
+new_id-in c n e i below small number esi =
+    let new : new_id n e ≡ ok_of {X = SymbolId} (record { block = n; esi = e }) = rw (lt-ltb e (2 ^ 24) small) refl in
+    let known : id_in c i ≡ ok_of i = rw (lt-ltb i.block c.source_blocks below) refl in
+    new ∙ (λ j. ok_of {X = SymbolId} (record { block = number j; esi = esi j })) ∙ sym known

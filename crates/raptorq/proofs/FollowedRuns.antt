@@ -1,9 +1,9 @@
 -- A decoder that follows a list of packets refuses of the next one what is to be refused, and so of a whole list its first refusal.
-use Rattle.std.proofs.Common.{◌≡◌, ◌↔◌, ◌⊎◌, ℕ, ◌<◌, ◌≤◌, eqb, ltb, cond, Bool, true, false, length, List, [], ◌∷◌, ◌++◌, Result, Ok, Err, Option, Some, None, refl, sym, ap, ◌∙◌, subst, inl, inr, append_assoc, append-nil, eq-eqb, arith}
-use Rattle.std.specs.Prelude.{IsSome, IfErr, MatchResult, is_some, is_err, not}
+use Rattle.std.proofs.Common.{◌≡◌, ◌↔◌, ◌⊎◌, ℕ, ◌<◌, eqb, ltb, Bool, true, false, length, List, [], ◌∷◌, ◌++◌, Result, Ok, Err, Option, Some, None, refl, sym, ap, ◌∙◌, subst, inl, inr, append_assoc, append-nil, eq-eqb, arith}
+use Rattle.std.specs.Prelude.{IsSome, IfErr, MatchResult, is_some, is_err}
 use Rattle.std.proofs.lemmas.Bool.{cases_eq, ne_eqb, ltb-true}
 use Rattle.rq_bytes.specs.declared.error.Error.{Error}
-use Rattle.rq_bytes.specs.declared.error.Error.TheVariants.{OutOfMemory, Contradiction, UnknownBlock, WrongPayloadSize}
+use Rattle.rq_bytes.specs.declared.error.Error.TheVariants.{OutOfMemory, Contradiction}
 use Rattle.rq_bytes.specs.Refusals.{IsRefusal}
 use Rattle.rq_base.specs.RefusedInput.{checked_configuration}
 use Rattle.rq_standard.specs.declared.row.TableRow.{TableRow}
@@ -19,14 +19,11 @@ use Rattle.rq_standard.specs.Following.{FollowsRun, IsFirstAnswer}
 use Rattle.rq_standard.proofs.FirstAnswers.{IsAnsweredBy, can_more, first_stays, first_now, first_none}
 use Rattle.rq_standard.proofs.KnownIds.{none_determined}
 use Rattle.rq_standard.proofs.Contradictions.{contradictory-no_answer, received_later, received_meanwhile, contradicted_after, received_more, received_none}
+use Rattle.rq_block.proofs.TakenPackets.{packet_tests}
 use Rattle.raptorq.specs.Refused.{packet_refusal, IsPacketRefusal}
 use Rattle.raptorq.specs.Runs.{ContradictsReceived, IsNextRefusal, IsRefusalBehind, IsRunRefusal, AnswersRun}
 
 -- ---- the tests
-
--- what is refused of a packet by a test of its block, and then by one of its payload's size
-abbrev pub packet_tests : Bool → Bool → Result (Unit {0}) Error
-packet_tests b s = cond (not b) (Err UnknownBlock) (cond (not s) (Err WrongPayloadSize) (Ok tt))
 
 block_passes : (b s : Bool) → packet_tests b s ≡ Ok tt → b ≡ true
 block_passes true s h = refl
@@ -120,13 +117,16 @@ new_answers table c b shape = elim (cases_eq (block_symbols c b) 0) [
       subst (IsAnsweredBy table c b []) a ((λ _. inl (record { each = λ e below. absurd (omega (arith, none)) }), λ _. refl), λ _. first_none table c b shape.checked none)
   | inr some ↦
       let a : None ≡ new_answer c b = sym (rw (ne_eqb (block_symbols c b) 0 some) refl) in
-      subst (IsAnsweredBy table c b []) a ((
+      subst (IsAnsweredBy table c b []) a (
+        (
+          λ is. absurd (cc is),
+          λ can. absurd (elim can [
+            | inl all ↦ let first : false ≡ true = all.each 0 (omega (arith, some)) in cc first
+            | inr d ↦ none_determined (block_row table c b) (block_symbols c b) (omega (arith, some)) shape.fits d
+          ]),
+        ),
         λ is. absurd (cc is),
-        λ can. absurd (elim can [
-          | inl all ↦ let first : false ≡ true = all.each 0 (omega (arith, some)) in cc first
-          | inr d ↦ none_determined (block_row table c b) (block_symbols c b) (omega (arith, some)) shape.fits d
-        ]),
-      ), λ is. absurd (cc is))
+      )
 ]
 
 pub follows_no_packets : (table : List TableRow) (c : Configuration) (s : State) → ((b : ℕ) → b < c.source_blocks → IsReceivedOf table c b (new_received table c b)) → IsNewState table c s → FollowsRun table [] s

@@ -18,14 +18,14 @@ use Rattle.rq_standard.specs.DecoderState.{State, new_received, new_answer, IsNe
 use Rattle.rq_standard.specs.DecoderSteps.{AddsToBlock, RecordsInBlock, IsSameElsewhere, Adds, RecordsOnly}
 use Rattle.rq_standard.proofs.ObjectAnswers.{joined_some, joined_each}
 use Rattle.rq_standard.proofs.OptionValues.{is_some-mapped}
-use Rattle.raptorq.specs.SourceBlockDecoder.{received_of, solving_of}
-use Rattle.raptorq.specs.declared.decoder.last_outcome.LastOutcome.TheVariants.{Untried}
+use Rattle.rq_block.specs.SourceBlockDecoder.{received_of, solving_of}
+use Rattle.rq_block.specs.declared.decoder.last_outcome.LastOutcome.TheVariants.{Untried}
 use Rattle.raptorq.specs.Decoder.{received_at, answer_at, answer_of, IsBlockAt}
-use Rattle.raptorq.specs.Refused.{block_refusal}
+use Rattle.rq_block.specs.RefusedBlocks.{block_refusal}
 use Rattle.raptorq.specs.Stopping.{AddsHereOrStops, AddsOrStops}
-use Rattle.raptorq.specs.declared.decoder.packet_stop.PacketStop.{PacketStop}
-use Rattle.raptorq.specs.declared.decoder.packet_stop.PacketStop.TheVariants.{Refused, NotRecorded, NotSolved, Contradicted, NotJoined}
-use Rattle.raptorq.proofs.Numbered.{length-mapped, length-numbered, mapped_through}
+use Rattle.rq_block.specs.declared.decoder.packet_stop.PacketStop.{PacketStop}
+use Rattle.rq_block.specs.declared.decoder.packet_stop.PacketStop.TheVariants.{Refused, NotRecorded, NotSolved, Contradicted, NotJoined}
+use Rattle.rq_block.proofs.Numbered.{length-mapped, length-numbered, mapped_through}
 use Rattle.raptorq.specs.declared.decoder.object.ObjectBlock.{ObjectBlock}
 
 abbrev pub block_number : ObjectBlock → ℕ

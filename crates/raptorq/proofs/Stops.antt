@@ -11,11 +11,13 @@ use Rattle.rq_standard.specs.TableRows.{IsChecked}
 use Rattle.rq_standard.proofs.Contradictions.{keeps_added, keeps_recorded, keeps_same, honest_fits, no_more, received_more}
 use Rattle.rq_standard.proofs.StandingSteps.{stands_more, answers_late, leaves_late}
 use Rattle.raptorq.specs.Refused.{packet_refusal, IsPacketRefusal}
-use Rattle.raptorq.specs.Stopping.{StopsAsTested, AddsOrStops, AddsAndJoinsOrStops, refusal_of}
+use Rattle.raptorq.specs.Stopping.{StopsAsTested, AddsOrStops, AddsAndJoinsOrStops}
+use Rattle.rq_block.specs.PacketStops.{refusal_of}
 use Rattle.raptorq.specs.TakesPacket.{TakesPacket}
-use Rattle.raptorq.specs.declared.decoder.packet_stop.PacketStop.{PacketStop}
-use Rattle.raptorq.specs.declared.decoder.packet_stop.PacketStop.TheVariants.{Refused, NotRecorded, NotSolved, Contradicted, NotJoined}
-use Rattle.raptorq.proofs.FollowedRuns.{packet_tests, passes_below, taken_fits, follows_more, refused_next}
+use Rattle.rq_block.specs.declared.decoder.packet_stop.PacketStop.{PacketStop}
+use Rattle.rq_block.specs.declared.decoder.packet_stop.PacketStop.TheVariants.{Refused, NotRecorded, NotSolved, Contradicted, NotJoined}
+use Rattle.rq_block.proofs.TakenPackets.{packet_tests}
+use Rattle.raptorq.proofs.FollowedRuns.{passes_below, taken_fits, follows_more, refused_next}
 use Rattle.raptorq.proofs.Lists.{packet_refusal-packet}
 
 -- ---- what the tests say

@@ -15,11 +15,12 @@ use Rattle.rq_standard.proofs.BlockCuts.{pieces, pieces_same}
 use Rattle.rq_standard.proofs.DifferenceColumns.{zeros_solve, zeros_are_octets}
 use Rattle.rq_standard.proofs.OtherObjects.{is_difference}
 use Rattle.rq_standard.proofs.StandingSteps.{HasRow}
-use Rattle.raptorq.specs.SourceBlockDecoder.{received_of}
+use Rattle.rq_block.specs.SourceBlockDecoder.{received_of}
 use Rattle.raptorq.specs.Decoder.{received_at, answer_at}
-use Rattle.raptorq.specs.Difference.{ShowsUnanswered, octets_of_column}
+use Rattle.raptorq.specs.Unanswered.{ShowsUnanswered}
+use Rattle.rq_block.specs.Difference.{octets_of_column}
 use Rattle.raptorq.specs.declared.decoder.object.ObjectBlock.{ObjectBlock}
-use Rattle.raptorq.proofs.Numbered.{length-numbered, numbered_at, some_at}
+use Rattle.rq_block.proofs.Numbered.{length-numbered, numbered_at, some_at}
 use Rattle.raptorq.proofs.ObjectBlocks.{state, block_number, received_here}
 
 -- a block's bytes, by what was received of it

@@ -1,33 +1,15 @@
--- What is appended to bytes: symbols, and packets as frames.
+-- What is appended to bytes of an object: its packets as frames.
 use Rattle.std.specs.Prelude.{◌≡◌, ℕ, List, ◌++◌, length, Ok, Err}
 use Rattle.rq_bytes.specs.declared.error.Error.{Error}
 use Rattle.rq_standard.specs.declared.row.TableRow.{TableRow}
 use Rattle.rq_standard.specs.Configuration.{Configuration}
-use Rattle.rq_standard.specs.Headline.{HasNonsingularRows, IsEncodingSymbol}
+use Rattle.rq_standard.specs.Headline.{HasNonsingularRows}
 use Rattle.rq_standard.specs.ObjectPackets.{AreEncoded}
 use Rattle.rq_standard.specs.Packet.{Packet}
 use Rattle.rq_standard.specs.Streams.{frames_of}
 use Rattle.rq_standard.specs.TableRows.{greatest_size}
 use Rattle.raptorq.specs.Encoder.{packets_refusal}
 use Rattle.raptorq.specs.Refused.{new_encoder, RefusesEncoder}
-use Rattle.raptorq.specs.SourceBlockEncoder.{BlockEncoded, AreBlockPackets}
-
--- bytes stay, with others behind them
-pub record KeepsFront (old new : List ℕ) : Type 0 where
-  pub more : List ℕ
-  pub grown : new ≡ old ++ more
-
--- the encoding symbol of an id of a block stands behind bytes
-pub record AppendsSymbol (b : BlockEncoded) (esi : ℕ) (old new : List ℕ) : Type 0 where
-  pub payload : List ℕ
-  pub symbol : IsEncodingSymbol b.row b.size b.source esi payload
-  pub grown : new ≡ old ++ payload
-
--- the packets of the first n ids of a block stand behind bytes
-pub record AppendsBlock (b : BlockEncoded) (n : ℕ) (old new : List ℕ) : Type 0 where
-  pub packets : List Packet
-  pub are : AreBlockPackets b 0 n packets
-  pub grown : new ≡ old ++ frames_of packets
 
 -- the packets of an object, with `repair` repair packets a block, stand behind bytes
 pub record AppendsObject (table : List TableRow) (c : Configuration) (object : List ℕ) (repair : ℕ) (old new : List ℕ) : Type 0 where

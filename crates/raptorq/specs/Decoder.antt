@@ -7,9 +7,9 @@ use Rattle.rq_standard.specs.DecoderState.{State, result_of}
 use Rattle.rq_standard.specs.Standing.{AnswersObject, AnswersNothingElse, AnswersOnlyObject}
 use Rattle.raptorq.specs.declared.decoder.object.ObjectBlock.{ObjectBlock}
 use Rattle.raptorq.specs.declared.decoder.object.Decoder.{Decoder}
-use Rattle.raptorq.specs.declared.decoder.last_outcome.LastOutcome.TheVariants.{Untried}
-use Rattle.raptorq.specs.MissingPackets.{missing_in}
-use Rattle.raptorq.specs.SourceBlockDecoder.{Solving, received_of, solving_of}
+use Rattle.rq_block.specs.declared.decoder.last_outcome.LastOutcome.TheVariants.{Untried}
+use Rattle.raptorq.specs.Unanswered.{missing_in}
+use Rattle.rq_block.specs.SourceBlockDecoder.{Solving, received_of, solving_of}
 
 -- the answer of a block
 abbrev pub answer_of : ObjectBlock → Option (List ℕ)

@@ -11,7 +11,8 @@ use Rattle.rq_standard.specs.Packet.{SymbolId, Packet}
 use Rattle.rq_standard.specs.Headline.{IsPacketOf}
 use Rattle.rq_standard.specs.ObjectPackets.{AreEncoded}
 use Rattle.rq_standard.specs.Cutting.{block_symbols}
-use Rattle.raptorq.specs.SourceBlockEncoder.{BlockEncoded, block_encoded_of, new_block_encoded, slabs_of}
+use Rattle.rq_block.specs.SourceBlockEncoder.{BlockEncoded, block_encoded_of, slabs_of}
+use Rattle.raptorq.specs.BlocksEncoded.{new_block_encoded}
 use Rattle.raptorq.specs.declared.encoder.Encoder.{Encoder}
 
 -- how an object is cut, and what is encoded of each of its blocks

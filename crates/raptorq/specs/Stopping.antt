@@ -1,21 +1,12 @@
 -- What a decoder has done of a packet where its work stopped.
-use Rattle.std.specs.Prelude.{◌≡◌, ⊤, ℕ, List, Option, Result, Ok, Err}
+use Rattle.std.specs.Prelude.{◌≡◌, ℕ, List, Option, Result, Ok, Err}
 use Rattle.rq_bytes.specs.declared.error.Error.{Error}
-use Rattle.rq_bytes.specs.declared.error.Error.TheVariants.{OutOfMemory, Contradiction}
 use Rattle.rq_standard.specs.ReceivedBlock.{ReceivedBlock, IsContradictory}
 use Rattle.rq_standard.specs.Packet.{Packet}
 use Rattle.rq_standard.specs.DecoderState.{State, result_of}
 use Rattle.rq_standard.specs.DecoderSteps.{AddsToBlock, RecordsInBlock, Adds, RecordsOnly, Contradicts}
-use Rattle.raptorq.specs.declared.decoder.packet_stop.PacketStop.{PacketStop}
-use Rattle.raptorq.specs.declared.decoder.packet_stop.PacketStop.TheVariants.{Refused, NotRecorded, NotSolved, Contradicted, NotJoined}
-
--- what a caller sees of it
-abbrev pub refusal_of : PacketStop → Error
-refusal_of (Refused e) = e
-refusal_of NotRecorded = OutOfMemory
-refusal_of NotSolved = OutOfMemory
-refusal_of Contradicted = Contradiction
-refusal_of NotJoined = OutOfMemory
+use Rattle.rq_block.specs.declared.decoder.packet_stop.PacketStop.{PacketStop}
+use Rattle.rq_block.specs.declared.decoder.packet_stop.PacketStop.TheVariants.{Refused, NotRecorded, NotSolved, Contradicted, NotJoined}
 
 -- the packet is refused exactly where the tests refuse it
 abbrev pub StopsAsTested : {X : Type 0} → Result X PacketStop → Result (Unit {0}) Error → Type 0
@@ -25,22 +16,6 @@ StopsAsTested (Err NotSolved) tested = tested ≡ Ok tt
 StopsAsTested (Err Contradicted) tested = tested ≡ Ok tt
 StopsAsTested (Err NotJoined) tested = tested ≡ Ok tt
 StopsAsTested (Ok x) tested = tested ≡ Ok tt
-
--- a packet that isn't recorded is refused by the tests, or passes them and finds no memory
-abbrev pub StopsPacket : PacketStop → Result (Unit {0}) Error → Type 0
-StopsPacket (Refused e) tested = tested ≡ Err e
-StopsPacket NotRecorded tested = tested ≡ Ok tt
-StopsPacket NotSolved tested = ⊥
-StopsPacket Contradicted tested = ⊥
-StopsPacket NotJoined tested = ⊥
-
--- why what was received has no answer
-abbrev pub StopsAnswer : PacketStop → ReceivedBlock → Type 0
-StopsAnswer NotSolved h = ⊤
-StopsAnswer Contradicted h = IsContradictory h
-StopsAnswer NotRecorded h = ⊥
-StopsAnswer NotJoined h = ⊥
-StopsAnswer (Refused e) h = ⊥
 
 -- What a packet of a block did to what was received and to its answer: where it wasn't recorded, nothing; where the block wasn't solved
 -- or is contradictory, it is recorded.

@@ -7,30 +7,25 @@ ghost use Rattle.rq_standard.specs.Cutting.{block_symbols};
 ghost use Rattle.rq_standard.specs.Headline.{HasNonsingularRows};
 ghost use Rattle.rq_standard.specs.TableRows.{greatest_size};
 ghost use Rattle.raptorq.specs.BlockCutting.{RefusesRows};
-ghost use Rattle.raptorq.specs.SourceBlockEncoder.{block_encoded_of, blocks_encoded};
+ghost use Rattle.rq_block.specs.SourceBlockEncoder.{block_encoded_of};
+ghost use Rattle.raptorq.specs.BlocksEncoded.{blocks_encoded};
 
-mod block;
-mod block_cutter;
+mod blockwise_encoder;
 mod builder;
-mod cache;
 mod frames;
-mod plan;
 
 use crate::blocks::check_repair;
-pub use block::SourceBlockEncoder;
-use block_cutter::BlockCutter;
+use blockwise_encoder::BlockwiseEncoder;
 pub use builder::EncoderBuilder;
-pub use cache::SourceBlockEncodingPlanCache;
 pub use frames::{encode_all, packets_length};
-pub use plan::SourceBlockEncodingPlan;
 use rq_base::base::{EncodingPacket, ObjectTransmissionInformation, PayloadId};
+pub use rq_block::encoder::{
+    SPARSE_MATRIX_THRESHOLD, SourceBlockEncoder, SourceBlockEncodingPlan,
+    SourceBlockEncodingPlanCache,
+};
 use rq_bytes::error::Error;
 use rq_tables::systematic_constants::SystematicTable;
 use std::alloc::{AllocError, Global};
-
-/// From how many symbols of an extended source block (K') on blocks are solved over a sparse matrix:
-/// by plans and encoders always, and by decoders until another threshold is set.
-pub const SPARSE_MATRIX_THRESHOLD: u32 = 250;
 
 /// Makes the packets of an object.
 #[derive(Debug, PartialEq, Eq, Drop)]
@@ -176,7 +171,7 @@ fn block_encoders(
     ensures nonsingular { OnOk result (HasNonsingularRows table.now config.now) }
     ensures refused { IfErr result (RefusesRows table.now config.now) }
 {
-    let mut blocks = BlockCutter::new(alloc, table, object, config)?;
+    let mut blocks = BlockwiseEncoder::new(alloc, table, object, config)?;
     let mut encoders = Vec::with_capacity(alloc, usize::from(config.source_blocks()))?;
     for number in 0..config.source_blocks() {
         encoders.push(blocks.next_encoder(number)?)?;

@@ -9,12 +9,8 @@
 
 mod blocks;
 pub mod decoder;
-mod enc;
 pub mod encoder;
-mod ids;
 pub mod laws;
-mod solving;
-mod sub_blocks;
 
 pub use blocks::calculate_block_offsets;
 pub use decoder::{Decoder, SourceBlockDecoder};

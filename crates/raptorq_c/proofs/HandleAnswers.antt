@@ -22,7 +22,7 @@ use Rattle.raptorq_c.specs.declared.rows.Row.{Row}
 use Rattle.raptorq_c.specs.FurtherRows.{table_of}
 use Rattle.raptorq_c.specs.ObjectBuffers.{Answered, IsFilled, IsRefused, IsDecoded, IsDecodingRefusal, IsPacketsRefusal, frames_refusal, packets_in}
 use Rattle.raptorq.specs.Decoder.{IsAnswerOf}
-use Rattle.raptorq.proofs.FollowedRuns.{packet_tests}
+use Rattle.rq_block.proofs.TakenPackets.{packet_tests}
 use Rattle.raptorq_c.specs.Handles.{bytes_refusal, FillsWithAnswer, FillsWithBlock, IsAdded, IsPartOf, IsTakenNumber, StaysUnread, TakesRead}
 use Rattle.raptorq_c.specs.Numbers.{number_of, refusal_number}
 use Rattle.raptorq_c.proofs.Ending.{code_positive, code_no_call, is_memory, is_stopped}

@@ -14,7 +14,8 @@ use Rattle.rq_base.specs.RefusedInput.{new_id, read_packet}
 use Rattle.raptorq.specs.BlockBytes.{answered_part, AnswersPart, PartsMakeObject}
 use Rattle.raptorq.specs.Decoder.{state_of, IsAnswerOf}
 use Rattle.raptorq.specs.Encoder.{Encoded, encoded_of, id_in, IsEncoderOf, IsPacketIn}
-use Rattle.raptorq.specs.MissingPackets.{NeedsMore, TellsMissingOf}
+use Rattle.rq_block.specs.MissingPackets.{NeedsMore}
+use Rattle.raptorq.specs.Unanswered.{TellsMissingOf}
 use Rattle.raptorq.specs.Refused.{new_encoder, packet_refusal, RefusesEncoder}
 use Rattle.raptorq.specs.TakesPacket.{TakesPacket}
 use Rattle.raptorq_c.specs.ObjectBuffers.{Answered, IsFilled, IsRefused}

@@ -2,7 +2,6 @@
 #![tactic(auto)]
 
 pub mod error;
-pub mod factor;
 pub mod gf2;
 mod half_products;
 mod logarithms;
@@ -14,6 +13,7 @@ pub mod products;
 mod range_doublings;
 mod range_multiples;
 mod range_sums;
+pub mod row_multiples;
 pub mod slices;
 pub mod symbol;
 pub mod symbol_slab;

@@ -10,9 +10,9 @@ ghost use Rattle.rq_standard.specs.Rows.{row_sum, row_multiple};
 ghost use Rattle.rq_bytes.specs.Refusals.{IsAnswer};
 
 use crate::error::Error;
-use crate::factor::{add_row_multiple, multiply_row};
 use crate::octet::Octet;
 use crate::octets::add_assign;
+use crate::row_multiples::{add_row_multiple, multiply_row};
 use std::alloc::{AllocError, Global};
 use std::cmp::Ordering;
 use std::hash::{Hash, Hasher};

@@ -17,10 +17,10 @@ mod multiples;
 mod sums;
 
 use crate::error::Error;
-use crate::factor::{add_row_multiple, multiply_row};
 use crate::marks::marks_of;
 use crate::octet::Octet;
 use crate::octets;
+use crate::row_multiples::{add_row_multiple, multiply_row};
 use crate::slices::range;
 use crate::symbol::{Symbol, zeros};
 use crate::util::{get_range_pair, swap_ranges};

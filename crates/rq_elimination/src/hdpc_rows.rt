@@ -10,9 +10,9 @@ ghost use Rattle.rq_elimination.specs.HdpcRows.{octet_in, AreInColumn};
 
 use crate::entries::whole_vectors;
 use rq_bytes::error::Error;
-use rq_bytes::factor::add_row_multiple;
 use rq_bytes::octet::Octet;
 use rq_bytes::octets::are_octets;
+use rq_bytes::row_multiples::add_row_multiple;
 use rq_parts::octet_matrix::DenseOctetMatrix;
 use std::alloc::Global;
 use std::marker::Model;

@@ -46,7 +46,7 @@ impl RecordedOperations {
     }
 
     /// The operations one by one, as the Rust crate records them.
-    pub fn into_operations(self) -> Result<Vec<SymbolOps>, Error>
+    pub fn into_symbol_ops(self) -> Result<Vec<SymbolOps>, Error>
         ensures operations { IfOk result (λ operations. map operation_of operations.items ≡ operations_of self) }
         ensures err { IfErr result (λ e. e ≡ OutOfMemory) }
     {

@@ -6,10 +6,10 @@ ghost use Rattle.rq_bytes.specs.Refusals.{IsAnswer};
 ghost use Rattle.rq_parts.specs.DenseOctetMatrix.{HasOctets, row_at, with_row, sum_from, columns_swapped};
 
 use rq_bytes::error::Error;
-use rq_bytes::factor::{add_row_multiple, multiply_row};
 use rq_bytes::octet::Octet;
 use rq_bytes::octets;
 use rq_bytes::octets::BinaryOctetVec;
+use rq_bytes::row_multiples::{add_row_multiple, multiply_row};
 use rq_bytes::symbol_slab::SymbolSlab;
 use std::alloc::{AllocError, Global};
 use std::marker::Model;

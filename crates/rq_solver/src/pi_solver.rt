@@ -11,11 +11,11 @@ ghost use Rattle.rq_solver.specs.Solving.{AreEquations, AreEquationsWithoutHdpc,
 mod elimination;
 mod first_phase;
 mod fourth_phase;
-mod null_vector;
 mod phase_operations;
 mod phases;
 mod second_phase;
 mod solved;
+mod stuck_column;
 
 use phase_operations::PhaseOperations;
 use phases::run_phases;
@@ -201,11 +201,11 @@ impl<T: BinaryMatrix> IntermediateSymbolDecoder<T> {
         };
         let found = self.solve_equations()?;
         self.counts = found.counts();
-        let Some(operations) = found.into_operations() else {
+        let Some(operations) = found.in_row_order() else {
             return Ok(None);
         };
         operations.replay(&mut symbols)?;
-        Ok(Some((symbols, operations.into_operations()?)))
+        Ok(Some((symbols, operations.into_symbol_ops()?)))
     }
 
     /// The operations that find the solution of the equations from any symbols, where those that
@@ -218,7 +218,7 @@ impl<T: BinaryMatrix> IntermediateSymbolDecoder<T> {
     {
         let alloc = self.alloc;
         let found = run_phases(alloc, self.into_system()?)?;
-        Ok(found.into_operations())
+        Ok(found.in_row_order())
     }
 
     /// The operations as [`into_operations`](Self::into_operations) finds them, and a column that shows

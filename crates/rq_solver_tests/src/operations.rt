@@ -66,7 +66,7 @@ fn recorded_operations_are_copied(rt: HostRuntime) -> Result<(), Error> {
 
 #[test]
 fn recorded_operations_are_listed(rt: HostRuntime) -> Result<(), Error> {
-    let operations = recorded_operations(rt.alloc())?.clone()?.into_operations()?;
+    let operations = recorded_operations(rt.alloc())?.clone()?.into_symbol_ops()?;
     let order = vec![in rt.alloc(); 2, 0, 1]?;
     let expected = [
         SymbolOps::AddAssign { dest: 0, src: 1 },

@@ -10,13 +10,11 @@ ghost use Rattle.rq_standard.specs.Following.{FollowsRun, IsAnswerAfter};
 ghost use Rattle.raptorq.specs.Runs.{packets_of, AnswersRun, RefusesConfiguration};
 ghost use Rattle.rq_standard.specs.TableRows.{greatest_size};
 ghost use Rattle.rq_base.specs.RefusedInput.{checked_configuration};
-ghost use Rattle.raptorq.specs.SourceBlockDecoder.{received_of, solving_of};
+ghost use Rattle.rq_block.specs.SourceBlockDecoder.{received_of, solving_of};
 
 use crate::blocks::{block_symbols, symbols_before};
-use crate::decoder::block::SourceBlockDecoder;
-use crate::decoder::packet_stop::PacketStop;
-use crate::decoder::payloads::check_size;
 use rq_base::base::{EncodingPacket, ObjectTransmissionInformation};
+use rq_block::decoder::{PacketStop, SourceBlockDecoder, check_size};
 use rq_bytes::error::Error;
 use rq_tables::systematic_constants::SystematicTable;
 use std::alloc::{AllocError, Global};
@@ -30,12 +28,13 @@ struct ObjectBlock {
 }
 
 impl ObjectBlock {
-    ghost use Rattle.raptorq.specs.Difference.{ShowsUnanswered};
+    ghost use Rattle.raptorq.specs.Unanswered.{ShowsUnanswered};
     ghost use Rattle.rq_standard.specs.DecoderState.{IsReceivedOf, new_received, new_answer};
     ghost use Rattle.raptorq.specs.Stopping.{AddsHereOrStops};
     ghost use Rattle.raptorq.specs.Decoder.{answer_of};
-    ghost use Rattle.raptorq.specs.MissingPackets.{NeedsMore, TellsMissingOf, missing_in};
-    ghost use Rattle.raptorq.specs.Refused.{block_refusal};
+    ghost use Rattle.rq_block.specs.MissingPackets.{NeedsMore};
+    ghost use Rattle.raptorq.specs.Unanswered.{TellsMissingOf, missing_in};
+    ghost use Rattle.rq_block.specs.RefusedBlocks.{block_refusal};
 
     // A block that has no packets. It is answered where it has no symbols.
     fn new(
@@ -141,9 +140,10 @@ impl Decoder {
     ghost use Rattle.std.specs.Option.{option_copied};
     ghost use Rattle.raptorq.specs.BlockBytes.{answered_part, AnswersPart};
     ghost use Rattle.raptorq.specs.TakesPacket.{TakesPacket};
-    ghost use Rattle.raptorq.specs.Decoding.{answer_bytes};
+    ghost use Rattle.rq_block.specs.Decoding.{answer_bytes};
     ghost use Rattle.raptorq.specs.Stopping.{StopsAsTested, AddsOrStops, AddsAndJoinsOrStops};
-    ghost use Rattle.raptorq.specs.MissingPackets.{NeedsMore, TellsMissingOf};
+    ghost use Rattle.rq_block.specs.MissingPackets.{NeedsMore};
+    ghost use Rattle.raptorq.specs.Unanswered.{TellsMissingOf};
     ghost use Rattle.raptorq.specs.Refused.{packet_refusal};
     ghost use Rattle.raptorq.specs.Decoder.{state_of, solving_at, missing_of, IsAnswerOf, IsBlockAt};
 

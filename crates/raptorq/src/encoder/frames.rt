@@ -2,12 +2,13 @@
 ghost use Rattle.std.specs.Prelude.{◌≡◌, ◌<◌, length, Ok, Err, IfOk, IfErr, OnOk, OnErr};
 ghost use Rattle.rq_standard.specs.Configuration.{largest_block};
 ghost use Rattle.rq_standard.specs.Headline.{HasNonsingularRows};
-ghost use Rattle.raptorq.specs.Appended.{AppendsObject, KeepsFront, RefusesPackets};
+ghost use Rattle.raptorq.specs.Appended.{AppendsObject, RefusesPackets};
+ghost use Rattle.rq_block.specs.AppendedBlock.{KeepsFront};
 ghost use Rattle.raptorq.specs.BlockCutting.{AppendsBlocks, RefusesRows};
 ghost use Rattle.raptorq.specs.Encoder.{packets_length, packets_refusal};
 
 use crate::blocks::check_repair;
-use crate::encoder::block_cutter::BlockCutter;
+use crate::encoder::blockwise_encoder::BlockwiseEncoder;
 use rq_base::base::ObjectTransmissionInformation;
 use rq_bytes::error::Error;
 use rq_tables::systematic_constants::SystematicTable;
@@ -36,7 +37,7 @@ pub fn encode_all(
     if object.len() as u64 != config.transfer_length() {
         return Err(Error::WrongDataLength);
     }
-    let mut blocks = BlockCutter::new(alloc, table, object, config)?;
+    let mut blocks = BlockwiseEncoder::new(alloc, table, object, config)?;
     let length = match packets_length(config, repair_packets_per_block) {
         Ok(length) => length,
         Err(refusal) => {
@@ -55,7 +56,11 @@ pub fn encode_all(
 }
 
 // Appends the packets of all blocks of an object.
-fn append_blocks(mut blocks: BlockCutter<'_>, repair: u32, bytes: &mut Vec<u8>) -> Result<(), Error>
+fn append_blocks(
+    mut blocks: BlockwiseEncoder<'_>,
+    repair: u32,
+    bytes: &mut Vec<u8>,
+) -> Result<(), Error>
     requires { packets_refusal blocks.config.now repair ≡ Ok tt }
     ensures packets { OnOk result (AppendsBlocks blocks.entry repair bytes.old.items bytes.new.items) }
     ensures nonsingular { OnOk result (HasNonsingularRows blocks.entry.table.now blocks.entry.config.now) }

@@ -61,7 +61,8 @@ fn the_first_threshold(rt: HostRuntime) {
     same!(rt; SPARSE_MATRIX_THRESHOLD, 250);
 }
 
-// No clause speaks of the threshold, so no proof sees a clone that begins with the first one again.
+// A `set_sparse_threshold` that does nothing meets its contract, which says what stays. `==` sees the
+// threshold.
 #[test]
 fn a_clone_keeps_the_threshold(rt: HostRuntime) -> Result<(), Error> {
     let mut decoder = block_decoder(rt.alloc(), (10, 1, 1, 1, 1))?;

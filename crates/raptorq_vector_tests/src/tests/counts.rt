@@ -78,7 +78,7 @@ fn listed_operations(
     let found = first_solver(alloc, table, 497)?.into_operations()?;
     found
         .expect(rt, "the first ids determine the block")
-        .into_operations()
+        .into_symbol_ops()
 }
 
 // Few for the greatest block of the built-in table, by the solver's own count and in the list.

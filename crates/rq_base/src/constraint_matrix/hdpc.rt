@@ -6,8 +6,8 @@ ghost use Rattle.rq_base.specs.HdpcPart.{IsHdpcPart, IsHdpcColumn, IsFilledFrom}
 
 use crate::indices::sum_modulo;
 use rq_bytes::error::Error;
-use rq_bytes::factor::multiply_row;
 use rq_bytes::octet::Octet;
+use rq_bytes::row_multiples::multiply_row;
 use rq_parts::octet_matrix::DenseOctetMatrix;
 use rq_tables::rng::rand;
 use rq_tables::systematic_constants::CheckedRow;

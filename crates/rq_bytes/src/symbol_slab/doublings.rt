@@ -4,9 +4,9 @@ ghost use Rattle.rq_algebra.specs.Operations.{AddAssign, MulAssign};
 ghost use Rattle.rq_bytes.specs.SymbolSlab.{after_all, Allows};
 
 use super::SymbolSlab;
-use crate::factor::double_and_add;
 use crate::octets::are_octets;
 use crate::range_doublings::double_add_and_spread;
+use crate::row_multiples::double_and_add;
 
 impl SymbolSlab {
     /// Multiplies a symbol by 2, adds another one to it, and then adds it to several others: in one

@@ -9,9 +9,9 @@ ghost use Rattle.rq_elimination.specs.InactiveEntries.{place_before, entry_row, 
 ghost use Rattle.rq_standard.specs.Rows.{row_sum, row_multiple};
 
 use rq_bytes::error::Error;
-use rq_bytes::factor::{add_row_multiple, multiply_row};
 use rq_bytes::octet::Octet;
 use rq_bytes::octets::{add_bit_multiples, are_octets};
+use rq_bytes::row_multiples::{add_row_multiple, multiply_row};
 use rq_bytes::symbol_slab::SymbolSlab;
 use rq_parts::bit_rows::BitRows;
 use rq_parts::octet_matrix::DenseOctetMatrix;

@@ -31,7 +31,7 @@ impl PhaseOperations {
     }
 
     /// The operations that take values of the rows to the column that solves the rows with them.
-    pub(super) fn into_operations(self) -> Option<RecordedOperations>
+    pub(super) fn in_row_order(self) -> Option<RecordedOperations>
         ensures { option_map operations_of result ≡ in_row_order self }
     {
         let PhaseOperations {

@@ -29,7 +29,7 @@ pub(super) fn solve_system(alloc: Global, system: System) -> Result<Solved, Erro
 {
     let (elimination, order) = Elimination::of_system(alloc, system)?;
     let Some(order) = order else {
-        let column = elimination.null_vector(alloc).ok();
+        let column = elimination.stuck_column(alloc).ok();
         return Ok(Solved::Undetermined(column));
     };
     let Elimination { recorded, .. } = elimination;

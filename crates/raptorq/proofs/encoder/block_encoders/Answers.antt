@@ -1,9 +1,10 @@
 use Rattle.std.proofs.Common.{ap, map, ◌∙◌, arith}
 use borrow.Author.Count.{below_more}
 use Rattle.rq_standard.specs.Headline.{block_row, IsNonsingular}
-use Rattle.raptorq.specs.SourceBlockEncoder.{block_encoded_of, new_block_encoded}
+use Rattle.rq_block.specs.SourceBlockEncoder.{block_encoded_of}
+use Rattle.raptorq.specs.BlocksEncoded.{new_block_encoded}
 use Rattle.raptorq.proofs.EncodedBlocks.{from_first}
-use Rattle.raptorq.proofs.Numbered.{mapped_more}
+use Rattle.rq_block.proofs.Numbered.{mapped_more}
 use Rattle.raptorq.proofs.encoder.block_encoders.Goals as goal
 
 pub loop-number-init : goal.loop-number-init

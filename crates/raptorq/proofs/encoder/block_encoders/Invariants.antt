@@ -2,7 +2,8 @@ use Rattle.std.proofs.Common.{◌≡◌, ℕ, ◌<◌, map}
 use Rattle.std.specs.List.{range_with_len}
 use Rattle.rq_standard.specs.Headline.{IsNonsingular, block_row}
 use Rattle.raptorq.specs.BlockCutting.{StandsBefore}
-use Rattle.raptorq.specs.SourceBlockEncoder.{block_encoded_of, new_block_encoded}
+use Rattle.rq_block.specs.SourceBlockEncoder.{block_encoded_of}
+use Rattle.raptorq.specs.BlocksEncoded.{new_block_encoded}
 use Rattle.raptorq.proofs.encoder.block_encoders.Given as goal
 
 -- the blocks so far

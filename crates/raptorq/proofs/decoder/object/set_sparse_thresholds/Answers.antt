@@ -1,6 +1,6 @@
 use Rattle.std.proofs.Common.{refl, ◌∙◌, option_map, vec_items}
 use Rattle.std.proofs.Math.Seq.{map-set_same}
-use Rattle.raptorq.specs.SourceBlockDecoder.{received_of}
+use Rattle.rq_block.specs.SourceBlockDecoder.{received_of}
 use Rattle.raptorq.proofs.decoder.object.set_sparse_thresholds.Goals as goal
 
 pub loop-block-init : goal.loop-block-init

@@ -1,5 +1,5 @@
 use Rattle.std.proofs.Common.{◌≡◌, map, option_map, vec_items}
-use Rattle.raptorq.specs.SourceBlockDecoder.{received_of}
+use Rattle.rq_block.specs.SourceBlockDecoder.{received_of}
 use Rattle.raptorq.proofs.decoder.object.set_sparse_thresholds.Given as goal
 
 -- what the blocks hold, and their answers

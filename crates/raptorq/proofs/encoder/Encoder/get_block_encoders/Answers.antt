@@ -1,9 +1,9 @@
 use Rattle.std.proofs.Common.{ap, ◌∙◌, map}
 use Rattle.std.proofs.lemmas.List.{length-map}
-use Rattle.raptorq.specs.SourceBlockEncoder.{block_encoded_of}
+use Rattle.rq_block.specs.SourceBlockEncoder.{block_encoded_of}
 use Rattle.raptorq.specs.Encoder.{no_block}
 use Rattle.raptorq.proofs.EncodedBlocks.{encoder_number, by_places}
-use Rattle.raptorq.proofs.Numbered.{length-numbered}
+use Rattle.rq_block.proofs.Numbered.{length-numbered}
 use Rattle.raptorq.proofs.encoder.Encoder.get_block_encoders.Goals as goal
 
 pub returns : goal.returns

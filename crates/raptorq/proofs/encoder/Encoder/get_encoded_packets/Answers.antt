@@ -4,10 +4,10 @@ use Rattle.std.specs.declared.alloc.AllocError.{AllocError}
 use Rattle.std.proofs.lemmas.Iterator.Adapters.{YieldsList-from_vec, fact_from_extend}
 use Rattle.rq_standard.specs.Cutting.{block_symbols}
 use Rattle.rq_standard.proofs.BlockCuts.{first_is_largest}
-use Rattle.raptorq.specs.SourceBlockEncoder.{block_encoded_of}
+use Rattle.rq_block.specs.SourceBlockEncoder.{block_encoded_of}
 use Rattle.raptorq.specs.Encoder.{encoded_of}
 use Rattle.raptorq.proofs.EncodedBlocks.{encoder_number, source_count, encoded_more, encoded_all, enough_ids, block_at}
-use Rattle.raptorq.proofs.Numbered.{IsTurn, turn_of, length-numbered, mapped_at, numbered_at}
+use Rattle.rq_block.proofs.Numbered.{IsTurn, turn_of, length-numbered, mapped_at, numbered_at}
 use Rattle.raptorq.proofs.encoder.Encoder.get_encoded_packets.Goals as goal
 use Rattle.raptorq.proofs.encoder.Encoder.get_encoded_packets.Goals.{After-source_symbol_count}
 

@@ -1,10 +1,11 @@
 use Rattle.std.proofs.Common.{◌≡◌, length, refl, sym, ◌∙◌}
 use Rattle.std.proofs.lemmas.Result.{err_from_is_err_and}
 use Rattle.rq_standard.specs.TableRows.{greatest_size}
-use Rattle.raptorq.specs.SourceBlockEncoder.{block_encoded_of, new_block_encoded}
+use Rattle.rq_block.specs.SourceBlockEncoder.{block_encoded_of}
+use Rattle.raptorq.specs.BlocksEncoded.{new_block_encoded}
 use Rattle.raptorq.specs.Encoder.{no_block}
 use Rattle.raptorq.proofs.EncodedBlocks.{new_encoder-taken, refuses_singular, new_counts, new_block}
-use Rattle.raptorq.proofs.Numbered.{new_numbers}
+use Rattle.rq_block.proofs.Numbered.{new_numbers}
 use Rattle.raptorq.proofs.encoder.Encoder.new.Goals as goal
 
 pub returns-in_err-blocks-clause-refused : goal.returns-in_err-blocks-clause-refused

@@ -2,10 +2,10 @@ use Rattle.std.proofs.Common.{◌<◌, length, ◌∙◌, subst, arith}
 use Rattle.std.proofs.lemmas.Result.{IfOk-weaker}
 use Rattle.rq_bytes.specs.Refusals.{IsAnswer}
 use Rattle.raptorq.specs.Encoder.{encoded_of}
-use Rattle.raptorq.specs.SourceBlockEncoder.{block_encoded_of}
+use Rattle.rq_block.specs.SourceBlockEncoder.{block_encoded_of}
 use Rattle.raptorq.proofs.EncodedBlocks.{encoder_number, block_at, packet_in}
-use Rattle.raptorq.proofs.Encodes.{new_id-in}
-use Rattle.raptorq.proofs.Numbered.{length-numbered, numbered_at}
+use Rattle.raptorq.proofs.EncodedBlocks.{new_id-in}
+use Rattle.rq_block.proofs.Numbered.{length-numbered, numbered_at}
 use Rattle.raptorq.proofs.encoder.Encoder.packet.Goals as goal
 use Rattle.raptorq.proofs.encoder.Encoder.packet.Goals.{After-from}
 

@@ -1,8 +1,8 @@
 use Rattle.std.proofs.Common.{◌≡◌, List, length, get_or, map, ap, ◌∙◌}
-use Rattle.raptorq.specs.SourceBlockEncoder.{BlockEncoded, block_encoded_of, slabs_of}
+use Rattle.rq_block.specs.SourceBlockEncoder.{BlockEncoded, block_encoded_of, slabs_of}
 use Rattle.raptorq.specs.Encoder.{Encoded, no_block}
-use Rattle.raptorq.proofs.Numbered.{mapped_through}
-use Rattle.raptorq.proofs.PlanLaws.{map-clones}
+use Rattle.rq_block.proofs.Numbered.{mapped_through}
+use Rattle.rq_block.proofs.PlanLaws.{map-clones}
 use Rattle.raptorq.proofs.encoder.EncoderClone.clone.Goals as goal
 use Rattle.raptorq.proofs.encoder.EncoderClone.clone.Goals.{In_ok-clone}
 

@@ -4,8 +4,9 @@ use Rattle.std.proofs.lemmas.Result.{err_from_is_err_and}
 use Rattle.rq_standard.specs.Headline.{block_row, IsNonsingular}
 use Rattle.rq_standard.proofs.BlockCuts.{first_is_largest}
 use Rattle.rq_standard.specs.Cutting.{block_symbols}
-use Rattle.raptorq.specs.SourceBlockEncoder.{block_encoded_of}
-use Rattle.raptorq.proofs.AppendedBlocks.{extends_more, so_far-all, so_far-extends, so_far-more}
+use Rattle.rq_block.specs.SourceBlockEncoder.{block_encoded_of}
+use Rattle.rq_block.proofs.AppendedPackets.{extends_more}
+use Rattle.raptorq.proofs.AppendedBlocks.{so_far-all, so_far-extends, so_far-more}
 use Rattle.raptorq.proofs.EncodedBlocks.{enough_ids}
 use Rattle.raptorq.proofs.encoder.frames.append_blocks.Goals as goal
 

@@ -11,15 +11,15 @@ use Rattle.rq_solver.proofs.pi_solver.IntermediateSymbolDecoder.execute.Goals as
 pub replay-requires : goal.replay-requires
 replay-requires g c =
     let solver = c.args.self.now in
-    let operations = operations_of c.in-Some-into_operations.operations in
-    let finds = rw c.in-Some-into_operations.is at (recorded_found c.in_ok-found.found _ _ _ c.into_operations.result c.in_ok-found.ensures.found c.into_operations.ensures) in
+    let operations = operations_of c.in-Some-in_row_order.operations in
+    let finds = rw c.in-Some-in_row_order.is at (recorded_found c.in_ok-found.found _ _ _ c.in_row_order.result c.in_ok-found.ensures.found c.in_row_order.ensures) in
     let handed = c.in-Some.symbols in
     let some = sym c.in-Some.ensures.value in
     subst (λ o. AreAllowed (length handed.values) o operations) (sym (solver.unordered handed some)) (subst (λ n. AreAllowed n None operations) (sym (solver.counted handed some)) finds.allowed)
 
-pub returns-in_default-into_operations-clause-solved : goal.returns-in_default-into_operations-clause-solved
-returns-in_default-into_operations-clause-solved g c =
-    if_some c.args.self.now.symbols c.in-Some.symbols _ (sym c.in-Some.ensures.value) (rw c.in_default-into_operations.is at (recorded_found c.in_ok-found.found _ _ _ c.into_operations.result c.in_ok-found.ensures.found c.into_operations.ensures))
+pub returns-in_default-in_row_order-clause-solved : goal.returns-in_default-in_row_order-clause-solved
+returns-in_default-in_row_order-clause-solved g c =
+    if_some c.args.self.now.symbols c.in-Some.symbols _ (sym c.in-Some.ensures.value) (rw c.in_default-in_row_order.is at (recorded_found c.in_ok-found.found _ _ _ c.in_row_order.result c.in_ok-found.ensures.found c.in_row_order.ensures))
 
 pub returns-clause-solved : goal.returns-clause-solved
 returns-clause-solved g c =
@@ -27,20 +27,20 @@ returns-clause-solved g c =
     let m = g.T.BinaryMatrix.content solver.matrix in
     let rows = with_octet_rows solver.first_hdpc (length solver.hdpc.rows) m.bit (entry_of solver.hdpc) in
     let handed = c.in-Some.symbols in
-    let operations = operations_of c.in-Some-into_operations.operations in
-    let finds = rw c.in-Some-into_operations.is at (recorded_found c.in_ok-found.found _ _ _ c.into_operations.result c.in_ok-found.ensures.found c.into_operations.ensures) in
+    let operations = operations_of c.in-Some-in_row_order.operations in
+    let finds = rw c.in-Some-in_row_order.is at (recorded_found c.in_ok-found.found _ _ _ c.in_row_order.result c.in_ok-found.ensures.found c.in_row_order.ensures) in
     if_some solver.symbols handed _ (sym c.in-Some.ensures.value)
-    (rw c.in_ok-into_operations.ensures.operations
+    (rw c.in_ok-into_symbol_ops.ensures.operations
     (is_solution m.height m.width rows operations finds handed _ (solver.unordered handed (sym c.in-Some.ensures.value)) (c.symbols-2.view_is ∙ c.in_ok-replay.ensures.ok)))
 
-pub returns-in_default-into_operations-clause-counted : goal.returns-in_default-into_operations-clause-counted
-returns-in_default-into_operations-clause-counted g c =
+pub returns-in_default-in_row_order-clause-counted : goal.returns-in_default-in_row_order-clause-counted
+returns-in_default-in_row_order-clause-counted g c =
     let a = c.counts-self.ensures.additions_are in
     let m = c.counts-self.ensures.multiplications_are in
     record {
       found = c.in_ok-found.found;
       runs = c.in_ok-found.ensures.phases;
-      answers = rw c.in_default-into_operations.is at c.into_operations.ensures;
+      answers = rw c.in_default-in_row_order.is at c.in_row_order.ensures;
       in_order = c.in_ok-found.found.in_order;
       added = by_phases _ _ _ _ _ _ a.first a.second a.fourth;
       multiplied = by_phases _ _ _ _ _ _ m.first m.second m.fourth;
@@ -51,13 +51,13 @@ returns-in_default-into_operations-clause-counted g c =
 pub returns-clause-counted : goal.returns-clause-counted
 returns-clause-counted g c =
     let found = c.in_ok-found.found in
-    let totals = recorded_totals found c.counts-self.result c.into_operations.result c.in-Some-into_operations.operations c.counts-self.ensures c.in-Some-into_operations.is c.into_operations.ensures in
+    let totals = recorded_totals found c.counts-self.result c.in_row_order.result c.in-Some-in_row_order.operations c.counts-self.ensures c.in-Some-in_row_order.is c.in_row_order.ensures in
     let a = c.counts-self.ensures.additions_are in
     let m = c.counts-self.ensures.multiplications_are in
-    rw c.in_ok-into_operations.ensures.operations (record {
+    rw c.in_ok-into_symbol_ops.ensures.operations (record {
       found = found;
       runs = c.in_ok-found.ensures.phases;
-      answers = rw c.in-Some-into_operations.is at c.into_operations.ensures;
+      answers = rw c.in-Some-in_row_order.is at c.in_row_order.ensures;
       in_order = found.in_order;
       added = by_phases _ _ _ _ _ _ a.first a.second a.fourth;
       multiplied = by_phases _ _ _ _ _ _ m.first m.second m.fourth;

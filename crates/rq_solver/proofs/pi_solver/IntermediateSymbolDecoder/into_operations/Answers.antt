@@ -8,5 +8,5 @@ returns-clause-found g c =
     let solver = c.args.self in
     let bits = g.T.BinaryMatrix.content solver.matrix in
     let phases = c.in_ok-found.found in
-    recorded_found phases bits.height bits.width _ c.into_operations.result
-    (attempt_of_bits bits solver.hdpc solver.first_hdpc c.in_ok-into_system.field-0 c.in_ok-into_system.ensures.system phases.recorded phases.order c.in_ok-found.ensures.found) c.into_operations.ensures
+    recorded_found phases bits.height bits.width _ c.in_row_order.result
+    (attempt_of_bits bits solver.hdpc solver.first_hdpc c.in_ok-into_system.field-0 c.in_ok-into_system.ensures.system phases.recorded phases.order c.in_ok-found.ensures.found) c.in_row_order.ensures

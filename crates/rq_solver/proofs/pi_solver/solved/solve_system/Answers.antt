@@ -16,8 +16,8 @@ if_made : {E : Type 0} (r : Result (Vec ℕ Global) E) (A B C D : Vec ℕ Global
 if_made (Ok column) A B C D made a b c = made column a b c
 if_made (Err e) A B C D made a b c = tt
 
-pub null_vector-requires-clause-stuck : goal.null_vector-requires-clause-stuck
-null_vector-requires-clause-stuck c =
+pub stuck_column-requires-clause-stuck : goal.stuck_column-requires-clause-stuck
+stuck_column-requires-clause-stuck c =
     let last = c.in_ok-elimination.elimination in
     let runs : RunsOverSystem c.args.system last None = rw c.in_default.is at c.in_ok-elimination.ensures.phases in
     rw (same_count runs.first last runs.keeps) runs.later.stuck
@@ -29,8 +29,8 @@ returns-in_default-clause-solved c =
     let made = c.in_ok-elimination.ensures in
     let found : SolvesSystem system last.recorded.operations None = rw c.in_default.is at made.found in
     let shown = shows_system system last (rw c.in_default.is at made.phases) in
-    let column = c.null_vector.ensures in
-    (found, rw c.ok-column.ensures.value (if_made c.null_vector.result _ _ _ _ (λ made elements left pivots. shown made.items elements left pivots) column.elements column.left column.pivots))
+    let column = c.stuck_column.ensures in
+    (found, rw c.ok-column.ensures.value (if_made c.stuck_column.result _ _ _ _ (λ made elements left pivots. shown made.items elements left pivots) column.elements column.left column.pivots))
 
 pub returns-clause-solved : goal.returns-clause-solved
 returns-clause-solved c =

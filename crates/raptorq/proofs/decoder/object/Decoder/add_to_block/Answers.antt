@@ -3,8 +3,8 @@ use Rattle.std.proofs.lemmas.List.Elements.{All-set}
 use Rattle.std.proofs.Math.Seq.{map-set_same}
 use Rattle.rq_standard.specs.Cutting.{block_symbols}
 use Rattle.raptorq.specs.Stopping.{AddsOrStops}
-use Rattle.raptorq.specs.SourceBlockDecoder.{received_of}
-use Rattle.raptorq.proofs.Numbered.{length-numbered, numbered_at}
+use Rattle.rq_block.specs.SourceBlockDecoder.{received_of}
+use Rattle.rq_block.proofs.Numbered.{length-numbered, numbered_at}
 use Rattle.raptorq.proofs.ObjectBlocks.{state, block_number, IsBlockOf, block_of_packet, block_takes, IsCut, takes_at}
 use Rattle.raptorq.proofs.decoder.object.Decoder.add_to_block.Goals as goal
 use Rattle.raptorq.proofs.decoder.object.Decoder.add_to_block.Goals.{After-from, After-index_mut}

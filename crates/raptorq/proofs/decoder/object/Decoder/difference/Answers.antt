@@ -3,11 +3,12 @@ use Rattle.std.specs.Prelude.{is_none, is_some, not, option_map, vec_items, ◌&
 use Rattle.rq_standard.specs.Differences.{AreUnansweredDetermined, IsDifference}
 use Rattle.rq_standard.proofs.ObjectAnswers.{none_where_answered}
 use Rattle.rq_standard.proofs.OtherObjects.{makes_others_fit}
-use Rattle.raptorq.specs.SourceBlockDecoder.{received_of}
-use Rattle.raptorq.specs.Difference.{ShowsUnanswered, octets_of_column}
+use Rattle.rq_block.specs.SourceBlockDecoder.{received_of}
+use Rattle.raptorq.specs.Unanswered.{ShowsUnanswered}
+use Rattle.rq_block.specs.Difference.{octets_of_column}
 use Rattle.raptorq.specs.Decoder.{state_of, received_at, answer_at}
 use Rattle.raptorq.specs.declared.decoder.object.Decoder.{Decoder}
-use Rattle.raptorq.proofs.Numbered.{length-numbered, turn_of}
+use Rattle.rq_block.proofs.Numbered.{length-numbered, turn_of}
 use Rattle.raptorq.proofs.ObjectBlocks.{block_number, received_here, answer_here}
 use Rattle.raptorq.proofs.Witnesses.{DifferenceSoFar, nothing_found, one_found, all_determined, some_undetermined, difference_found, received_has_row, block_is_cut}
 use Rattle.raptorq.proofs.decoder.object.Decoder.difference.Goals as goal

@@ -2,7 +2,7 @@ use Rattle.std.proofs.Common.{sym, ap, ◌∙◌, subst, arith, length}
 use Rattle.std.specs.Prelude.{IsSome, not, vec_items}
 use borrow.Author.Count.{below_more}
 use Rattle.raptorq.specs.Decoder.{state_of, answer_at}
-use Rattle.raptorq.proofs.Numbered.{length-numbered, turn_of}
+use Rattle.rq_block.proofs.Numbered.{length-numbered, turn_of}
 use Rattle.raptorq.proofs.ObjectBlocks.{block_number, answer_here, not_complete, complete}
 use Rattle.rq_standard.proofs.OptionValues.{is_some-mapped, none_is}
 use Rattle.raptorq.proofs.decoder.object.Decoder.is_complete.Goals as goal

@@ -2,7 +2,7 @@ use Rattle.std.proofs.Common.{◌≡◌, ◌++◌, take, Some, ap, ◌∙◌, ar
 use Rattle.std.specs.Prelude.{option_map, vec_items}
 use Rattle.rq_standard.specs.DecoderState.{first_blocks}
 use Rattle.raptorq.specs.Decoder.{answer_at}
-use Rattle.raptorq.proofs.Numbered.{length-numbered, turn_of}
+use Rattle.rq_block.proofs.Numbered.{length-numbered, turn_of}
 use Rattle.raptorq.proofs.ObjectBlocks.{block_number, join_next, join_some}
 use Rattle.rq_standard.proofs.OptionValues.{none_otherwise}
 use Rattle.raptorq.proofs.decoder.object.Decoder.join.Goals.{in-Some+in_ok-extend_from_slice, in_default}

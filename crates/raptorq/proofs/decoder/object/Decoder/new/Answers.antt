@@ -3,10 +3,10 @@ use Rattle.std.specs.List.{range_with_len}
 use borrow.Author.Count.{below_more}
 use Rattle.rq_standard.specs.DecoderState.{IsReceivedOf, IsNewState, new_received, new_answer}
 use Rattle.rq_standard.proofs.StandingSteps.{stands_new}
-use Rattle.raptorq.specs.SourceBlockDecoder.{received_of}
+use Rattle.rq_block.specs.SourceBlockDecoder.{received_of}
 use Rattle.raptorq.specs.Decoder.{answer_of}
 use Rattle.raptorq.proofs.FollowedRuns.{follows_no_packets}
-use Rattle.raptorq.proofs.Numbered.{mapped_more, new_numbers}
+use Rattle.rq_block.proofs.Numbered.{mapped_more, new_numbers}
 use Rattle.raptorq.proofs.ObjectBlocks.{state, new_each, IsCut, new_state}
 use Rattle.raptorq.proofs.decoder.object.Decoder.new.Goals as goal
 use Rattle.raptorq.proofs.decoder.object.Decoder.new.Goals.{After-loop-number}

@@ -1,6 +1,6 @@
 use Rattle.std.proofs.Common.{◌≡◌, All, length, map, take, drop, ◌++◌, sym, ap, ◌∙◌, subst}
 use Rattle.std.proofs.Math.Seq.{take-append_seam}
-use Rattle.raptorq.specs.SourceBlockDecoder.{received_of}
+use Rattle.rq_block.specs.SourceBlockDecoder.{received_of}
 use Rattle.raptorq.proofs.ObjectBlocks.{block_number, same_length, same_numbers, same_each, IsCut}
 use Rattle.raptorq.proofs.decoder.object.Decoder.set_sparse_threshold.Goals as goal
 

@@ -2,10 +2,10 @@ use Rattle.std.proofs.Common.{◌≡◌, ℕ, List, Option, None, get_or, map, a
 use Rattle.rq_standard.specs.ReceivedBlock.{ReceivedBlock, nothing_received}
 use Rattle.rq_standard.specs.DecoderState.{State}
 use Rattle.rq_standard.specs.TableRows.{no_row}
-use Rattle.raptorq.specs.SourceBlockDecoder.{received_of, solving_of}
+use Rattle.rq_block.specs.SourceBlockDecoder.{received_of, solving_of}
 use Rattle.raptorq.specs.Decoder.{answer_of}
 use Rattle.raptorq.proofs.ObjectBlocks.{same_numbers, same_each, IsCut}
-use Rattle.raptorq.proofs.PlanLaws.{map-clones}
+use Rattle.rq_block.proofs.PlanLaws.{map-clones}
 use Rattle.raptorq.proofs.decoder.object.DecoderClone.clone.Goals as goal
 use Rattle.raptorq.proofs.decoder.object.DecoderClone.clone.Goals.{In_ok-clone}
 

@@ -1,7 +1,0 @@
-use Rattle.std.proofs.Common.{subst}
-use Rattle.rq_standard.specs.ReceivedBlock.{ReceivedBlock}
-use Rattle.raptorq.specs.Known.{IsReceivedSolution}
-use Rattle.raptorq.proofs.decoder.block.SourceBlockDecoder.solve.Goals as goal
-
-pub returns-clause-solved : goal.returns-clause-solved
-returns-clause-solved c = subst (λ (h : ReceivedBlock). IsReceivedSolution h c.in_ok-replay.field-0) c.in_ok-solution.ensures.same c.in_ok-replay.ensures.solved

@@ -1,6 +1,0 @@
-use Rattle.rq_bytes.specs.SymbolSlab.{symbol_in}
-use Rattle.raptorq.specs.HdpcSums.{AreHdpcSums}
-use Rattle.raptorq.proofs.decoder.fitting.solves_hdpc.Given as goal
-
-abbrev pub invariant-loop-column : goal.invariant-loop-column
-invariant-loop-column l = AreHdpcSums l.row.numbers (symbol_in l.intermediate) l.intermediate.symbol_size l.column l.sums

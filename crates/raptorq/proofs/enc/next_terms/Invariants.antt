@@ -1,6 +1,0 @@
-use Rattle.std.proofs.Common.{◌≡◌, ◌++◌, take}
-use Rattle.raptorq.proofs.enc.next_terms.Given as goal
-
--- the indices so far are listed
-abbrev pub invariant-loop-count : goal.invariant-loop-count
-invariant-loop-count l = l.fn.indices ≡ take l.count l.terms ++ l.indices

@@ -1,0 +1,11 @@
+use Rattle.std.proofs.Common.{◌≡◌}
+use Rattle.rq_block.specs.SourceBlockDecoder.{received_of}
+use Rattle.rq_block.specs.Decoding.{all_recorded, AreTaken}
+use Rattle.rq_block.proofs.decoder.block.SourceBlockDecoder.decode_until_stopped.Given as goal
+
+-- the packets so far are recorded
+abbrev pub invariant-loop-packet : goal.invariant-loop-packet
+invariant-loop-packet g l = record {
+  taken : AreTaken (received_of l.fn.self) l.yielded;
+  recorded : received_of l.self ≡ all_recorded (received_of l.fn.self) l.yielded;
+}

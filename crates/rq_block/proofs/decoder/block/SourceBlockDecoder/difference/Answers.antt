@@ -1,0 +1,17 @@
+use Rattle.std.proofs.Common.{ℕ, ◌*◌, [], replicate, sym, ap, ◌∙◌}
+use Rattle.std.specs.Prelude.{option_map, vec_items}
+use Rattle.rq_standard.specs.Equations.{symbol_coefficient}
+use Rattle.rq_standard.specs.Differences.{plain_sum}
+use Rattle.rq_standard.proofs.DifferenceColumns.{zero_dot}
+use Rattle.rq_standard.proofs.FirstOctets.{zero_octets}
+use Rattle.rq_algebra.specs.Systems.{at}
+use Rattle.rq_block.specs.SourceBlockDecoder.{received_of}
+use Rattle.rq_block.specs.Difference.{octets_of_column}
+use Rattle.rq_block.proofs.decoder.block.SourceBlockDecoder.difference.Goals as goal
+
+pub returns-in_ok-vec-in-None-clause-block : goal.returns-in_ok-vec-in-None-clause-block
+returns-in_ok-vec-in-None-clause-block c =
+    let s = c.args.self.now in
+    c.in_ok-vec-in-None.ensures.items_if_clones_equal (λ y same. same) ∙ ap (λ n. replicate {A = ℕ} (s.source_symbols * n) 0) c.symbol_size.ensures.value
+    ∙ sym (zero_octets s.config s.source_symbols (plain_sum s.row.numbers (at [])) (λ e. zero_dot s.row.numbers (symbol_coefficient s.row.numbers e)))
+    ∙ ap (λ o. octets_of_column (received_of s) (option_map vec_items o)) (sym c.in-None.is)

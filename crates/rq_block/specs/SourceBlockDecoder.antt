@@ -1,0 +1,25 @@
+-- What the decoder of a block shows.
+use Rattle.std.specs.Prelude.{ℕ, List}
+use Rattle.rq_standard.specs.declared.row.TableRow.{TableRow}
+use Rattle.rq_standard.specs.Configuration.{Configuration}
+use Rattle.rq_standard.specs.ReceivedBlock.{ReceivedBlock, nothing_received}
+use Rattle.rq_standard.specs.TableRows.{row_of}
+use Rattle.rq_block.specs.declared.decoder.block.SourceBlockDecoder.{SourceBlockDecoder}
+use Rattle.rq_block.specs.declared.decoder.last_outcome.LastOutcome.{LastOutcome}
+use Rattle.rq_block.specs.Missing.{received_block}
+
+-- what it holds
+abbrev pub received_of : SourceBlockDecoder → ReceivedBlock
+received_of d = received_block d.config d.number d.row.numbers d.source_symbols d.received
+
+-- from how many symbols on it is solved over a sparse matrix, and what the last attempt to answer it found
+pub record Solving : Type 0 where
+  pub sparse_threshold : ℕ
+  pub last_outcome : LastOutcome
+
+abbrev pub solving_of : SourceBlockDecoder → Solving
+solving_of d = record { sparse_threshold = d.sparse_threshold; last_outcome = d.last_outcome }
+
+-- a block of K source symbols, over its row of the table, of which nothing was received
+abbrev pub empty_block : List TableRow → Configuration → ℕ → ℕ → ReceivedBlock
+empty_block table c number k = nothing_received c number (row_of table k) k

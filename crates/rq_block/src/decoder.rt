@@ -1,0 +1,12 @@
+//! The decoder of a block: packets in, the block out.
+mod block;
+mod columns;
+mod fitting;
+mod known;
+mod last_outcome;
+mod packet_stop;
+mod payloads;
+
+pub use block::SourceBlockDecoder;
+pub use packet_stop::PacketStop;
+pub use payloads::check_size;

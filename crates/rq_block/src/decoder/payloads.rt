@@ -1,0 +1,71 @@
+//! The payloads of a block by encoding symbol id.
+ghost use Rattle.std.specs.Prelude.{◌≡◌, ◌≢◌, ℕ, ◌*◌, ◌<◌, Some, length, IfOk, IfErr, OnOk, OnErr, IsSome, not};
+ghost use Rattle.std.specs.Option.{ForSome};
+ghost use Rattle.rq_standard.specs.Cutting.{plain_symbol};
+ghost use Rattle.rq_block.specs.Missing.{payload_of, has_payload, KeepsFirst};
+ghost use Rattle.rq_block.specs.declared.decoder.packet_stop.PacketStop.TheVariants.{Refused};
+
+use crate::decoder::packet_stop::PacketStop;
+use rq_base::base::{EncodingPacket, ObjectTransmissionInformation};
+use rq_bytes::error::Error;
+use std::alloc::{AllocError, Global};
+use std::collections::BTreeMap;
+use std::collections::btree_map::Entry;
+
+/// Refuses a packet whose payload hasn't the size of a symbol, by [`Error::WrongPayloadSize`]. Not in
+/// the Rust crate.
+pub fn check_size(
+    config: &ObjectTransmissionInformation,
+    packet: &EncodingPacket,
+) -> Result<(), PacketStop>
+    ensures size { OnOk result (length packet.now.payload ≡ config.now.symbol_size) }
+    ensures other { OnErr result (length packet.now.payload ≢ config.now.symbol_size) }
+    ensures refused { IfErr result (λ stop. stop ≡ Refused Error.WrongPayloadSize) }
+{
+    if packet.data().len() != usize::from(config.symbol_size()) {
+        return Err(PacketStop::Refused(Error::WrongPayloadSize));
+    }
+    Ok(())
+}
+
+/// Keeps a payload, unless one of its id is there. Answers whether it was kept.
+pub(crate) fn keep_first(
+    received: &mut BTreeMap<u32, Vec<u8>>,
+    esi: u32,
+    payload: Vec<u8>,
+) -> Result<bool, AllocError>
+    ensures kept { IfOk result (λ kept. has_payload received.old esi ≡ not kept) }
+    ensures ok { OnOk result (KeepsFirst esi payload.items received.old received.new) }
+    ensures err { OnErr result ((e : ℕ) → payload_of received.new e ≡ payload_of received.old e) }
+{
+    match received.entry(esi)? {
+        Entry::Occupied(_) => Ok(false),
+        Entry::Vacant(vacant) => {
+            let _kept = vacant.insert(payload);
+            Ok(true)
+        }
+    }
+}
+
+/// The symbols one after another, where each of them was received.
+pub(crate) fn join(
+    alloc: Global,
+    source_symbols: u32,
+    size: usize,
+    received: &BTreeMap<u32, Vec<u8>>,
+) -> Result<Vec<u8>, AllocError>
+    requires fits { size < 65536 }
+    requires all { (e : ℕ) → e < source_symbols → IsSome (payload_of received.now e) }
+    requires sized { (e : ℕ) → ForSome (payload_of received.now e) (λ payload. length payload ≡ size) }
+    ensures long { IfOk result (λ block. length block.items ≡ source_symbols * size) }
+    ensures each { IfOk result (λ block. (e : ℕ) → e < source_symbols → payload_of received.now e ≡ Some (plain_symbol size block.items e)) }
+{
+    let mut block = Vec::with_capacity(alloc, source_symbols as usize * size)?;
+    for e in 0..source_symbols {
+        let Some(symbol) = received.get(&e) else {
+            unreachable!()
+        };
+        block.extend_from_slice(symbol.as_slice())?;
+    }
+    Ok(block)
+}

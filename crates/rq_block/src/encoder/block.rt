@@ -1,0 +1,308 @@
+//! The encoder of one source block.
+ghost use Rattle.std.specs.Prelude.{◌≡◌, ◌+◌, ◌-◌, ◌/◌, ◌^◌, ◌<◌, ◌≤◌, All, length, None, IfOk, IfErr, OnOk, OnErr};
+ghost use Rattle.rq_bytes.specs.Refusals.{IsAnswer};
+ghost use Rattle.rq_bytes.specs.SymbolSlab.{symbol_in, symbols_in};
+ghost use Rattle.rq_standard.specs.Configuration.{IsAligned};
+ghost use Rattle.rq_standard.specs.Headline.{IsNonsingular, IsOnlyIntermediateColumn, IsEncodingSymbol};
+ghost use Rattle.rq_standard.specs.TableRows.{greatest_size, intermediate_symbols};
+ghost use Rattle.rq_block.specs.RefusedBlocks.{wanted_count, repair_refusal, AreWholeSymbols};
+
+use crate::enc::encoding_symbol;
+use crate::encoder::cache::SourceBlockEncodingPlanCache;
+use crate::encoder::plan::SourceBlockEncodingPlan;
+use crate::ids::internal_symbol_id;
+use crate::sub_blocks::BlockLayout;
+use rq_base::base::{
+    ENCODING_SYMBOL_IDS, EncodingPacket, ObjectTransmissionInformation, PayloadId,
+};
+use rq_bytes::error::Error;
+use rq_bytes::symbol_slab::SymbolSlab;
+use rq_tables::systematic_constants::{CheckedRow, SystematicTable};
+use std::alloc::{AllocError, Global};
+
+/// Makes the packets of one source block.
+#[derive(Debug, PartialEq, Eq, Drop)]
+pub struct SourceBlockEncoder {
+    number: u8,
+    row: CheckedRow,
+    source: SymbolSlab,
+    intermediate: SymbolSlab,
+    alloc: Global,
+    pub ghost nonsingular: { IsNonsingular row.numbers },
+    pub ghost unordered: { source.order ≡ None },
+    pub ghost few: { length source.values ≤ row.numbers.extended_symbols },
+    pub ghost sized: { All (λ symbol. length symbol ≡ intermediate.symbol_size) source.values },
+    pub ghost enough: { intermediate_symbols row.numbers ≤ length (symbols_in intermediate) },
+    pub ghost solved: { IsOnlyIntermediateColumn row.numbers intermediate.symbol_size source.values (symbol_in intermediate) },
+}
+
+impl SourceBlockEncoder {
+    ghost use Rattle.rq_block.specs.AppendedBlock.{AppendsBlock, AppendsSymbol, KeepsFront};
+    ghost use Rattle.rq_base.specs.RefusedInput.{new_id};
+    ghost use Rattle.rq_block.specs.SourceBlockEncoder.{block_encoded, block_encoded_of, IsBlockPacket, AreBlockPackets};
+    ghost use Rattle.rq_block.specs.BlockData.{block_of, block_by_plan, IsPlanFor, RefusesBlock, RefusesPlanned};
+    ghost use Rattle.rq_block.specs.SourceBlockEncodingPlanCache.{after_use};
+    ghost use Rattle.rq_block.specs.SourceBlockEncodingPlan.{plan_of};
+
+    /// The encoder of a source block, whose bytes are whole symbols. Its plan is the one in the
+    /// cache, or a new one, which is then put in.
+    ///
+    /// Refuses, in this order, [`Error::SymbolSizeZero`], [`Error::AlignmentZero`],
+    /// [`Error::Misaligned`] where the alignment doesn't divide the symbol size,
+    /// [`Error::WrongDataLength`] where the bytes are no whole symbols, [`Error::BlockOverTable`]
+    /// where the cache's table has no row for its symbols, and [`Error::Singular`] where that row
+    /// doesn't determine the intermediate symbols. After a refusal the cache is as before.
+    pub fn new(
+        alloc: Global,
+        source_block_number: u8,
+        config: &ObjectTransmissionInformation,
+        block: &[u8],
+        cache: &mut SourceBlockEncodingPlanCache,
+    ) -> Result<SourceBlockEncoder, Error>
+        ensures refused { IfErr result (RefusesBlock cache.old.table config.now (length block.now)) }
+        ensures taken { OnOk result (AreWholeSymbols (greatest_size cache.old.table) config.now (length block.now)) }
+        ensures encoded { IfOk result (λ b. block_encoded_of b ≡ block_of cache.old.table config.now source_block_number block.now) }
+        ensures nonsingular { IfOk result (λ b. IsNonsingular (block_encoded_of b).row) }
+        ensures used { OnOk result (cache.new ≡ after_use cache.old (length block.now / config.now.symbol_size)) }
+        ensures unchanged { OnErr result (cache.new ≡ cache.old) }
+    {
+        let count = source_symbol_count(config, block, cache.table())?;
+        if let Some(plan) = cache.get(count) {
+            return SourceBlockEncoder::of_block(alloc, source_block_number, config, block, plan);
+        }
+        let plan = SourceBlockEncodingPlan::generate(alloc, cache.table(), count)?;
+        let encoder = SourceBlockEncoder::of_block(
+            alloc,
+            source_block_number,
+            config,
+            block,
+            &plan,
+        )?;
+        cache.put(plan);
+        Ok(encoder)
+    }
+
+    /// The encoder of a source block, by a plan of the table's row for its number of source symbols.
+    ///
+    /// Refuses, in this order, [`Error::SymbolSizeZero`], [`Error::AlignmentZero`],
+    /// [`Error::Misaligned`] where the alignment doesn't divide the symbol size,
+    /// [`Error::WrongDataLength`] where the block isn't whole symbols, [`Error::BlockOverTable`]
+    /// where the table has no row for its symbols, and [`Error::PlanMismatch`] where the plan was made
+    /// for another number of source symbols or another row.
+    pub fn with_encoding_plan(
+        alloc: Global,
+        source_block_number: u8,
+        config: &ObjectTransmissionInformation,
+        block: &[u8],
+        table: &SystematicTable,
+        plan: &SourceBlockEncodingPlan,
+    ) -> Result<SourceBlockEncoder, Error>
+        ensures refused { IfErr result (RefusesPlanned table.now config.now (length block.now) (plan_of plan.now)) }
+        ensures taken { OnOk result (AreWholeSymbols (greatest_size table.now) config.now (length block.now)) }
+        ensures fits { OnOk result (IsPlanFor table.now (length block.now / config.now.symbol_size) (plan_of plan.now)) }
+        ensures encoded { IfOk result (λ b. block_encoded_of b ≡ block_of table.now config.now source_block_number block.now) }
+    {
+        let count = source_symbol_count(config, block, table)?;
+        let row = table.checked_row(u32::from(count));
+        if plan.source_symbol_count() != count || plan.row() != row {
+            return Err(Error::PlanMismatch);
+        }
+        SourceBlockEncoder::of_block(alloc, source_block_number, config, block, plan)
+    }
+
+    /// The encoder of these bytes in as many symbols as a plan is for. The bytes may end before the
+    /// last symbol does: the rest are zeros (RFC 6330, 4.4.1.2). The one error is
+    /// [`Error::OutOfMemory`]. Not in the Rust crate.
+    pub fn of_block(
+        alloc: Global,
+        number: u8,
+        config: &ObjectTransmissionInformation,
+        block: &[u8],
+        plan: &SourceBlockEncodingPlan,
+    ) -> Result<SourceBlockEncoder, Error>
+        requires positive { 0 < config.now.symbol_size }
+        requires aligned { IsAligned config.now }
+        ensures encoded { IfOk result (λ b. block_encoded_of b ≡ block_by_plan (plan_of plan.now) config.now number block.now) }
+        ensures memory { IfErr result (λ e. e ≡ Error.OutOfMemory) }
+    {
+        let layout = BlockLayout {
+            config: *config,
+            source_symbols: u32::from(plan.source_symbol_count()),
+        };
+        let source = layout.symbols_of_block(alloc, block)?;
+        SourceBlockEncoder::of_source(alloc, number, source, plan)
+    }
+
+    /// The packets of the source symbols, in their order (RFC 6330, section 4.4.2).
+    pub fn source_packets(&self) -> Result<Vec<EncodingPacket>, Error>
+        ensures packets { let b = block_encoded_of self.now in IfOk result (λ v. AreBlockPackets b 0 (length b.source) v.items) }
+        ensures memory { IfErr result (λ e. e ≡ Error.OutOfMemory) }
+    {
+        self.packets(0, self.source_symbol_count())
+    }
+
+    /// The packets of `packets` repair symbols, from the repair symbol `start_repair_symbol` on,
+    /// which are numbered from 0.
+    ///
+    /// Refuses [`Error::EsiTooLarge`] where they would need encoding symbol ids above 2^24 - 1.
+    pub fn repair_packets(
+        &self,
+        start_repair_symbol: u32,
+        packets: u32,
+    ) -> Result<Vec<EncodingPacket>, Error>
+        ensures refused { IsAnswer (λ _. tt) result (repair_refusal (length (block_encoded_of self.now).source) start_repair_symbol packets) }
+        ensures packets { let b = block_encoded_of self.now in IfOk result (λ v. AreBlockPackets b (length b.source + start_repair_symbol) packets v.items) }
+    {
+        if packets == 0 {
+            return Ok(Vec::new(self.alloc));
+        }
+        let start = u64::from(self.source_symbol_count()) + u64::from(start_repair_symbol);
+        let end = start + u64::from(packets);
+        if end > u64::from(ENCODING_SYMBOL_IDS) {
+            return Err(Error::EsiTooLarge);
+        }
+        self.packets(start as u32, end as u32)
+    }
+
+    /// The encoder of a block with these source symbols, by a plan of its row.
+    pub(crate) fn of_source(
+        alloc: Global,
+        number: u8,
+        source: SymbolSlab,
+        plan: &SourceBlockEncodingPlan,
+    ) -> Result<SourceBlockEncoder, Error>
+        requires unordered { source.order ≡ None }
+        requires small { source.symbol_size < 65536 }
+        requires few { length source.values ≤ (plan_of plan.now).row.extended_symbols }
+        requires sized { All (λ symbol. length symbol ≡ source.symbol_size) source.values }
+        ensures encoded { IfOk result (λ b. block_encoded_of b ≡ block_encoded number (plan_of plan.now).row source) }
+        ensures memory { IfErr result (λ e. e ≡ Error.OutOfMemory) }
+    {
+        let row = plan.row();
+        let intermediate = plan.apply(&source)?;
+        Ok(SourceBlockEncoder {
+            number,
+            row,
+            source,
+            intermediate,
+            alloc,
+        })
+    }
+
+    /// The number of source symbols (K). Not in the Rust crate.
+    pub fn source_symbol_count(&self) -> u32
+        ensures { result ≡ length (block_encoded_of self.now).source }
+    {
+        self.source.len() as u32
+    }
+
+    /// The packet of an encoding symbol id: below the number of source symbols that of a source
+    /// symbol, and else that of a repair symbol (RFC 6330, 4.4.2 and 5.3). Not in the Rust crate.
+    ///
+    /// Refuses [`Error::EsiTooLarge`] where the id doesn't fit 24 bits.
+    pub fn packet(&self, encoding_symbol_id: u32) -> Result<EncodingPacket, Error>
+        ensures id { IsAnswer (λ p. p.id) result (new_id (block_encoded_of self.now).number encoding_symbol_id) }
+        ensures packet { IfOk result (IsBlockPacket (block_encoded_of self.now)) }
+    {
+        let id = PayloadId::new(self.number, encoding_symbol_id)?;
+        Ok(EncodingPacket::new(id, self.payload(encoding_symbol_id)?))
+    }
+
+    /// Appends the packets with the encoding symbol ids before `end` to bytes, each its payload id of 4
+    /// bytes and its symbol. The one error is [`Error::OutOfMemory`]: some may be appended then. Not in
+    /// the Rust crate.
+    pub fn append_packets(&self, end: u32, bytes: &mut Vec<u8>) -> Result<(), Error>
+        requires { end ≤ 2 ^ 24 }
+        ensures packets { OnOk result (AppendsBlock (block_encoded_of self.now) end bytes.old.items bytes.new.items) }
+        ensures begun { OnErr result (KeepsFront bytes.old.items bytes.new.items) }
+        ensures memory { IfErr result (λ e. e ≡ Error.OutOfMemory) }
+    {
+        for esi in 0..end {
+            bytes.extend_from_slice(&PayloadId::new(self.number, esi)?.serialize())?;
+            self.append_symbol(esi, bytes)?;
+        }
+        Ok(())
+    }
+
+    // Appends the payload of an encoding symbol id to bytes.
+    fn append_symbol(&self, esi: u32, bytes: &mut Vec<u8>) -> Result<(), AllocError>
+        requires { esi < 2 ^ 24 }
+        ensures symbol { OnOk result (AppendsSymbol (block_encoded_of self.now) esi bytes.old.items bytes.new.items) }
+        ensures kept { OnErr result (bytes.new.items ≡ bytes.old.items) }
+    {
+        if esi < self.source_symbol_count() {
+            bytes.extend_from_slice(self.source.get(esi as usize))?;
+            return Ok(());
+        }
+        let symbol = self.payload(esi)?;
+        bytes.extend_from_slice(symbol.as_slice())?;
+        Ok(())
+    }
+
+    // The payload of an encoding symbol id: a source symbol, or a sum of intermediate symbols.
+    fn payload(&self, esi: u32) -> Result<Vec<u8>, AllocError>
+        requires { esi < 2 ^ 24 }
+        ensures { IfOk result (λ v. let b = block_encoded_of self.now in IsEncodingSymbol b.row b.size b.source esi v.items) }
+    {
+        if esi < self.source_symbol_count() {
+            return Vec::from_slice(self.alloc, self.source.get(esi as usize));
+        }
+        let id = internal_symbol_id(&self.row, self.source_symbol_count(), esi);
+        encoding_symbol(self.alloc, &self.row, &self.intermediate, id)
+    }
+
+    /// The packets with the encoding symbol ids from `start` on and before `end`. The one error is
+    /// [`Error::OutOfMemory`]. Not in the Rust crate.
+    pub fn packets(&self, start: u32, end: u32) -> Result<Vec<EncodingPacket>, Error>
+        requires order { start ≤ end }
+        requires ids { end ≤ 2 ^ 24 }
+        ensures packets { IfOk result (λ v. AreBlockPackets (block_encoded_of self.now) start (end - start) v.items) }
+        ensures memory { IfErr result (λ e. e ≡ Error.OutOfMemory) }
+    {
+        let mut packets = Vec::with_capacity(self.alloc, (end - start) as usize)?;
+        for esi in start..end {
+            packets.push(self.packet(esi)?)?;
+        }
+        Ok(packets)
+    }
+}
+
+// How many source symbols bytes are, where a table has a row for them.
+fn source_symbol_count(
+    config: &ObjectTransmissionInformation,
+    block: &[u8],
+    table: &SystematicTable,
+) -> Result<u16, Error>
+    ensures wanted { result ≡ wanted_count (greatest_size table.now) config.now (length block.now) }
+    ensures positive { OnOk result (0 < config.now.symbol_size) }
+    ensures aligned { OnOk result (IsAligned config.now) }
+    ensures count { IfOk result (λ count. count ≡ length block.now / config.now.symbol_size) }
+    ensures few { IfOk result (λ count. count ≤ greatest_size table.now) }
+{
+    config.check_symbols()?;
+    let size = usize::from(config.symbol_size());
+    if block.len() % size != 0 {
+        return Err(Error::WrongDataLength);
+    }
+    let count = block.len() / size;
+    if count > table.greatest() as usize {
+        return Err(Error::BlockOverTable);
+    }
+    Ok(count as u16)
+}
+
+impl Clone for SourceBlockEncoder {
+    ghost use Rattle.rq_block.specs.SourceBlockEncoder.{block_encoded_of, slabs_of};
+
+    ghost is_clone = { λ a b. (block_encoded_of b ≡ block_encoded_of a) × (slabs_of b ≡ slabs_of a) };
+
+    fn clone(&self) -> Result<SourceBlockEncoder, AllocError> {
+        Ok(SourceBlockEncoder {
+            number: self.number,
+            row: self.row,
+            source: self.source.clone()?,
+            intermediate: self.intermediate.clone()?,
+            alloc: self.alloc,
+        })
+    }
+}

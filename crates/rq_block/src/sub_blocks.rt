@@ -1,0 +1,150 @@
+//! How the bytes of a source block and of its symbols lie in one another (RFC 6330, 4.4.1.2).
+ghost use Rattle.std.specs.Prelude.{◌≡◌, ◌+◌, ◌*◌, ◌^◌, ◌<◌, ◌≤◌, ◌++◌, length, map, slice_index, IfOk, OnOk, vec_len};
+ghost use Rattle.std.specs.List.{range_with_len};
+ghost use Rattle.rq_bytes.specs.SymbolSlab.{slab_of};
+ghost use Rattle.rq_standard.specs.Configuration.{IsAligned};
+ghost use Rattle.rq_standard.specs.Cutting.{sub_block_size, symbol_of_block};
+ghost use Rattle.rq_block.specs.SubBlocks.{IsCutInto};
+
+use rq_base::base::{ObjectTransmissionInformation, partition};
+use rq_bytes::symbol_slab::SymbolSlab;
+use std::alloc::{AllocError, Global};
+
+/// The size of the sub-block that has this byte of a symbol, in bytes.
+pub(crate) fn sub_block_size(config: &ObjectTransmissionInformation, byte: usize) -> usize
+    requires { 0 < config.now.alignment }
+    ensures { result ≡ sub_block_size config.now byte }
+{
+    let alignment = u32::from(config.symbol_alignment());
+    let units = u32::from(config.symbol_size()) / alignment;
+    let sub_blocks = u32::from(config.sub_blocks().max(1));
+    let (larger, smaller, larger_count, _) = partition(units, sub_blocks);
+    let larger_bytes = larger * larger_count * alignment;
+    let width = if byte < larger_bytes as usize {
+        larger
+    } else {
+        smaller
+    };
+    (width * alignment) as usize
+}
+
+// Appends the bytes of a block from a place on; past its end they are zeros.
+fn append_padded(
+    symbol: &mut Vec<u8>,
+    block: &[u8],
+    place: usize,
+    width: usize,
+) -> Result<(), AllocError>
+    requires place { place + width < 2 ^ 64 }
+    requires room { vec_len symbol.old + width < 2 ^ 64 }
+    ensures { OnOk result (symbol.new.items ≡ symbol.old.items ++ map (λ i. slice_index block.now (place + i)) (range_with_len 0 width)) }
+{
+    let start = place.min(block.len());
+    let end = (place + width).min(block.len());
+    let whole = symbol.len() + width;
+    symbol.extend_from_slice(&block[start..end])?;
+    symbol.resize(whole, 0)
+}
+
+// The bytes that a sub-block has of each symbol: `width` of them from `start` on.
+#[derive(Clone, Copy)]
+struct SubBlock {
+    start: usize,
+    width: usize,
+}
+
+/// How a source block is cut: the configuration of its object, and the number of its source symbols
+/// (K).
+#[derive(Clone, Copy)]
+pub(crate) struct BlockLayout {
+    pub(crate) config: ObjectTransmissionInformation,
+    pub(crate) source_symbols: u32,
+    pub ghost aligned: { IsAligned config },
+}
+
+impl BlockLayout {
+    ghost use Rattle.rq_block.specs.BlockLayout.{cut_by, parts_by};
+
+    /// The symbols of a block, which may end before its last symbol does.
+    pub(crate) fn symbols_of_block(
+        &self,
+        alloc: Global,
+        block: &[u8],
+    ) -> Result<SymbolSlab, AllocError>
+        ensures small { OnOk result (self.now.config.symbol_size < 65536) }
+        ensures symbols { IfOk result (λ slab. slab ≡ slab_of self.now.config.symbol_size (cut_by self.now block.now)) }
+    {
+        let size = usize::from(self.config.symbol_size());
+        let count = self.source_symbols as usize;
+        let mut bytes = Vec::with_capacity(alloc, count * size)?;
+        for e in 0..self.source_symbols {
+            self.append_source_symbol(&mut bytes, block, e)?;
+        }
+        Ok(SymbolSlab::from_bytes(bytes, count, size))
+    }
+
+    // Appends symbol `e` of a block. The block may end before its last symbol does: the rest are zeros.
+    fn append_source_symbol(
+        &self,
+        bytes: &mut Vec<u8>,
+        block: &[u8],
+        e: u32,
+    ) -> Result<(), AllocError>
+        requires room { vec_len bytes.old + self.now.config.symbol_size < 2 ^ 64 }
+        ensures { OnOk result (bytes.new.items ≡ bytes.old.items ++ symbol_of_block self.now.config self.now.source_symbols block.now e) }
+    {
+        let size = usize::from(self.config.symbol_size());
+        let mut start = 0;
+        while start < size {
+            let width = sub_block_size(&self.config, start);
+            let place = start * self.source_symbols as usize + width * e as usize;
+            append_padded(bytes, block, place, width)?;
+            start += width;
+        }
+        Ok(())
+    }
+
+    /// The block that has these symbols, which come one after another.
+    pub(crate) fn block_of_symbols(
+        &self,
+        alloc: Global,
+        symbol_bytes: Vec<u8>,
+    ) -> Result<Vec<u8>, AllocError>
+        requires long { length symbol_bytes.items ≡ self.now.source_symbols * self.now.config.symbol_size }
+        ensures long { IfOk result (λ block. length block.items ≡ self.now.source_symbols * self.now.config.symbol_size) }
+        ensures each { IfOk result (λ block. IsCutInto self.now.config self.now.source_symbols block.items symbol_bytes.items) }
+    {
+        if self.config.sub_blocks() <= 1 {
+            return Ok(symbol_bytes);
+        }
+        let size = usize::from(self.config.symbol_size());
+        let mut block = Vec::with_capacity(alloc, symbol_bytes.len())?;
+        let mut start = 0;
+        while start < size {
+            let width = sub_block_size(&self.config, start);
+            let part = SubBlock { start, width };
+            self.append_sub_block(&mut block, symbol_bytes.as_slice(), part)?;
+            start += width;
+        }
+        Ok(block)
+    }
+
+    // Appends a sub-block of the block that has these symbols.
+    fn append_sub_block(
+        &self,
+        block: &mut Vec<u8>,
+        symbol_bytes: &[u8],
+        part: SubBlock,
+    ) -> Result<(), AllocError>
+        requires within { part.start + part.width ≤ self.now.config.symbol_size }
+        requires long { length symbol_bytes.now ≡ self.now.source_symbols * self.now.config.symbol_size }
+        ensures { OnOk result (block.new.items ≡ block.old.items ++ parts_by self.now symbol_bytes.now part.start part.width) }
+    {
+        let size = usize::from(self.config.symbol_size());
+        for e in 0..self.source_symbols {
+            let from = e as usize * size + part.start;
+            block.extend_from_slice(&symbol_bytes[from..from + part.width])?;
+        }
+        Ok(())
+    }
+}
