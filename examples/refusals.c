@@ -70,7 +70,7 @@ static void rows(void)
 
 static void handles(void)
 {
-    struct reamertan_handle none = REAMERTAN_HANDLE_INIT, sender = none, receiver = none;
+    struct reamertan_handle none = REAMERTAN_HANDLE_INIT, sender = REAMERTAN_HANDLE_INIT, receiver = REAMERTAN_HANDLE_INIT;
     uint8_t back[3], over[REAMERTAN_CONFIGURATION_BYTES] = {0};
     uint32_t *missing = (uint32_t *)(void *)buffer;
     expect("packets of none", 26, reamertan_write_packet(&none, 0, 0, buffer, 6));

@@ -22,7 +22,9 @@
  *     as those of the C library do;
  *   no call is made from a signal handler, nor in a process that a process with threads forked, before it
  *     executes another program;
- *   calls may be made from any thread, several at a time, but of one handle one at a time.
+ *   calls may be made from any thread, several at a time, but of one handle one at a time;
+ *   a call finds 32 KiB of stack. The most that one took in a thread of its own, of 10 to 56403 symbols a block, was
+ *     12 KiB.
  *
  * `./install PREFIX` puts the library in place, and `pkg-config --cflags --libs reamertan` says how to link it.
  *

@@ -58,38 +58,40 @@ const WRONG_BUFFER: Refusal = Refusal(24);
 /// The packets don't determine what is asked for.
 const INCOMPLETE: Refusal = Refusal(25);
 
-const NAMES: [&str; 26] = [
-    "Done",
-    "TransferTooLong",
-    "AlignmentZero",
-    "Misaligned",
-    "TooManySymbols",
-    "SymbolSizeZero",
-    "SourceBlocksZero",
-    "BlockOverTable",
-    "WrongDataLength",
-    "Singular",
-    "PlanMismatch",
-    "EsiTooLarge",
-    "PacketTooShort",
-    "WrongPayloadSize",
-    "UnknownBlock",
-    "PacketSizeZero",
-    "TransferLengthZero",
-    "MemoryRequirementTooSmall",
-    "TooManyBlocks",
-    "RowRefused",
-    "AlreadyExecuted",
-    "OutOfMemory",
-    "Contradiction",
-    "HeaderTooShort",
-    "WrongBuffer",
-    "Incomplete",
+/// The names of answers by their numbers.
+const NAMES: [(u8, &str); 26] = [
+    (0, "Done"),
+    (1, "TransferTooLong"),
+    (2, "AlignmentZero"),
+    (3, "Misaligned"),
+    (4, "TooManySymbols"),
+    (5, "SymbolSizeZero"),
+    (6, "SourceBlocksZero"),
+    (7, "BlockOverTable"),
+    (8, "WrongDataLength"),
+    (9, "Singular"),
+    (10, "PlanMismatch"),
+    (11, "EsiTooLarge"),
+    (12, "PacketTooShort"),
+    (13, "WrongPayloadSize"),
+    (14, "UnknownBlock"),
+    (15, "PacketSizeZero"),
+    (16, "TransferLengthZero"),
+    (17, "MemoryRequirementTooSmall"),
+    (18, "TooManyBlocks"),
+    (19, "RowRefused"),
+    (20, "AlreadyExecuted"),
+    (21, "OutOfMemory"),
+    (22, "Contradiction"),
+    (23, "HeaderTooShort"),
+    (24, "WrongBuffer"),
+    (25, "Incomplete"),
 ];
 
 impl fmt::Display for Refusal {
     fn fmt(&self, f: &mut fmt::Formatter<'_>) -> fmt::Result {
-        f.write_str(NAMES.get(usize::from(self.0)).copied().unwrap_or("?"))
+        let named = NAMES.iter().find(|(number, _)| *number == self.0);
+        f.write_str(named.map_or("?", |(_, name)| name))
     }
 }
 
