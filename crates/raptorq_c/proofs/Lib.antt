@@ -4,5 +4,6 @@ pub mod HandleAnswers
 pub mod PacketFrames
 pub mod PacketLengths
 pub mod Pointers
+pub mod RunSteps
 pub mod Sized
 pub mod Tables

@@ -1,12 +1,13 @@
 -- What handles hold, and what calls do to it.
-use Rattle.std.specs.Prelude.{◌≡◌, ◌≢◌, ◌⊎◌, ◌↔◌, ℕ, ◌≤◌, List, length, Option, Some, None, IfSome, IsSomeAnd, MatchOption, IfOk, IsErr, option_and_then, Result, Ok, Err}
+use Rattle.std.specs.Prelude.{◌≡◌, ◌≢◌, ◌⊎◌, ◌↔◌, ℕ, ◌≤◌, List, length, true, is_some, Option, Some, None, IfSome, IsSomeAnd, MatchOption, IfOk, IsErr, option_and_then, Result, Ok, Err}
+use Rattle.std.specs.Arc.{arc_value}
 use Rattle.rq_bytes.specs.declared.error.Error.{Error}
 use Rattle.rq_bytes.specs.Error.{code_of}
 use Rattle.rq_bytes.specs.Refusals.{and_then}
 use Rattle.rq_standard.specs.Configuration.{Configuration, configuration_of_bytes}
 use Rattle.rq_standard.specs.Packet.{SymbolId, Packet, packet_bytes, packet_of_bytes}
 use Rattle.rq_standard.specs.Headline.{HasNonsingularRows}
-use Rattle.rq_standard.specs.DecoderState.{State, IsNewState}
+use Rattle.rq_standard.specs.DecoderState.{State, IsNewState, result_of}
 use Rattle.rq_standard.specs.DecoderSteps.{StopsEarly, IsBlockContradictory}
 use Rattle.rq_standard.specs.Standing.{StandsForNone, LeavesBlockLate}
 use Rattle.rq_standard.specs.TableRows.{greatest_size}
@@ -15,6 +16,8 @@ use Rattle.raptorq.specs.BlockBytes.{answered_part, AnswersPart, PartsMakeObject
 use Rattle.raptorq.specs.Decoder.{state_of, IsAnswerOf}
 use Rattle.raptorq.specs.Encoder.{Encoded, encoded_of, id_in, IsEncoderOf, IsPacketIn}
 use Rattle.rq_block.specs.MissingPackets.{NeedsMore}
+use Rattle.rq_block.specs.SourceBlockEncoder.{BlockEncoded, block_encoded_of}
+use Rattle.rq_block.specs.SourceBlockEncodingPlan.{Plan, plan_of}
 use Rattle.raptorq.specs.Unanswered.{TellsMissingOf}
 use Rattle.raptorq.specs.Refused.{new_encoder, packet_refusal, RefusesEncoder}
 use Rattle.raptorq.specs.TakesPacket.{TakesPacket}
@@ -23,7 +26,7 @@ use Rattle.raptorq_c.specs.Numbers.{refusal_number, IsNumber}
 use Rattle.raptorq_c.specs.Headers.{checked_header}
 use Rattle.raptorq_c.specs.declared.handle.Handle.{Handle}
 use Rattle.raptorq_c.specs.declared.owned.Coder.{Coder}
-use Rattle.raptorq_c.specs.declared.owned.Coder.TheVariants.{Sender, Receiver}
+use Rattle.raptorq_c.specs.declared.owned.Coder.TheVariants.{Sender, Receiver, Planner, BlockSender}
 use Rattle.raptorq_c.specs.declared.rows.Row.{Row}
 use Rattle.raptorq_c.specs.FurtherRows.{HoldsOver, RefusesOver}
 
@@ -31,12 +34,28 @@ abbrev pub coder_of : Handle → Option Coder
 coder_of h = h.owned.value
 
 abbrev pub decoder_in : Coder → Option State
-decoder_in (Sender e) = None
+decoder_in (Sender a) = None
 decoder_in (Receiver d) = Some (state_of d)
+decoder_in (Planner a) = None
+decoder_in (BlockSender a) = None
 
 abbrev pub encoder_in : Coder → Option Encoded
-encoder_in (Sender e) = Some (encoded_of e)
+encoder_in (Sender a) = Some (encoded_of (arc_value a))
 encoder_in (Receiver d) = None
+encoder_in (Planner a) = None
+encoder_in (BlockSender a) = None
+
+abbrev pub plan_in : Coder → Option Plan
+plan_in (Sender a) = None
+plan_in (Receiver d) = None
+plan_in (Planner a) = Some (plan_of (arc_value a))
+plan_in (BlockSender a) = None
+
+abbrev pub block_encoder_in : Coder → Option BlockEncoded
+block_encoder_in (Sender a) = None
+block_encoder_in (Receiver d) = None
+block_encoder_in (Planner a) = None
+block_encoder_in (BlockSender a) = Some (block_encoded_of (arc_value a))
 
 -- the decoder that a handle holds, if it holds one
 abbrev pub decoder_of : Handle → Option State
@@ -44,6 +63,12 @@ decoder_of h = option_and_then decoder_in (coder_of h)
 
 abbrev pub encoder_of : Handle → Option Encoded
 encoder_of h = option_and_then encoder_in (coder_of h)
+
+abbrev pub plan_of_handle : Handle → Option Plan
+plan_of_handle h = option_and_then plan_in (coder_of h)
+
+abbrev pub block_encoder_of : Handle → Option BlockEncoded
+block_encoder_of h = option_and_then block_encoder_in (coder_of h)
 
 -- what is held, if anything, becomes something else so; where nothing is held, nothing is then
 abbrev pub Becomes : {X : Type 0} → Option X → Option X → (X → X → Type 0) → Type 0
@@ -122,9 +147,9 @@ pub record FillsWithBlock (held : Option State) (block answer : ℕ) (before aft
 abbrev pub wanted_id : Configuration → ℕ → ℕ → Result SymbolId Error
 wanted_id c block esi = and_then (new_id block esi) (id_in c)
 
--- The number that the packet of an id ends with: a refusal's, or where it has an id, 0, 21 or 24.
-abbrev pub IsPacketNumber : Result SymbolId Error → ℕ → Type 0
-IsPacketNumber (Ok i) number = (number ≡ 0) ⊎ (number ≡ 21) ⊎ (number ≡ 24)
+-- The number that a call for what is wanted of an encoder ends with: a refusal's, or where nothing is refused, 0, 21 or 24.
+abbrev pub IsPacketNumber : {Y : Type 0} → Result Y Error → ℕ → Type 0
+IsPacketNumber (Ok y) number = (number ≡ 0) ⊎ (number ≡ 21) ⊎ (number ≡ 24)
 IsPacketNumber (Err e) number = number ≡ code_of e
 
 -- an encoder of this object in this configuration, over the table of these rows
@@ -179,3 +204,9 @@ pub record WritesMissing (held : Option State) (block answer before after : ℕ)
   pub needed : answer ≡ 0 → IsSomeAnd held (λ s. NeedsMore (s.received block) after)
   pub contradictory : answer ≡ 22 → IsSomeAnd held (λ s. IsBlockContradictory s block)
   pub kept : answer ≢ 0 → after ≡ before
+
+-- Whether the decoder that is held has its object: 0, or 25 where it hasn't. 26 says that none is held.
+pub record TellsComplete (held : Option State) (answer : ℕ) : Type 0 where
+  pub none : (answer ≡ 26) ↔ (held ≡ None)
+  pub number : IfSome held (λ _. (answer ≡ 0) ⊎ (answer ≡ 25))
+  pub complete : IfSome held (λ s. (answer ≡ 0) ↔ (is_some (result_of s) ≡ true))

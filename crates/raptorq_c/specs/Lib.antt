@@ -6,3 +6,6 @@ pub mod ObjectBuffers
 pub mod Sizes
 pub mod Owned
 pub mod Handles
+pub mod Plans
+pub mod Runs
+pub mod Sharing

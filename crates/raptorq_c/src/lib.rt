@@ -10,6 +10,7 @@
 //! refuse what `SystematicTable::with_rows` refuses of these (19).
 #![tactic(auto)]
 
+mod block_sending;
 mod buffers;
 mod call_end;
 mod closing;
@@ -18,14 +19,18 @@ mod decoding;
 mod encoding;
 mod handle;
 mod owned;
+mod planning;
 mod receiving;
 mod rows;
+mod runs;
 mod sending;
+mod sharing;
 mod sizes;
 #[cfg(test)]
 mod tests;
 mod version;
 
+pub use block_sending::reamertan_open_block_encoder;
 pub use closing::reamertan_close;
 pub use configurations::{
     Parameters, reamertan_check_configuration, reamertan_derive_configuration,
@@ -34,11 +39,14 @@ pub use configurations::{
 pub use decoding::reamertan_decode;
 pub use encoding::reamertan_encode;
 pub use handle::{Handle, crosses_threads};
+pub use planning::reamertan_open_plan;
 pub use receiving::{
-    reamertan_add_packet, reamertan_missing_packets, reamertan_open_decoder, reamertan_write_block,
-    reamertan_write_object,
+    reamertan_add_packet, reamertan_is_complete, reamertan_missing_packets, reamertan_open_decoder,
+    reamertan_write_block, reamertan_write_object,
 };
 pub use rows::{Row, no_rows};
+pub use runs::{reamertan_write_block_packets, reamertan_write_packets};
 pub use sending::{reamertan_open_encoder, reamertan_write_packet};
+pub use sharing::{crosses_threads_shared, reamertan_share};
 pub use sizes::{Range, reamertan_block_range, reamertan_packets_length};
 pub use version::reamertan_version;

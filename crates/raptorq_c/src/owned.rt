@@ -3,17 +3,22 @@ ghost use Rattle.std.specs.Prelude.{◌≡◌, Option, Some, None, IsSome, IfOk}
 ghost use Rattle.raptorq_c.specs.Owned.{owned_at, owned_coded};
 ghost use Rattle.raptorq_c.specs.declared.owned.Coder.{Coder};
 
-use raptorq::{Decoder, Encoder};
+use raptorq::{Decoder, Encoder, SourceBlockEncoder, SourceBlockEncodingPlan};
 use std::alloc::{AllocError, Global};
 use std::marker::Model;
+use std::sync::Arc;
 
-/// A coder of an object: its sender's or its receiver's.
+/// What a handle holds: a coder of an object or of a block, or a plan. Handles share what makes packets.
 #[derive(Drop)]
 pub enum Coder {
-    /// Makes packets.
-    Sender(Encoder),
-    /// Takes packets.
+    /// Makes packets of an object.
+    Sender(Arc<Encoder, Global>),
+    /// Takes packets of an object.
     Receiver(Decoder),
+    /// Makes encoders of blocks.
+    Planner(Arc<SourceBlockEncodingPlan, Global>),
+    /// Makes packets of a block.
+    BlockSender(Arc<SourceBlockEncoder, Global>),
 }
 
 impl Coder {

@@ -2,7 +2,7 @@
 ghost use Rattle.std.specs.Prelude.{◌≡◌, IsSomeAnd, IfOk};
 ghost use Rattle.rq_bytes.specs.Refusals.{Answers};
 ghost use Rattle.raptorq.specs.Decoder.{state_of};
-ghost use Rattle.raptorq_c.specs.Handles.{coder_of, decoder_in, decoder_of, encoder_in, encoder_of, FillsWithAnswer, FillsWithBlock, IsAdded, IsNewDecoder, OpensDecoder, TakesBytes, WritesMissing};
+ghost use Rattle.raptorq_c.specs.Handles.{coder_of, decoder_in, decoder_of, encoder_in, encoder_of, FillsWithAnswer, FillsWithBlock, IsAdded, IsNewDecoder, OpensDecoder, TakesBytes, TellsComplete, WritesMissing};
 ghost use Rattle.raptorq_c.specs.Numbers.{number_of, refusal_number};
 ghost use Rattle.raptorq_c.specs.Headers.{checked_header};
 
@@ -75,7 +75,7 @@ fn add(alloc: Global, coder: &mut Coder, packet: &[u8]) -> Result<(), CallEnd>
 {
     match coder {
         Coder::Receiver(decoder) => Ok(add_bytes(alloc, decoder, packet)?),
-        Coder::Sender(_) => Err(CallEnd::NoCoder),
+        _ => Err(CallEnd::NoCoder),
     }
 }
 
@@ -201,6 +201,36 @@ pub extern "C" fn reamertan_missing_packets(
         return number(Err(CallEnd::NoCoder));
     };
     let ended = count_missing(coder.as_ref(), block, missing);
+    handle.put(coder);
+    number(ended)
+}
+
+// Tells whether the object is there, where the coder is a decoder.
+fn tell_complete(coder: &Coder) -> Result<(), CallEnd>
+    ensures { TellsComplete (decoder_in coder.now) (number_of result) }
+{
+    let Coder::Receiver(decoder) = coder else {
+        return Err(CallEnd::NoCoder);
+    };
+    if decoder.is_complete() {
+        return Ok(());
+    }
+    Err(CallEnd::Incomplete)
+}
+
+/// Tells whether the object is complete, so that its bytes can be written: what `Decoder::is_complete`
+/// answers.
+///
+/// Answers 26 where the handle holds no decoder, and 25 where the object isn't complete.
+#[unsafe(no_mangle)]
+pub extern "C" fn reamertan_is_complete(alloc: Global, handle: &mut Handle) -> u8
+    ensures tells { TellsComplete (decoder_of handle.old) result }
+    ensures same { coder_of handle.new ≡ coder_of handle.old }
+{
+    let Some(coder) = handle.take(alloc) else {
+        return number(Err(CallEnd::NoCoder));
+    };
+    let ended = tell_complete(coder.as_ref());
     handle.put(coder);
     number(ended)
 }

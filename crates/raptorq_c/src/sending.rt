@@ -14,6 +14,8 @@ use raptorq::base::CONFIGURATION_LENGTH;
 use raptorq::error::Error;
 use raptorq::{Encoder, ObjectTransmissionInformation, PayloadId};
 use std::alloc::Global;
+use std::ops::Deref;
+use std::sync::Arc;
 
 // The encoder of an object in this configuration.
 fn sender(
@@ -28,7 +30,7 @@ fn sender(
     let table = table_with(alloc, rows)?;
     let config = ObjectTransmissionInformation::deserialize(configuration);
     let encoder = Encoder::new(alloc, &table, object, config)?;
-    Ok(Coder::Sender(encoder).boxed(alloc)?)
+    Ok(Coder::Sender(Arc::new(alloc, encoder)?).boxed(alloc)?)
 }
 
 // Puts a new encoder into the handle, once it is made.
@@ -86,7 +88,7 @@ fn write(
     let Coder::Sender(encoder) = coder else {
         return Err(CallEnd::NoCoder);
     };
-    let bytes = packet_bytes(alloc, encoder, block, esi)?;
+    let bytes = packet_bytes(alloc, encoder.deref(), block, esi)?;
     fill(packet, bytes.as_slice())
 }
 

@@ -2,10 +2,12 @@
 use crate::{
     Handle, Parameters, Range, Row, reamertan_add_packet, reamertan_block_range,
     reamertan_check_configuration, reamertan_close, reamertan_decode,
-    reamertan_derive_configuration, reamertan_encode, reamertan_missing_packets,
-    reamertan_open_decoder, reamertan_open_encoder, reamertan_packets_length,
-    reamertan_read_configuration, reamertan_version, reamertan_write_block,
-    reamertan_write_configuration, reamertan_write_object, reamertan_write_packet,
+    reamertan_derive_configuration, reamertan_encode, reamertan_is_complete,
+    reamertan_missing_packets, reamertan_open_block_encoder, reamertan_open_decoder,
+    reamertan_open_encoder, reamertan_open_plan, reamertan_packets_length,
+    reamertan_read_configuration, reamertan_share, reamertan_version, reamertan_write_block,
+    reamertan_write_block_packets, reamertan_write_configuration, reamertan_write_object,
+    reamertan_write_packet, reamertan_write_packets,
 };
 use std::alloc::Global;
 use std::test::Fail;
@@ -214,5 +216,74 @@ fn contradictions(rt: HostRuntime) -> Result<(), Fail> {
     assert!(rt; missing == (22, 9));
     assert!(rt; [decoded, opened, first, second, repeated] == [22, 0, 0, 22, 22]);
     assert!(rt; incomplete == 25 && object == [9]);
+    Ok(())
+}
+
+// What calls answer that make a plan and the encoder of the three bytes' block, and close the plan.
+fn open_block(alloc: Global, plan: &mut Handle, block: &mut Handle) -> [u8; 4] {
+    let bytes = [7, 8, 9, 0];
+    let none = reamertan_open_block_encoder(alloc, &[], &HEADER, 0, &bytes, plan, block);
+    let planned = reamertan_open_plan(alloc, &[], 2, plan);
+    let other = reamertan_open_block_encoder(alloc, &[], &HEADER, 0, &bytes[..2], plan, block);
+    let opened = reamertan_open_block_encoder(alloc, &[], &HEADER, 0, &bytes, plan, block);
+    reamertan_close(alloc, plan);
+    [none, planned, other, opened]
+}
+
+#[test]
+fn plans(rt: HostRuntime) -> Result<(), Fail> {
+    let mut plan = Handle::empty();
+    let mut block = Handle::empty();
+    let mut packets = [0; 12];
+    let opened = open_block(rt.alloc(), &mut plan, &mut block);
+    let written = reamertan_write_block_packets(rt.alloc(), &mut block, 0, 2, &mut packets);
+    let large = reamertan_write_block_packets(rt.alloc(), &mut block, 1 << 24, 1, &mut packets);
+    let shorter = reamertan_write_block_packets(rt.alloc(), &mut block, 0, 1, &mut packets);
+    let of_object = reamertan_write_packets(rt.alloc(), &mut block, 0, 0, 2, &mut packets);
+    reamertan_close(rt.alloc(), &mut block);
+    block.let_go();
+    plan.let_go();
+    assert!(rt; opened == [26, 0, 10, 0]);
+    assert!(rt; [written, large, shorter, of_object] == [0, 11, 24, 26]);
+    assert!(rt; packets == [0, 0, 0, 0, 7, 8, 0, 0, 0, 1, 9, 0]);
+    Ok(())
+}
+
+// An encoder that is closed before the further handle on it, and a decoder that isn't shared.
+#[test]
+fn shares(rt: HostRuntime) -> Result<(), Fail> {
+    let mut handle = Handle::empty();
+    let mut twin = Handle::empty();
+    let mut packets = [0; 12];
+    let none = reamertan_share(rt.alloc(), &mut handle, &mut twin);
+    let opened = reamertan_open_encoder(rt.alloc(), &[], &HEADER, &[7, 8, 9], &mut handle);
+    let shared = reamertan_share(rt.alloc(), &mut handle, &mut twin);
+    let receiver = reamertan_open_decoder(rt.alloc(), &[], &HEADER, &mut handle);
+    let unknown = reamertan_write_packets(rt.alloc(), &mut twin, 1, 0, 2, &mut packets);
+    let written = reamertan_write_packets(rt.alloc(), &mut twin, 0, 0, 2, &mut packets);
+    let of_decoder = reamertan_share(rt.alloc(), &mut handle, &mut twin);
+    reamertan_close(rt.alloc(), &mut twin);
+    reamertan_close(rt.alloc(), &mut handle);
+    twin.let_go();
+    handle.let_go();
+    assert!(rt; [none, opened, shared, receiver] == [26, 0, 0, 0]);
+    assert!(rt; [unknown, written, of_decoder] == [14, 0, 26]);
+    assert!(rt; packets == [0, 0, 0, 0, 7, 8, 0, 0, 0, 1, 9, 0]);
+    Ok(())
+}
+
+#[test]
+fn completeness(rt: HostRuntime) -> Result<(), Fail> {
+    let mut handle = Handle::empty();
+    let none = reamertan_is_complete(rt.alloc(), &mut handle);
+    let opened = reamertan_open_decoder(rt.alloc(), &[], &HEADER, &mut handle);
+    let first = reamertan_add_packet(rt.alloc(), &mut handle, &[0, 0, 0, 0, 7, 8]);
+    let before = reamertan_is_complete(rt.alloc(), &mut handle);
+    let second = reamertan_add_packet(rt.alloc(), &mut handle, &[0, 0, 0, 1, 9, 0]);
+    let after = reamertan_is_complete(rt.alloc(), &mut handle);
+    reamertan_close(rt.alloc(), &mut handle);
+    handle.let_go();
+    assert!(rt; [none, opened, first, before] == [26, 0, 0, 25]);
+    assert!(rt; [second, after] == [0, 0]);
     Ok(())
 }

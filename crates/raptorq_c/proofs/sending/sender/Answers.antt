@@ -39,4 +39,5 @@ returns-clause-encoder c =
       nonsingular = holds_over HasNonsingularRows (table_of rows) _ _ _ c.in_ok-table.ensures c.deserialize-config.ensures ends.nonsingular;
       encoder = holds_over (λ t _. IsEncoderOf t object e) (table_of rows) _ _ _ c.in_ok-table.ensures c.deserialize-config.ensures ends.encoder;
     } in
-    subst (λ k. IsSomeAnd (encoder_in k) (IsEncoderIn rows c.args.configuration.now object)) (sym c.in_ok-boxed.ensures) made
+    let shared = subst (λ d. IsEncoderIn rows c.args.configuration.now object (encoded_of d)) (sym c.in_ok-new.ensures.ok) made in
+    subst (λ k. IsSomeAnd (encoder_in k) (IsEncoderIn rows c.args.configuration.now object)) (sym c.in_ok-boxed.ensures) shared
