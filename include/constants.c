@@ -27,6 +27,7 @@ const char *reamertan_answer_text(uint8_t answer)
     case REAMERTAN_BLOCK_OVER_TABLE: return "a source block has more symbols than the table's greatest row";
     case REAMERTAN_WRONG_DATA_LENGTH: return "the object has another length than its configuration says";
     case REAMERTAN_SINGULAR: return "a row of the table doesn't determine the intermediate symbols";
+    case REAMERTAN_PLAN_MISMATCH: return "the plan is of other blocks";
     case REAMERTAN_ESI_TOO_LARGE: return "an encoding symbol id is above 16777215";
     case REAMERTAN_PACKET_TOO_SHORT: return "a packet is shorter than its payload id";
     case REAMERTAN_WRONG_PAYLOAD_SIZE: return "a packet's payload has another length than a symbol";

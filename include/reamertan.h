@@ -90,6 +90,8 @@ enum reamertan_answer {
     REAMERTAN_WRONG_DATA_LENGTH = 8,
     /* A row of the table doesn't determine the intermediate symbols. */
     REAMERTAN_SINGULAR = 9,
+    /* A plan was made for another number of source symbols than a block has, or over another row of the table. */
+    REAMERTAN_PLAN_MISMATCH = 10,
     /* A block would need encoding symbol ids above 2^24 - 1. */
     REAMERTAN_ESI_TOO_LARGE = 11,
     /* A packet is shorter than its payload id. */
@@ -116,7 +118,7 @@ enum reamertan_answer {
     REAMERTAN_WRONG_BUFFER = 24,
     /* The packets don't determine the object, or the block asked for, or some of them contradict each other. */
     REAMERTAN_INCOMPLETE = 25,
-    /* The handle holds no coder, or one of the other kind. */
+    /* The handle holds no coder, or one of another kind. */
     REAMERTAN_NO_CODER = 26
 };
 
@@ -248,7 +250,7 @@ uint8_t reamertan_decode(const struct reamertan_row *rows, size_t row_count,
                          const uint8_t *packets, size_t packets_length, uint8_t *object,
                          size_t object_length);
 
-/* A coder between calls: an encoder, a decoder, or none. It begins as none, by `struct reamertan_handle handle =
+/* A coder between calls: an encoder of an object or of a block, a plan, a decoder, or none. It begins as none, by `struct reamertan_handle handle =
  * REAMERTAN_HANDLE_INIT;` or with all bytes zero, and is then changed by the calls below alone. The caller doesn't
  * copy it, except to move it: of the two only one is used from then on. It is used by one call at a time, and may go
  * to another thread, in the order of a lock, of a thread's start or join, or of a sequentially consistent
@@ -283,6 +285,51 @@ uint8_t reamertan_open_encoder(const struct reamertan_row *rows, size_t row_coun
 uint8_t reamertan_write_packet(struct reamertan_handle *handle, uint8_t block, uint32_t esi,
                                uint8_t *packet, size_t packet_length);
 
+/* Fills `packets` with `count` packets of source block `block`, those of the encoding symbol ids from `first` on, one
+ * behind another. `packets_length` has to be `count` * (4 + T).
+ *
+ * Refuses, in this order: NO_CODER where the handle holds no encoder of an object, ESI_TOO_LARGE where `first` +
+ * `count` is above 2^24, UNKNOWN_BLOCK, OUT_OF_MEMORY, WRONG_BUFFER. */
+uint8_t reamertan_write_packets(struct reamertan_handle *handle, uint8_t block, uint32_t first, uint32_t count,
+                                uint8_t *packets, size_t packets_length);
+
+/* Makes the plan of source blocks of `source_symbols` symbols, which the handle holds from then on. A coder that it
+ * held is freed. The rows aren't needed any more. Blocks of one size share a plan, whatever their symbols' size: it is
+ * most of the work of an encoder of small symbols.
+ *
+ * Refuses, in this order: ROW_REFUSED, BLOCK_OVER_TABLE, SINGULAR. OUT_OF_MEMORY may come before any. Where it
+ * refuses, the handle holds what it held. */
+uint8_t reamertan_open_plan(const struct reamertan_row *rows, size_t row_count, uint16_t source_symbols,
+                            struct reamertan_handle *handle);
+
+/* Makes the encoder of source block `block`, whose bytes are `bytes`, by the plan that `plan` holds. `handle`, which
+ * isn't `plan`, holds it from then on. A coder that it held is freed. Neither the plan is needed any more, nor bytes
+ * and rows. Of the configuration the symbol size is read, the number of sub-blocks and the alignment. The bytes are
+ * all of the block's, with the zeros that fill up the last one: `end` - `start` of `reamertan_block_range`.
+ *
+ * Refuses, in this order: NO_CODER where `plan` holds no plan, ROW_REFUSED, SYMBOL_SIZE_ZERO, ALIGNMENT_ZERO,
+ * MISALIGNED, WRONG_DATA_LENGTH where the bytes aren't whole symbols, BLOCK_OVER_TABLE, PLAN_MISMATCH. OUT_OF_MEMORY
+ * may come before any but the first. Where it refuses, `handle` holds what it held. */
+uint8_t reamertan_open_block_encoder(const struct reamertan_row *rows, size_t row_count,
+                                     const uint8_t configuration[REAMERTAN_CONFIGURATION_BYTES],
+                                     uint8_t block, const uint8_t *bytes, size_t length,
+                                     struct reamertan_handle *plan, struct reamertan_handle *handle);
+
+/* Fills `packets` with `count` packets of the block whose encoder the handle holds, as `reamertan_write_packets` does.
+ *
+ * Refuses, in this order: NO_CODER where the handle holds no encoder of a block, ESI_TOO_LARGE, OUT_OF_MEMORY,
+ * WRONG_BUFFER. */
+uint8_t reamertan_write_block_packets(struct reamertan_handle *handle, uint32_t first, uint32_t count,
+                                      uint8_t *packets, size_t packets_length);
+
+/* Makes `twin`, which isn't `handle`, a further handle on the encoder or the plan that `handle` holds, without a copy.
+ * A coder that it held is freed. Each is used and closed by itself, and one may be used by one thread while the other
+ * is used by another. The last one that is closed frees the encoder or the plan.
+ *
+ * Refuses NO_CODER where `handle` holds none, as where it holds a decoder, and OUT_OF_MEMORY. Where it refuses, `twin`
+ * holds what it held. */
+uint8_t reamertan_share(struct reamertan_handle *handle, struct reamertan_handle *twin);
+
 /* Makes the decoder of an object, which the handle holds from then on. A coder that it held is freed.
  * The rows aren't needed any more.
  *
@@ -304,14 +351,18 @@ uint8_t reamertan_open_decoder(const struct reamertan_row *rows, size_t row_coun
 uint8_t reamertan_add_packet(struct reamertan_handle *handle, const uint8_t *packet,
                              size_t packet_length);
 
+/* Tells whether the object is complete, which each of its blocks then is.
+ *
+ * Refuses, in this order: NO_CODER where the handle holds no decoder, INCOMPLETE. Never OUT_OF_MEMORY. */
+uint8_t reamertan_is_complete(struct reamertan_handle *handle);
+
 /* Fills `object` with the object, where the packets that were taken determine it. `object_length` has to
  * be the object's, F. What is written is the object where the packets are the object's: packets that were
  * forged, or damaged but for their ids, and don't contradict each other, give other bytes. The decoder
  * stays as it is.
  *
  * Refuses, in this order: NO_CODER where the handle holds no decoder, INCOMPLETE, WRONG_BUFFER.
- * OUT_OF_MEMORY may come before the last two. So a buffer of another length tells whether the object is
- * complete: INCOMPLETE before, and WRONG_BUFFER after. The object is joined for that. */
+ * OUT_OF_MEMORY may come before the last two. */
 uint8_t reamertan_write_object(struct reamertan_handle *handle, uint8_t *object,
                                size_t object_length);
 
@@ -336,7 +387,8 @@ uint8_t reamertan_write_block(struct reamertan_handle *handle, uint8_t block, ui
  * packets of the block contradict each other. Never OUT_OF_MEMORY. */
 uint8_t reamertan_missing_packets(struct reamertan_handle *handle, uint8_t block, uint32_t *missing);
 
-/* Frees the coder that a handle holds, if any. The handle then holds none, and may be used again. */
+/* Frees the coder that a handle holds, if any, unless another handle holds it too. The handle then holds none, and may
+ * be used again. */
 void reamertan_close(struct reamertan_handle *handle);
 
 #ifdef __cplusplus
