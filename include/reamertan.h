@@ -280,8 +280,8 @@ uint8_t reamertan_open_encoder(const struct reamertan_row *rows, size_t row_coun
  * number of source symbols that of a source symbol, and else that of a repair symbol. `packet_length` has
  * to be 4 + T.
  *
- * Refuses, in this order: NO_CODER where the handle holds no encoder, ESI_TOO_LARGE where `esi` is above
- * 2^24 - 1, UNKNOWN_BLOCK, OUT_OF_MEMORY, WRONG_BUFFER. */
+ * Refuses, in this order: NO_CODER where the handle holds no encoder of an object, ESI_TOO_LARGE where
+ * `esi` is above 2^24 - 1, UNKNOWN_BLOCK, OUT_OF_MEMORY, WRONG_BUFFER. */
 uint8_t reamertan_write_packet(struct reamertan_handle *handle, uint8_t block, uint32_t esi,
                                uint8_t *packet, size_t packet_length);
 

@@ -15,7 +15,7 @@ pub enum CallEnd {
     WrongBuffer,
     /// The packets don't determine the object.
     Incomplete,
-    /// The handle holds no coder, or one of the other kind.
+    /// The handle holds no coder, or one of another kind.
     NoCoder,
 }
 

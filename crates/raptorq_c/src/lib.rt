@@ -3,8 +3,8 @@
 //! A configuration crosses as the twelve bytes that go before a stream's packets, an object and
 //! packets as buffers of the caller's, and an answer as a number: 0, that of a refusal, or one from
 //! 24 to 31, which are this library's. A call that answers another number than 0 leaves the caller's
-//! buffers as they were. Calls on buffers keep no memory. A handle holds an encoder or a decoder
-//! between calls, until it is closed.
+//! buffers as they were. Calls on buffers keep no memory. A handle holds an encoder, a plan or a decoder
+//! between calls, until it is closed. Handles share encoders and plans.
 //!
 //! Calls that need a table take the rows that follow the built-in ones (RFC 6330, 5.6). They first
 //! refuse what `SystematicTable::with_rows` refuses of these (19).

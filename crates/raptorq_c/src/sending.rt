@@ -95,7 +95,7 @@ fn write(
 /// Fills a buffer with the packet of a source block's number and an encoding symbol id: the payload id
 /// of 4 bytes and a symbol.
 ///
-/// Answers 26 where the handle holds no encoder. Refuses an id of more than 24 bits, then a number that
+/// Answers 26 where the handle holds no encoder of an object. Refuses an id of more than 24 bits, then a number that
 /// no source block has, and then a buffer that hasn't the packet's length. Want of memory may come
 /// before the last.
 #[unsafe(no_mangle)]
