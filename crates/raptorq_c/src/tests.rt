@@ -219,14 +219,13 @@ fn contradictions(rt: HostRuntime) -> Result<(), Fail> {
     Ok(())
 }
 
-// What calls answer that make a plan and the encoder of the three bytes' block, and close the plan.
+// What calls answer that make a plan and the encoder of the three bytes' block.
 fn open_block(alloc: Global, plan: &mut Handle, block: &mut Handle) -> [u8; 4] {
     let bytes = [7, 8, 9, 0];
     let none = reamertan_open_block_encoder(alloc, &[], &HEADER, 0, &bytes, plan, block);
     let planned = reamertan_open_plan(alloc, &[], 2, plan);
     let other = reamertan_open_block_encoder(alloc, &[], &HEADER, 0, &bytes[..2], plan, block);
     let opened = reamertan_open_block_encoder(alloc, &[], &HEADER, 0, &bytes, plan, block);
-    reamertan_close(alloc, plan);
     [none, planned, other, opened]
 }
 
@@ -236,6 +235,7 @@ fn plans(rt: HostRuntime) -> Result<(), Fail> {
     let mut block = Handle::empty();
     let mut packets = [0; 12];
     let opened = open_block(rt.alloc(), &mut plan, &mut block);
+    reamertan_close(rt.alloc(), &mut plan);
     let written = reamertan_write_block_packets(rt.alloc(), &mut block, 0, 2, &mut packets);
     let large = reamertan_write_block_packets(rt.alloc(), &mut block, 1 << 24, 1, &mut packets);
     let shorter = reamertan_write_block_packets(rt.alloc(), &mut block, 0, 1, &mut packets);
