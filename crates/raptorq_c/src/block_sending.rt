@@ -31,9 +31,11 @@ fn block_sender(
     block: Block<'_>,
     plan: &SourceBlockEncodingPlan,
 ) -> Result<Box<Coder>, Error>
-    ensures refused { IfErr result (λ e. (e ≡ Error.OutOfMemory) ⊎ RefusesByPlan rows.now block.entry.configuration.now block.entry.bytes.now (plan_of plan.now) e) }
+    ensures refused { IfErr result (λ e. (e ≡ Error.OutOfMemory)
+        ⊎ RefusesByPlan rows.now block.entry.configuration.now block.entry.bytes.now (plan_of plan.now) e) }
     ensures fits { OnOk result (FitsBlock rows.now block.entry.configuration.now block.entry.bytes.now (plan_of plan.now)) }
-    ensures encoder { IfOk result (λ b. IsSomeAnd (block_encoder_in b.value) (IsBlockEncoderIn rows.now block.entry.configuration.now block.entry.number block.entry.bytes.now)) }
+    ensures encoder { IfOk result (λ b. IsSomeAnd (block_encoder_in b.value)
+        (IsBlockEncoderIn rows.now block.entry.configuration.now block.entry.number block.entry.bytes.now)) }
 {
     let table = table_with(alloc, rows)?;
     let config = ObjectTransmissionInformation::deserialize(block.configuration);
@@ -56,7 +58,8 @@ fn open(
     planner: &Coder,
     handle: &mut Handle,
 ) -> Result<(), CallEnd>
-    ensures { OpensBlockEncoder rows.now block.entry.configuration.now block.entry.number block.entry.bytes.now (plan_in planner.now) (number_of result) handle.old handle.new }
+    ensures { OpensBlockEncoder rows.now block.entry.configuration.now block.entry.number block.entry.bytes.now
+        (plan_in planner.now) (number_of result) handle.old handle.new }
 {
     let Coder::Planner(plan) = planner else {
         return Err(CallEnd::NoCoder);

@@ -70,7 +70,8 @@ fn twin_of(alloc: Global, coder: &Coder) -> Result<Box<Coder>, CallEnd>
     ensures block_encoder { IfOk result (λ b. block_encoder_in b.value ≡ block_encoder_in coder.now) }
     ensures plan { IfOk result (λ b. plan_in b.value ≡ plan_in coder.now) }
     ensures shared { OnOk result (is_shared coder.now ≡ true) }
-    ensures refused { IfErr result (λ end. ((end ≡ CallEnd.NoCoder) × (is_shared coder.now ≡ false)) ⊎ ((end ≡ CallEnd.Refused Error.OutOfMemory) × (is_shared coder.now ≡ true))) }
+    ensures refused { IfErr result (λ end. ((end ≡ CallEnd.NoCoder) × (is_shared coder.now ≡ false))
+        ⊎ ((end ≡ CallEnd.Refused Error.OutOfMemory) × (is_shared coder.now ≡ true))) }
 {
     let twin = match coder {
         Coder::Sender(encoder) => twin_encoder(alloc, encoder),
@@ -90,7 +91,8 @@ fn share(alloc: Global, coder: &Coder, twin: &mut Handle) -> Result<(), CallEnd>
     ensures block_encoder { OnOk result (block_encoder_of twin.new ≡ block_encoder_in coder.now) }
     ensures plan { OnOk result (plan_of_handle twin.new ≡ plan_in coder.now) }
     ensures shared { OnOk result (is_shared coder.now ≡ true) }
-    ensures refused { IfErr result (λ end. ((end ≡ CallEnd.NoCoder) × (is_shared coder.now ≡ false)) ⊎ ((end ≡ CallEnd.Refused Error.OutOfMemory) × (is_shared coder.now ≡ true))) }
+    ensures refused { IfErr result (λ end. ((end ≡ CallEnd.NoCoder) × (is_shared coder.now ≡ false))
+        ⊎ ((end ≡ CallEnd.Refused Error.OutOfMemory) × (is_shared coder.now ≡ true))) }
     ensures kept { OnErr result (coder_of twin.new ≡ coder_of twin.old) }
 {
     twin.replace(alloc, twin_of(alloc, coder)?);
