@@ -1,0 +1,5 @@
+pub mod Cells
+pub mod Found
+pub mod Laws
+pub mod Scans
+pub mod Wanted

@@ -1,0 +1,88 @@
+use crate::{Cell, CellScanner, Head, Search, first_wanted, name_of};
+use rq_base::base::{EncodingPacket, ObjectTransmissionInformation, PayloadId};
+use rq_bytes::error::Error;
+use rq_tables::systematic_constants::SystematicTable;
+use std::alloc::Global;
+
+// The cells of the object 7, 8, 9 in symbols of two bytes, as Python's hashlib has them.
+const FIRST: [u8; 50] = [
+    82, 81, 67, 1, 187, 194, 129, 53, 165, 47, 242, 115, 176, 238, 23, 89, 119, 224, 221, 181, 0,
+    0, 0, 0, 3, 0, 0, 2, 1, 0, 1, 1, 188, 146, 92, 230, 0, 0, 0, 0, 7, 8, 30, 213, 159, 95, 220,
+    120, 224, 122,
+];
+
+const SECOND: [u8; 50] = [
+    82, 81, 67, 1, 187, 194, 129, 53, 165, 47, 242, 115, 176, 238, 23, 89, 119, 224, 221, 181, 0,
+    0, 0, 0, 3, 0, 0, 2, 1, 0, 1, 1, 188, 146, 92, 230, 0, 0, 0, 1, 9, 0, 1, 42, 197, 181, 225, 64,
+    194, 50,
+];
+
+fn head() -> Result<Head, Error> {
+    Ok(Head {
+        name: name_of(&[7, 8, 9]),
+        configuration: ObjectTransmissionInformation::new(3, 2, 1, 1, 1)?,
+    })
+}
+
+fn cell(alloc: Global, id: u32, symbol: &[u8]) -> Result<Cell, Error> {
+    Ok(Cell {
+        head: head()?,
+        packet: EncodingPacket::new(PayloadId::new(0, id)?, Vec::from_slice(alloc, symbol)?),
+    })
+}
+
+#[test]
+fn cells_are_written_and_read(rt: HostRuntime) {
+    let alloc = rt.alloc();
+    let first = cell(alloc, 0, &[7, 8]).expect(&rt, "a cell");
+    let bytes = first.serialize(alloc).expect(&rt, "its bytes");
+    assert_eq!(rt; bytes.as_slice(), FIRST.as_slice());
+    let read = Cell::read(alloc, &SECOND).expect(&rt, "memory");
+    assert_eq!(rt; read, Some(cell(alloc, 1, &[9, 0]).expect(&rt, "a cell")));
+}
+
+// A damaged cell behind other bytes, the head of another object, the second cell, and the beginning
+// of the first.
+fn stream(alloc: Global) -> Result<Vec<u8>, Error> {
+    let mut bytes = Vec::from_slice(alloc, &[82, 81])?;
+    bytes.extend_from_slice(&FIRST)?;
+    bytes[47] ^= 1;
+    let other = Head {
+        name: [0; 16],
+        configuration: head()?.configuration,
+    };
+    bytes.extend_from_slice(other.serialize(alloc)?.as_slice())?;
+    bytes.extend_from_slice(&SECOND)?;
+    bytes.extend_from_slice(&FIRST[..40])?;
+    Ok(bytes)
+}
+
+#[test]
+fn cells_are_found_among_other_bytes(rt: HostRuntime) {
+    let alloc = rt.alloc();
+    let bytes = stream(alloc).expect(&rt, "bytes");
+    let head = head().expect(&rt, "a head");
+    let scanner = CellScanner::new(alloc, head).expect(&rt, "a scanner");
+    assert_eq!(rt; scanner.head(), head);
+    let scan = scanner.scan(alloc, bytes.as_slice()).expect(&rt, "a scan");
+    let second = cell(alloc, 1, &[9, 0]).expect(&rt, "a cell");
+    assert_eq!(rt; scan.packets.as_slice(), [second.packet].as_slice());
+    assert_eq!(rt; (scan.places, scan.damaged, scan.others), (138, 1, 1));
+}
+
+#[test]
+fn first_wanted_cell_is_found(rt: HostRuntime) {
+    let alloc = rt.alloc();
+    let table = SystematicTable::built_in(alloc).expect(&rt, "a table");
+    let bytes = stream(alloc).expect(&rt, "bytes");
+    let wanted = Search::Found {
+        at: 88,
+        head: head().expect(&rt, "a head"),
+    };
+    let any = first_wanted(alloc, &table, &[], bytes.as_slice()).expect(&rt, "a search");
+    assert_eq!(rt; any, wanted);
+    let begun = first_wanted(alloc, &table, &[187, 194], bytes.as_slice()).expect(&rt, "a search");
+    assert_eq!(rt; begun, wanted);
+    let missed = first_wanted(alloc, &table, &[1], bytes.as_slice()).expect(&rt, "a search");
+    assert_eq!(rt; missed, Search::NotYet { from: 143 });
+}
