@@ -13,7 +13,7 @@ mod words;
 pub use counted::Counted;
 pub use ending::report;
 pub use jobs::Job;
-pub use receive::run_receive;
+pub use receive::{run_receive, write_object};
 pub use run::{Outcome, Stop};
 pub use send::run_send;
 pub use words::job;

@@ -1,0 +1,192 @@
+-- How a run ends.
+use Rattle.std.proofs.Common.{◌≡◌, ◌⊎◌, inl, inr, ℕ, List, [], ◌++◌, take, drop, refl, sym, ap, subst, ◌∙◌, Option, Some, None, true, Result, Ok, Err, append-nil, append_assoc, arith, length-append}
+use Rattle.std.specs.Prelude.{is_ok, unwrap_or, IsSome}
+use Rattle.std.specs.Io.KnownBytes.{Consumes, Appends}
+use Rattle.std.proofs.KnownBytes.{Consumes-trans, Keeps-refl}
+use Rattle.std.proofs.lemmas.Bool.{and_parts, true≢false}
+use Rattle.std.specs.List.{starts_with, AllByRecursion}
+use Rattle.std.specs.Prelude.{nat_eq}
+use Rattle.rq_bytes.specs.declared.error.Error.{Error}
+use Rattle.rq_bytes.specs.declared.error.Error.TheVariants.{OutOfMemory}
+use Rattle.rq_bytes.specs.Refusals.{IsRefusal}
+use Rattle.rq_standard.specs.declared.row.TableRow.{TableRow}
+use Rattle.rq_standard.specs.TableRows.{greatest_size}
+use Rattle.rq_standard.specs.Configuration.{header_bytes}
+use Rattle.rq_standard.specs.Headline.{IsPacketOf, AnswersExactly, AnswersWhereAnyCan}
+use Rattle.rq_standard.specs.DecoderState.{result_of}
+use Rattle.rq_standard.specs.Following.{IsAnswerAfter}
+use Rattle.rq_base.specs.RefusedInput.{checked_configuration}
+use Rattle.raptorq.specs.Decoder.{state_of}
+use Rattle.raptorq.specs.Runs.{IsRefusalBehind}
+use Rattle.std.proofs.lemmas.Option.{same_Some}
+use Rattle.rq_streams.specs.Ends.{Ends}
+use Rattle.rq_streams.specs.declared.run.Outcome.{Outcome}
+use Rattle.rq_streams.specs.declared.run.Outcome.TheVariants.{Written, Incomplete}
+use Rattle.rq_streams.specs.declared.run.Stop.{Stop}
+use Rattle.rq_streams.specs.declared.run.Stop.TheVariants.{Fault, Refused}
+use Rattle.rq_cells.specs.declared.head.Head.{Head}
+use Rattle.rq_cells.specs.Cells.{name_of}
+use Rattle.rq_cells.specs.Found.{packets_in, damaged_in, others_in}
+use Rattle.rq_cells.specs.Scans.{IsUnsettled}
+use Rattle.rq_cells.proofs.FirstCell.{wanted_cell, nothing_before_first}
+use Rattle.rq_cast.specs.declared.reading.Found.{Found}
+use Rattle.rq_cast.specs.declared.receiver.Receiver.{Receiver}
+use Rattle.rq_cast.specs.declared.receiver.Seen.{Seen}
+use Rattle.rq_cast.specs.Taken.{known_packets, unknown_count, StopsAmong}
+use Rattle.rq_cast.specs.Searching.{FindsFirst}
+use Rattle.rq_cast.specs.Receiving.{IsNewReceiver, HasTaken, EndsDetermined, EndsUndetermined, RefusesPackets, StopsReceiving}
+use Rattle.rq_cast.specs.Received.{received_packets, IsReceived, IsAnswered, IsSeen, Determines, DoesntDetermine, RefusesReceived, EndsReceiving}
+use Rattle.rq_cast.proofs.Answering.{answered_by, run_of_none}
+
+-- coders take what was found
+accepted : (r : Result (Unit {0}) Error) → is_ok r ≡ true → r ≡ Ok tt
+accepted (Ok u) e = refl
+accepted (Err w) e = absurd (true≢false (sym e))
+
+pub only_memory : (table : List TableRow) (name : List ℕ) (before after : Option (List ℕ)) (found : Found) → FindsFirst (greatest_size table) name before after found.head found.bytes.items
+    → (e : Error) → IsRefusal e (checked_configuration (greatest_size table) found.head.configuration) → e ≡ OutOfMemory
+only_memory table name before after found f e refused =
+    let greatest = greatest_size table in
+    let cell = wanted_cell greatest name (drop f.at (f.earlier ++ f.last)) found.head f.first.found in
+    let both = and_parts (is_ok (checked_configuration greatest found.head.configuration)) (starts_with nat_eq (found.head.name ++ header_bytes found.head.configuration) name) cell.wanted in
+    subst (IsRefusal e) (accepted (checked_configuration greatest found.head.configuration) both.0) refused
+
+module _ (table : List TableRow) (name : List ℕ) (before mid after : Option (List ℕ)) (found : Found) (f : FindsFirst (greatest_size table) name before mid found.head found.bytes.items)
+    (old : Receiver) (made : IsNewReceiver table found old) where
+  abbrev h : Head
+  h = found.head
+
+  -- what was read until the first wanted cell was whole
+  abbrev front : List ℕ
+  front = f.earlier ++ f.last
+
+  kept_is : old.bytes.items ≡ drop f.at front
+  kept_is = ap (λ v. v.items) made.bytes ∙ f.from_there
+
+  -- before that cell there is none
+  same_packets : (rest : List ℕ) → received_packets h (old.bytes.items ++ rest) ≡ received_packets h (front ++ rest)
+  same_packets rest =
+      ap (λ xs. received_packets h (xs ++ rest)) kept_is
+      ∙ ap (known_packets h.configuration) (sym (nothing_before_first (greatest_size table) name h made.fits front rest f.at f.first))
+
+  answered : (now : Receiver) (rest : List ℕ) → HasTaken old now (old.bytes.items ++ rest) → (answer : Option (List ℕ)) → result_of (state_of now.decoder) ≡ answer → IsAnswered table h (front ++ rest) answer
+  answered now rest has answer is =
+      let one : IsAnswered table h (old.bytes.items ++ rest) answer = subst (IsAnswered table h (old.bytes.items ++ rest)) is (answered_by table found old made now (old.bytes.items ++ rest) has) in
+      record {
+        whoever = subst (λ ps. IsAnswerAfter table h.configuration ps answer) (same_packets rest) one.whoever;
+        honest = subst (λ ps. AnswersExactly table h.configuration ps answer) (same_packets rest) one.honest;
+        only_object = subst (λ ps. AnswersWhereAnyCan table h.configuration ps answer) (same_packets rest) one.only_object;
+      }
+
+  -- more was read
+  abbrev received : (more : List ℕ) → Consumes mid after more → IsReceived (greatest_size table) name before after (front ++ more) h
+  received more read = record {
+    read = Consumes-trans before mid after front more f.read read;
+    front = front;
+    later = more;
+    cut = refl;
+    at = f.at;
+    first = f.first;
+  }
+
+  -- what was seen beside whole cells
+  seen_beside : (now : Receiver) (more : List ℕ) → HasTaken old now (old.bytes.items ++ more) → IsSeen h (drop f.at front ++ more) now.seen
+  seen_beside now more has =
+      let all : old.bytes.items ++ more ≡ drop f.at front ++ more = ap (λ xs. xs ++ more) kept_is in
+      let damaged_is : damaged_in old.scanner (old.bytes.items ++ more) ≡ damaged_in h (drop f.at front ++ more) = λ i. damaged_in (made.head i) (all i) in
+      let others_is : others_in old.scanner (old.bytes.items ++ more) ≡ others_in h (drop f.at front ++ more) = λ i. others_in (made.head i) (all i) in
+      let unknown_is : unknown_count (state_of old.decoder).configuration (packets_in old.scanner (old.bytes.items ++ more)) ≡ unknown_count h.configuration (packets_in h (drop f.at front ++ more)) =
+      λ i. unknown_count (made.configuration i) (packets_in (made.head i) (all i)) in
+      let left_is : others_in old.scanner now.bytes.items ≡ others_in h now.bytes.items = ap (λ k. others_in k now.bytes.items) made.head in
+      let flat = ap (others_in old.scanner) (append-nil (old.bytes.items ++ more)) in
+      let flat_left = ap (others_in old.scanner) (append-nil now.bytes.items) in
+      record {
+        damaged = omega (arith, has.damaged_seen, made.no_damaged, damaged_is);
+        left = now.bytes.items;
+        settled = has.front;
+        cut = sym all ∙ has.kept;
+        stopped = subst (λ k. IsUnsettled k now.bytes.items) made.head has.stopped;
+        others = has.others;
+        all_others = omega (arith, has.others_found [], flat, flat_left, others_is, left_is);
+        others_seen = omega (arith, has.others_seen, made.no_others, unknown_is);
+      }
+
+  pub determined : (now : Receiver) (object : List ℕ) → EndsDetermined old now mid after → result_of (state_of now.decoder) ≡ Some object → Determines table name before after h object now.seen
+  determined now object e is = record {
+    beside = seen_beside now (e.earlier ++ e.last) e.taken;
+    past = front ++ (e.earlier ++ e.last);
+    received = received (e.earlier ++ e.last) e.read;
+    answered = answered now (e.earlier ++ e.last) e.taken (Some object) is;
+    not_earlier = elim e.not_earlier [
+      | inl none ↦ record {
+        earlier = f.earlier;
+        last = f.last;
+        cut = ap (λ xs. front ++ xs) none ∙ append-nil front;
+        few = f.few;
+        wasnt = inl f.none_earlier;
+      }
+      | inr was ↦ record {
+        earlier = front ++ e.earlier;
+        last = e.last;
+        cut = sym (append_assoc front e.earlier e.last);
+        few = e.few;
+        wasnt = inr (answered was.0 e.earlier was.1 None was.2);
+      }
+    ];
+  }
+
+  pub undetermined : (now : Receiver) → EndsUndetermined old now mid after → DoesntDetermine table name before after now.seen
+  undetermined now e = record {
+    beside = seen_beside now e.past e.taken;
+    past = front ++ e.past;
+    head = h;
+    received = received e.past e.read;
+    answered = answered now e.past e.taken None e.undetermined;
+    ended = elim e.ended [
+      | inl at_end ↦ inl at_end
+      | inr many ↦ inr (omega (arith, many, length-append front e.past))
+    ];
+  }
+
+  pub refuses : (e : Error) → RefusesPackets old mid after e → RefusesReceived table name before after e
+  refuses e r =
+      let c = h.configuration in
+      let stops : StopsAmong (state_of old.decoder) (received_packets h (front ++ r.past)) e =
+      subst (λ ps. StopsAmong (state_of old.decoder) ps e) ((λ i. known_packets (made.configuration i) (packets_in (made.head i) (old.bytes.items ++ r.past))) ∙ same_packets r.past) r.stops in
+      record {
+        past = front ++ r.past;
+        head = h;
+        received = received r.past r.read;
+        refused = subst (λ k. (e ≡ OutOfMemory) ⊎ IsRefusalBehind table k [] (received_packets h (front ++ r.past)) (Err e)) made.configuration (stops.refused table [] made.follows);
+        honest = λ object run.
+            stops.honest table object [] (made.stands object (run_of_none table c object (received_packets h (front ++ r.past)) run))
+            (subst (λ k. AllByRecursion (IsPacketOf table k object) (received_packets h (front ++ r.past))) (sym made.configuration) run.honest);
+      }
+
+  -- where it stops nothing is written
+  pub not_received : (there : Option (List ℕ)) (stop : Stop) → StopsReceiving old mid after stop → EndsReceiving table name (Err stop) before after there there
+  not_received there Fault stops = inl (Keeps-refl there)
+  not_received there (Refused e) (inl memory) = (inl memory, Keeps-refl there)
+  not_received there (Refused e) (inr r) = (inr (refuses e r), Keeps-refl there)
+
+-- ---- the object that is answered, and what is written of it
+
+pub answered_object : (answer : Option (List ℕ)) → IsSome answer → answer ≡ Some (unwrap_or answer [])
+answered_object (Some xs) is = refl
+answered_object None is = absurd (cc is)
+
+module _ (answer : Option (List ℕ)) (object : List ℕ) (is : answer ≡ Some object) (there then : Option (List ℕ)) where
+  pub written : (o : Outcome) → Ends (Ok o) there then (Ok answer) → Appends there then object
+  written Written (bytes, wanted, more) =
+      let same : answer ≡ Some bytes = cc wanted in
+      subst (Appends there then) (same_Some bytes object (sym same ∙ is)) more
+  written Incomplete (wanted, kept) = absurd (cc (wanted, is))
+
+  pub not_written : (table : List TableRow) (name : List ℕ) (before after : Option (List ℕ)) (h : Head) (seen : Seen) → Determines table name before after h object seen → name_of object ≡ h.name
+      → (stop : Stop) → Ends (Err stop) there then (Ok answer) → EndsReceiving table name (Err stop) before after there then
+  not_written table name before after h seen d named (Refused e) (inl memory, kept) = (inl memory, kept)
+  not_written table name before after h seen d named (Refused e) (inr wanted, kept) = absurd (cc wanted)
+  not_written table name before after h seen d named Fault (inl kept) = inl kept
+  not_written table name before after h seen d named Fault (inr (bytes, n, wanted, more)) =
+      let same : answer ≡ Some bytes = cc wanted in
+      inr (h, object, seen, d, named, (n, subst (λ xs. Appends there then (take n xs)) (same_Some bytes object (sym same ∙ is)) more))

@@ -1,0 +1,6 @@
+pub mod Answering
+pub mod Ended
+pub mod Hashed
+pub mod Receiving
+pub mod Searched
+pub mod TakenPackets

@@ -1,0 +1,248 @@
+-- The cells that are whole in what was read.
+use Rattle.std.proofs.Common.{◌≡◌, ◌⊎◌, inl, inr, ℕ, ◌+◌, ◌-◌, ◌^◌, ◌≤◌, ◌<◌, List, [], ◌++◌, length, drop, refl, sym, ap, subst, ◌∙◌, arith, append-nil, append_assoc, length-append, Option, None, Some, Bool, true, false, Vec, Global}
+use Rattle.std.specs.Prelude.{IsSome, is_some}
+use Rattle.std.proofs.lemmas.Bool.{true≢false}
+use Rattle.std.specs.Io.KnownBytes.{Consumes, IsAtEnd}
+use Rattle.std.proofs.KnownBytes.{Consumes-nil, Consumes-trans}
+use Rattle.std.proofs.lemmas.List.{nil_from_length}
+use Rattle.rq_bytes.specs.declared.error.Error.{Error}
+use Rattle.rq_bytes.specs.declared.error.Error.TheVariants.{OutOfMemory}
+use Rattle.rq_standard.specs.Configuration.{Configuration}
+use Rattle.rq_standard.specs.DecoderState.{result_of}
+use Rattle.raptorq.specs.Decoder.{state_of}
+use Rattle.raptorq.specs.declared.decoder.object.Decoder.{Decoder}
+use Rattle.rq_cells.specs.declared.head.Head.{Head}
+use Rattle.rq_cells.specs.declared.scanner.Scan.{Scan}
+use Rattle.rq_cells.specs.Found.{packets_in, damaged_in, others_in}
+use Rattle.rq_cells.specs.Scans.{Settles, IsUnsettled}
+use Rattle.rq_cast.specs.declared.receiver.Receiver.{Receiver}
+use Rattle.rq_cast.specs.Taken.{known_packets, unknown_count, TakesAll, StopsAmong}
+use Rattle.rq_cast.specs.Reading.{chunk_length}
+use Rattle.rq_cast.specs.Receiving.{counted, TakesFrom, TakesCells, HasTaken, EndsDetermined, EndsUndetermined, RefusesPackets, StopsInCells, Receives}
+use Rattle.rq_cast.proofs.TakenPackets.{takes_both, stops_behind, known_both, unknown_both}
+
+-- what a scan takes is all that is there
+pub all_settled : (h : Head) (bytes : List ℕ) (s : Scan) → Settles h bytes s → packets_in h bytes ≡ s.packets.items
+all_settled h bytes s settles =
+    ap (packets_in h) (sym (append-nil bytes)) ∙ settles.packets []
+    ∙ ap (λ xs. s.packets.items ++ packets_in h xs) (append-nil (drop s.places bytes))
+    ∙ ap (λ ps. s.packets.items ++ ps) settles.none
+    ∙ append-nil s.packets.items
+
+-- what is taken from bytes is all that is in them
+module _ (h : Head) (bytes : List ℕ) (old new : Receiver) (t : TakesFrom h bytes old new) where
+  pub all_packets : packets_in h bytes ≡ t.packets
+  all_packets =
+      ap (packets_in h) (sym (append-nil bytes)) ∙ t.found []
+      ∙ ap (λ xs. t.packets ++ packets_in h xs) (append-nil new.bytes.items)
+      ∙ ap (λ ps. t.packets ++ ps) t.none
+      ∙ append-nil t.packets
+
+  pub all_damaged : damaged_in h bytes ≡ t.damaged
+  all_damaged =
+      let all = ap (damaged_in h) (sym (append-nil bytes)) ∙ t.damaged_found [] ∙ ap (λ xs. t.damaged + damaged_in h xs) (append-nil new.bytes.items) in
+      omega (arith, all, t.no_damaged)
+
+-- the cells of what a receiver had
+pub taken_first : (old new : Receiver) → TakesCells old new → HasTaken old new old.bytes.items
+taken_first old new cells =
+    let t = cells.taken in
+    let h = old.scanner in
+    let c = (state_of old.decoder).configuration in
+    let all = all_packets h old.bytes.items old new t in
+    let damaged = all_damaged h old.bytes.items old new t in
+    record {
+      head = cells.head;
+      front = t.front;
+      kept = t.kept;
+      stopped = t.stopped;
+      found = λ rest. t.found rest ∙ ap (λ ps. ps ++ packets_in h (new.bytes.items ++ rest)) (sym all);
+      takes = subst (λ ps. TakesAll (state_of old.decoder) (known_packets c ps) (state_of new.decoder)) (sym all) t.takes;
+      damaged_found = λ rest. t.damaged_found rest ∙ ap (λ n. n + damaged_in h (new.bytes.items ++ rest)) (sym damaged);
+      damaged_seen = t.damaged_seen ∙ ap (λ n. counted (old.seen.damaged + n)) (sym damaged);
+      others = t.others;
+      others_found = t.others_found;
+      others_seen = t.others_seen ∙ ap (λ ps. counted (old.seen.others + (t.others + unknown_count c ps))) (sym all);
+    }
+
+-- a piece more, and its cells
+module _ (old now : Receiver) (all : List ℕ) (has : HasTaken old now all) (bytes : Vec ℕ Global) (piece : List ℕ) (behind : bytes.items ≡ now.bytes.items ++ piece) where
+  abbrev h : Head
+  h = old.scanner
+
+  abbrev c : Configuration
+  c = (state_of old.decoder).configuration
+
+  abbrev longer : Receiver
+  longer = record { scanner = now.scanner; decoder = now.decoder; bytes = bytes; seen = now.seen }
+
+  pub taken_next : (new : Receiver) → TakesCells longer new → HasTaken old new (all ++ piece)
+  taken_next new cells =
+      let t : TakesFrom h bytes.items longer new = subst (λ k. TakesFrom k bytes.items longer new) has.head cells.taken in
+      let same : (state_of now.decoder).configuration ≡ c = has.takes.configuration in
+      let later : (rest : List ℕ) → now.bytes.items ++ (piece ++ rest) ≡ bytes.items ++ rest =
+      λ rest. sym (append_assoc now.bytes.items piece rest) ∙ ap (λ xs. xs ++ rest) (sym behind) in
+      let found : (rest : List ℕ) → packets_in h (all ++ piece ++ rest) ≡ packets_in h all ++ (t.packets ++ packets_in h (new.bytes.items ++ rest)) =
+      λ rest. ap (packets_in h) (append_assoc all piece rest) ∙ has.found (piece ++ rest)
+      ∙ ap (λ xs. packets_in h all ++ packets_in h xs) (later rest) ∙ ap (λ ps. packets_in h all ++ ps) (t.found rest) in
+      let whole : packets_in h (all ++ piece) ≡ packets_in h all ++ t.packets =
+      ap (packets_in h) (sym (append-nil (all ++ piece))) ∙ found []
+      ∙ ap (λ xs. packets_in h all ++ (t.packets ++ packets_in h xs)) (append-nil new.bytes.items)
+      ∙ ap (λ ps. packets_in h all ++ (t.packets ++ ps)) t.none ∙ ap (λ ps. packets_in h all ++ ps) (append-nil t.packets) in
+      let damaged : (rest : List ℕ) → damaged_in h (all ++ piece ++ rest) ≡ damaged_in h all + (t.damaged + damaged_in h (new.bytes.items ++ rest)) =
+      λ rest. ap (damaged_in h) (append_assoc all piece rest) ∙ has.damaged_found (piece ++ rest)
+      ∙ ap (λ xs. damaged_in h all + damaged_in h xs) (later rest) ∙ ap (λ n. damaged_in h all + n) (t.damaged_found rest) in
+      let damaged_whole : damaged_in h (all ++ piece) ≡ damaged_in h all + t.damaged =
+      let none = damaged [] in
+      let flat = ap (damaged_in h) (append-nil (all ++ piece)) in
+      let flat_kept = ap (damaged_in h) (append-nil new.bytes.items) in
+      omega (arith, none, flat, flat_kept, t.no_damaged) in
+      let takes : TakesAll (state_of now.decoder) (known_packets c t.packets) (state_of new.decoder) =
+      subst (λ k. TakesAll (state_of now.decoder) (known_packets k t.packets) (state_of new.decoder)) same t.takes in
+      let unknown = ap (unknown_count c) whole ∙ unknown_both c (packets_in h all) t.packets in
+      let unknown_here = ap (λ k. unknown_count k t.packets) same in
+      record {
+        head = cells.head ∙ has.head;
+        front = has.front ++ t.front;
+        kept =
+            ap (λ xs. xs ++ piece) has.kept ∙ append_assoc has.front now.bytes.items piece
+            ∙ ap (λ xs. has.front ++ xs) (sym behind ∙ t.kept) ∙ sym (append_assoc has.front t.front new.bytes.items);
+        stopped = t.stopped;
+        found = λ rest.
+            found rest ∙ sym (append_assoc (packets_in h all) t.packets (packets_in h (new.bytes.items ++ rest)))
+            ∙ ap (λ ps. ps ++ packets_in h (new.bytes.items ++ rest)) (sym whole);
+        takes = subst (λ ps. TakesAll (state_of old.decoder) ps (state_of new.decoder)) (sym (ap (known_packets c) whole ∙ known_both c (packets_in h all) t.packets))
+            (takes_both (state_of old.decoder) (state_of now.decoder) (state_of new.decoder) (known_packets c (packets_in h all)) (known_packets c t.packets) has.takes takes);
+        damaged_found = λ rest. let all_of = damaged rest in omega (arith, all_of, damaged_whole);
+        damaged_seen = omega (arith, t.damaged_seen, has.damaged_seen, damaged_whole);
+        others = has.others + t.others;
+        others_found = λ rest.
+            let all_of = ap (others_in h) (append_assoc all piece rest) ∙ has.others_found (piece ++ rest)
+            ∙ ap (λ xs. has.others + others_in h xs) (later rest) ∙ ap (λ n. has.others + n) (t.others_found rest) in
+            omega (arith, all_of);
+        others_seen = omega (arith, t.others_seen, has.others_seen, unknown, unknown_here);
+      }
+
+  -- nothing more came
+  pub taken_same : piece ≡ [] → HasTaken old longer all
+  taken_same none =
+      let same : bytes.items ≡ now.bytes.items = behind ∙ ap (λ xs. now.bytes.items ++ xs) none ∙ append-nil now.bytes.items in
+      record {
+        head = has.head;
+        front = has.front;
+        kept = has.kept ∙ ap (λ xs. has.front ++ xs) (sym same);
+        stopped = subst (IsUnsettled h) (sym same) has.stopped;
+        found = λ rest. has.found rest ∙ ap (λ xs. packets_in h all ++ packets_in h (xs ++ rest)) (sym same);
+        takes = has.takes;
+        damaged_found = λ rest. has.damaged_found rest ∙ ap (λ xs. damaged_in h all + damaged_in h (xs ++ rest)) (sym same);
+        damaged_seen = has.damaged_seen;
+        others = has.others;
+        others_found = λ rest. has.others_found rest ∙ ap (λ xs. has.others + others_in h (xs ++ rest)) (sym same);
+        others_seen = has.others_seen;
+      }
+
+  -- or what came is refused
+  pub stops_next : (e : Error) → StopsInCells longer e → (e ≡ OutOfMemory) ⊎ StopsAmong (state_of old.decoder) (known_packets c (packets_in h (all ++ piece))) e
+  stops_next e (inl memory) = inl memory
+  stops_next e (inr stops) =
+      let same : (state_of now.decoder).configuration ≡ c = has.takes.configuration in
+      let here : StopsAmong (state_of now.decoder) (known_packets c (packets_in h bytes.items)) e =
+      subst (λ k. StopsAmong (state_of now.decoder) (known_packets c (packets_in k bytes.items)) e) has.head
+      (subst (λ k. StopsAmong (state_of now.decoder) (known_packets k (packets_in now.scanner bytes.items)) e) same stops) in
+      let whole : packets_in h (all ++ piece) ≡ packets_in h all ++ packets_in h bytes.items = has.found piece ∙ ap (λ xs. packets_in h all ++ packets_in h xs) (sym behind) in
+      inr (subst (λ ps. StopsAmong (state_of old.decoder) ps e) (sym (ap (known_packets c) whole ∙ known_both c (packets_in h all) (packets_in h bytes.items)))
+      (stops_behind (state_of old.decoder) (state_of now.decoder) (known_packets c (packets_in h all)) (known_packets c (packets_in h bytes.items)) e has.takes here))
+
+-- ---- read after read
+
+-- So many reads were made, and what they brought before the last one doesn't determine the object.
+pub record IsReceiving (old now : Receiver) (before after : Option (List ℕ)) (reads : ℕ) : Type 0 where
+  pub earlier : List ℕ
+  pub last : List ℕ
+  pub few : length last ≤ chunk_length
+  pub read : Consumes before after (earlier ++ last)
+  pub brought : reads ≤ length (earlier ++ last)
+  pub taken : HasTaken old now (old.bytes.items ++ (earlier ++ last))
+  pub not_earlier : (earlier ++ last ≡ []) ⊎ ((mid : Receiver) × HasTaken old mid (old.bytes.items ++ earlier) × (result_of (state_of mid.decoder) ≡ None))
+
+module _ (old : Receiver) (before : Option (List ℕ)) where
+  pub receiving_first : (new : Receiver) → TakesCells old new → IsReceiving old new before before 0
+  receiving_first new cells = record {
+    earlier = [];
+    last = [];
+    few = omega arith;
+    read = Consumes-nil before;
+    brought = omega arith;
+    taken = subst (HasTaken old new) (sym (append-nil old.bytes.items)) (taken_first old new cells);
+    not_earlier = inl refl;
+  }
+
+  pub stops_first : (e : Error) → StopsInCells old e → (e ≡ OutOfMemory) ⊎ RefusesPackets old before before e
+  stops_first e (inl memory) = inl memory
+  stops_first e (inr stops) = inr (record {
+    past = [];
+    read = Consumes-nil before;
+    stops = subst (λ xs. StopsAmong (state_of old.decoder) (known_packets (state_of old.decoder).configuration (packets_in old.scanner xs)) e) (sym (append-nil old.bytes.items)) stops;
+  })
+
+  pub ends_determined : (now : Receiver) (after : Option (List ℕ)) (reads : ℕ) → IsReceiving old now before after reads → IsSome (result_of (state_of now.decoder)) → EndsDetermined old now before after
+  ends_determined now after reads r some = record { earlier = r.earlier; last = r.last; few = r.few; read = r.read; taken = r.taken; determined = some; not_earlier = r.not_earlier }
+
+  pub ends_in_many : (now : Receiver) (after : Option (List ℕ)) (reads : ℕ) → IsReceiving old now before after reads → result_of (state_of now.decoder) ≡ None → 2 ^ 64 - 1 ≤ reads → EndsUndetermined old now before after
+  ends_in_many now after reads r none many =
+      record { past = r.earlier ++ r.last; read = r.read; taken = r.taken; undetermined = none; ended = inr (omega (arith, many, r.brought)) }
+
+  module _ (now : Receiver) (after after' : Option (List ℕ)) (reads : ℕ) (r : IsReceiving old now before after reads) (none : result_of (state_of now.decoder) ≡ None)
+      (bytes : Vec ℕ Global) (piece : List ℕ) (behind : bytes.items ≡ now.bytes.items ++ piece) (more : Consumes after after' piece) (few : length piece ≤ chunk_length) where
+    abbrev past : List ℕ
+    past = r.earlier ++ r.last
+
+    all_read : Consumes before after' (past ++ piece)
+    all_read = Consumes-trans before after after' past piece r.read more
+
+    pub receiving_next : (new : Receiver) → 0 < length piece → TakesCells (longer old now (old.bytes.items ++ past) r.taken bytes piece behind) new → IsReceiving old new before after' (reads + 1)
+    receiving_next new some cells = record {
+      earlier = past;
+      last = piece;
+      few = few;
+      read = all_read;
+      brought = omega (arith, r.brought, some, length-append past piece);
+      taken = subst (HasTaken old new) (append_assoc old.bytes.items past piece) (taken_next old now (old.bytes.items ++ past) r.taken bytes piece behind new cells);
+      not_earlier = inr (now, r.taken, none);
+    }
+
+    pub ends_at_end : length piece ≡ 0 → IsAtEnd after' → EndsUndetermined old (longer old now (old.bytes.items ++ past) r.taken bytes piece behind) before after'
+    ends_at_end zero ended =
+        let nothing : piece ≡ [] = nil_from_length piece (omega (arith, zero)) in
+        record {
+          past = past ++ piece;
+          read = all_read;
+          taken = subst (λ xs. HasTaken old (longer old now (old.bytes.items ++ past) r.taken bytes piece behind) (old.bytes.items ++ xs)) (sym (ap (λ xs. past ++ xs) nothing ∙ append-nil past))
+              (taken_same old now (old.bytes.items ++ past) r.taken bytes piece behind nothing);
+          undetermined = none;
+          ended = inl ended;
+        }
+
+    pub stops_receiving : (e : Error) → StopsInCells (longer old now (old.bytes.items ++ past) r.taken bytes piece behind) e → (e ≡ OutOfMemory) ⊎ RefusesPackets old before after' e
+    stops_receiving e stops = elim (stops_next old now (old.bytes.items ++ past) r.taken bytes piece behind e stops) [
+      | inl memory ↦ inl memory
+      | inr among ↦ inr (record {
+        past = past ++ piece;
+        read = all_read;
+        stops = subst (λ xs. StopsAmong (state_of old.decoder) (known_packets (state_of old.decoder).configuration (packets_in old.scanner xs)) e) (append_assoc old.bytes.items past piece) among;
+      })
+    ]
+
+-- ---- whether the object is complete
+
+pub none_incomplete : (d : Decoder) → is_some (result_of (state_of d)) ≡ false → result_of (state_of d) ≡ None
+none_incomplete d = by (result_of (state_of d))
+  where
+    by : (o : Option (List ℕ)) → is_some o ≡ false → o ≡ None
+    by None e = refl
+    by (Some xs) e = absurd (true≢false e)
+
+pub receives_many : (old : Receiver) (before : Option (List ℕ)) (now : Receiver) (after : Option (List ℕ)) (reads : ℕ) → IsReceiving old now before after reads → 2 ^ 64 - 1 ≤ reads
+    → (b : Bool) → is_some (result_of (state_of now.decoder)) ≡ b → Receives old now before after b
+receives_many old before now after reads r many true e = ends_determined old before now after reads r e
+receives_many old before now after reads r many false e = ends_in_many old before now after reads r (none_incomplete now.decoder e) many

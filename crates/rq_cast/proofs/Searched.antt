@@ -1,0 +1,106 @@
+-- No wanted cell is whole yet in what was read.
+use Rattle.std.proofs.Common.{◌≡◌, ℕ, ◌+◌, ◌-◌, ◌^◌, ◌<◌, ◌≤◌, List, [], ◌++◌, length, drop, arith, refl, sym, ap, ◌∙◌, Option, None, ◌⊎◌, inl, inr, length-append, append_assoc, drop-drop}
+use Rattle.std.specs.Io.KnownBytes.{Consumes, IsAtEnd}
+use Rattle.std.proofs.KnownBytes.{Consumes-nil, Consumes-trans}
+use Rattle.std.proofs.lemmas.List.{length-drop, drop-append-le}
+use Rattle.std.proofs.lemmas.Bool.{cases_lt}
+use Rattle.rq_cells.specs.declared.head.Head.{Head}
+use Rattle.rq_cells.specs.Wanted.{wanted_at, IsFirstWanted, HasNoWanted, NoneBefore}
+use Rattle.rq_cast.specs.Reading.{chunk_length}
+use Rattle.rq_cast.specs.Searching.{FindsFirst, FindsNone}
+
+-- so many reads were made, and of what they brought the bytes from a place on are kept, before which no wanted cell begins, whatever comes behind
+pub record IsUnfound (greatest : ℕ) (name : List ℕ) (before after : Option (List ℕ)) (reads : ℕ) (kept : List ℕ) : Type 0 where
+  pub past : List ℕ
+  pub brought : reads ≤ length past
+  pub read : Consumes before after past
+  pub from : ℕ
+  pub within : from ≤ length past
+  pub from_there : kept ≡ drop from past
+  pub never : (rest : List ℕ) (i : ℕ) → i < from → wanted_at greatest name (drop i past ++ rest) ≡ None
+  pub none : NoneBefore greatest name past (length past)
+
+module _ (greatest : ℕ) (name : List ℕ) (before : Option (List ℕ)) where
+  pub unfound_at_first : IsUnfound greatest name before before 0 []
+  unfound_at_first = record {
+    past = [];
+    brought = omega arith;
+    read = Consumes-nil before;
+    from = 0;
+    within = omega arith;
+    from_there = refl;
+    never = λ rest i below. absurd (omega (arith, below));
+    none = λ i below. absurd (omega (arith, below));
+  }
+
+  pub none_at_end : (after : Option (List ℕ)) (reads : ℕ) (kept : List ℕ) → IsUnfound greatest name before after reads kept → IsAtEnd after → FindsNone greatest name before after
+  none_at_end after reads kept u ended = record { past = u.past; read = u.read; ended = inl ended; none = u.none }
+
+  pub none_in_many : (after : Option (List ℕ)) (reads : ℕ) (kept : List ℕ) → IsUnfound greatest name before after reads kept → 2 ^ 64 - 1 ≤ reads → FindsNone greatest name before after
+  none_in_many after reads kept u many = record { past = u.past; read = u.read; ended = inr (omega (arith, many, u.brought)); none = u.none }
+
+  -- a piece more was read
+  module _ (after after' : Option (List ℕ)) (reads : ℕ) (kept piece : List ℕ) (u : IsUnfound greatest name before after reads kept) (more : Consumes after after' piece) (few : length piece ≤ chunk_length) where
+    abbrev past' : List ℕ
+    past' = u.past ++ piece
+
+    kept_is : kept ++ piece ≡ drop u.from past'
+    kept_is = ap (λ xs. xs ++ piece) u.from_there ∙ sym (drop-append-le u.from u.past piece u.within)
+
+    same_place : (i : ℕ) → u.from ≤ i → drop i past' ≡ drop (i - u.from) (kept ++ piece)
+    same_place i h =
+        let sum : u.from + (i - u.from) ≡ i = omega (arith, h) in
+        ap (λ n. drop n past') (sym sum) ∙ sym (drop-drop (i - u.from) u.from past') ∙ ap (drop (i - u.from)) (sym kept_is)
+
+    none_so_far : (n : ℕ) → NoneBefore greatest name (kept ++ piece) n → NoneBefore greatest name past' (u.from + n)
+    none_so_far n none i below = by (cases_lt i u.from)
+      where
+        by : (i < u.from) ⊎ (u.from ≤ i) → wanted_at greatest name (drop i past') ≡ None
+        by (inl less) =
+            ap (wanted_at greatest name) (drop-append-le i u.past piece (omega (arith, less, u.within))) ∙ u.never piece i less
+        by (inr at) = ap (wanted_at greatest name) (same_place i at) ∙ none (i - u.from) (omega (arith, at, below))
+
+    pub found_first : (at : ℕ) (h : Head) (left : List ℕ) → IsFirstWanted greatest name (kept ++ piece) at h → left ≡ drop at (kept ++ piece) → FindsFirst greatest name before after' h left
+    found_first at h left first is =
+        let place : u.from ≤ u.from + at = omega arith in
+        let back : at ≡ u.from + at - u.from = omega arith in
+        let there : drop (u.from + at) past' ≡ drop at (kept ++ piece) = same_place (u.from + at) place ∙ ap (λ n. drop n (kept ++ piece)) (sym back) in
+        record {
+          earlier = u.past;
+          last = piece;
+          read = Consumes-trans before after after' u.past piece u.read more;
+          few = few;
+          none_earlier = u.none;
+          at = u.from + at;
+          first = record {
+            within = omega (arith, first.within, u.within, ap length u.from_there, length-drop u.from u.past, length-append kept piece, length-append u.past piece);
+            found = ap (wanted_at greatest name) there ∙ first.found;
+            first = none_so_far at first.first;
+          };
+          from_there = is ∙ sym there;
+        }
+
+    pub unfound_more : (from : ℕ) (left : List ℕ) → HasNoWanted greatest name (kept ++ piece) from → left ≡ drop from (kept ++ piece) → 0 < length piece → IsUnfound greatest name before after' (reads + 1) left
+    unfound_more from left h is some =
+        let size : length past' ≡ u.from + length (kept ++ piece) =
+        omega (arith, u.within, ap length u.from_there, length-drop u.from u.past, length-append kept piece, length-append u.past piece) in
+        let place : u.from ≤ u.from + from = omega arith in
+        let back : from ≡ u.from + from - u.from = omega arith in
+        record {
+          past = past';
+          brought = omega (arith, u.brought, some, length-append u.past piece);
+          read = Consumes-trans before after after' u.past piece u.read more;
+          from = u.from + from;
+          within = omega (arith, h.within, size);
+          from_there = is ∙ ap (λ n. drop n (kept ++ piece)) back ∙ sym (same_place (u.from + from) place);
+          never = λ rest i below. never' rest i below (cases_lt i u.from);
+          none = λ i below. none_so_far (length (kept ++ piece)) h.none i (omega (arith, below, size));
+        }
+      where
+        never' : (rest : List ℕ) (i : ℕ) → i < u.from + from → (i < u.from) ⊎ (u.from ≤ i) → wanted_at greatest name (drop i past' ++ rest) ≡ None
+        never' rest i below (inl less) =
+            ap (λ xs. wanted_at greatest name (xs ++ rest)) (drop-append-le i u.past piece (omega (arith, less, u.within)))
+            ∙ ap (wanted_at greatest name) (append_assoc (drop i u.past) piece rest)
+            ∙ u.never (piece ++ rest) i less
+        never' rest i below (inr at) =
+            ap (λ xs. wanted_at greatest name (xs ++ rest)) (same_place i at) ∙ h.never rest (i - u.from) (omega (arith, at, below))

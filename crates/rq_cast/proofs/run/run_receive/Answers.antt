@@ -1,0 +1,101 @@
+use Rattle.std.proofs.Common.{◌≡◌, ℕ, List, sym, subst, ◌∙◌, inl, inr, false, Some}
+use Rattle.std.proofs.KnownBytes.{Keeps-refl}
+use Rattle.std.proofs.lemmas.Result.{err_from_is_err_and}
+use Rattle.rq_standard.specs.TableRows.{greatest_size}
+use Rattle.rq_standard.specs.DecoderState.{result_of}
+use Rattle.raptorq.specs.Decoder.{state_of}
+use Rattle.rq_streams.specs.Counted.{inner}
+use Rattle.rq_streams.specs.ReceivedStreams.{object_of}
+use Rattle.rq_cells.specs.Cells.{name_of}
+use Rattle.rq_cells.proofs.Beginnings.{differ, same_bytes_by}
+use Rattle.rq_cast.specs.Searching.{Searches, FindsFirst}
+use Rattle.rq_cast.specs.Receiving.{Receives, EndsDetermined}
+use Rattle.rq_cast.specs.Received.{Determines}
+use Rattle.rq_cast.proofs.Ended.{only_memory, not_received, determined, undetermined, answered_object, written, not_written}
+use Rattle.rq_cast.proofs.run.run_receive.Goals as goal
+use Rattle.rq_cast.proofs.run.run_receive.Given.{Over}
+use Rattle.rq_cast.proofs.run.run_receive.Goals.{In-Some, After-ne}
+
+-- the first wanted cell was found
+found_first : (g : Over) (c : In-Some g) → FindsFirst (greatest_size c.args.table.now) c.args.name.now (g.R.Read.remaining (inner c.args.reader.now)) (g.R.Read.remaining (inner c.find.new.reader)) c.in-Some.found.head c.in-Some.found.bytes.items
+found_first g c = subst (Searches (greatest_size c.args.table.now) c.args.name.now (g.R.Read.remaining (inner c.args.reader.now)) (g.R.Read.remaining (inner c.find.new.reader))) c.in-Some.is c.in_ok-found.ensures.searches
+
+pub returns-in_err-receiver-clause-ends : goal.returns-in_err-receiver-clause-ends
+returns-in_err-receiver-clause-ends g c =
+    let first = found_first g (goal.at.returns-in_err-receiver-clause-ends g c).In-Some in
+    let p = err_from_is_err_and c.from_residual-in_err-receiver.result c.from_residual-in_err-receiver.ensures.1 in
+    let memory = only_memory c.args.table.now c.args.name.now (g.R.Read.remaining (inner c.args.reader.now)) (g.R.Read.remaining (inner c.find.new.reader)) c.in-Some.found first c.in_err-receiver.field-0.0 c.in_err-receiver.ensures.refused in
+    rw (p.1, p.2) (inl memory, Keeps-refl (g.W.Write.contents (inner c.args.writer.now)))
+
+pub returns-in_err-receive-clause-ends : goal.returns-in_err-receive-clause-ends
+returns-in_err-receive-clause-ends g c =
+    let first = found_first g (goal.at.returns-in_err-receive-clause-ends g c).In-Some in
+    let p = err_from_is_err_and c.from_residual-in_err-receive.result c.from_residual-in_err-receive.ensures.1 in
+    rw (p.1, p.2) (not_received c.args.table.now c.args.name.now (g.R.Read.remaining (inner c.args.reader.now)) (g.R.Read.remaining (inner c.find.new.reader)) (g.R.Read.remaining (inner c.receive.new.reader))
+    c.in-Some.found first c.in_ok-receiver.receiver c.in_ok-receiver.ensures.made (g.W.Write.contents (inner c.args.writer.now)) c.in_err-receive.field-0.0 c.in_err-receive.ensures.stops)
+
+pub returns-then-not-branch-clause-ends : goal.returns-then-not-branch-clause-ends
+returns-then-not-branch-clause-ends g c =
+    let first = found_first g (goal.at.returns-then-not-branch-clause-ends g c).In-Some in
+    let mid = g.R.Read.remaining (inner c.find.new.reader) in
+    let after = g.R.Read.remaining (inner c.receive.new.reader) in
+    let ended = subst (Receives c.in_ok-receiver.receiver c.receive.new.receiver mid after) c.if-not-branch.true c.in_ok-receive.ensures.receives in (
+      inr (undetermined c.args.table.now c.args.name.now (g.R.Read.remaining (inner c.args.reader.now)) mid after c.in-Some.found first c.in_ok-receiver.receiver c.in_ok-receiver.ensures.made c.receive.new.receiver ended),
+      Keeps-refl (g.W.Write.contents (inner c.args.writer.now)),
+    )
+
+-- the cells determine an object
+module _ (g : Over) (c : After-ne g) where
+  abbrev object : List ℕ
+  object = object_of c.receive.new.receiver.decoder
+
+  ended : EndsDetermined c.in_ok-receiver.receiver c.receive.new.receiver (g.R.Read.remaining (inner c.find.new.reader)) (g.R.Read.remaining (inner c.receive.new.reader))
+  ended = subst (Receives c.in_ok-receiver.receiver c.receive.new.receiver (g.R.Read.remaining (inner c.find.new.reader)) (g.R.Read.remaining (inner c.receive.new.reader))) c.if-not-branch.false c.in_ok-receive.ensures.receives
+
+  answer_is : result_of (state_of c.receive.new.receiver.decoder) ≡ Some object
+  answer_is = answered_object (result_of (state_of c.receive.new.receiver.decoder)) ended.determined
+
+  found_object : Determines c.args.table.now c.args.name.now (g.R.Read.remaining (inner c.args.reader.now)) (g.R.Read.remaining (inner c.receive.new.reader)) c.in-Some.found.head object c.receive.new.receiver.seen
+  found_object =
+      let first = subst (Searches (greatest_size c.args.table.now) c.args.name.now (g.R.Read.remaining (inner c.args.reader.now)) (g.R.Read.remaining (inner c.find.new.reader))) c.in-Some.is c.in_ok-found.ensures.searches in
+      determined c.args.table.now c.args.name.now (g.R.Read.remaining (inner c.args.reader.now)) (g.R.Read.remaining (inner c.find.new.reader)) (g.R.Read.remaining (inner c.receive.new.reader))
+      c.in-Some.found first c.in_ok-receiver.receiver c.in_ok-receiver.ensures.made c.receive.new.receiver object ended answer_is
+
+pub returns-then-ne-clause-ends : goal.returns-then-ne-clause-ends
+returns-then-ne-clause-ends g c =
+    let at = (goal.at.returns-then-ne-clause-ends g c).After-ne in
+    let head = c.in-Some.found.head in (
+      head,
+      object g at,
+      found_object g at,
+      (λ same. differ c.answered_name.result head.name (sym c.ne.ensures ∙ c.if-ne.true) (c.answered_name.ensures ∙ same)),
+      Keeps-refl (g.W.Write.contents (inner c.args.writer.now)),
+    )
+
+-- its name is that of its cells
+named : (g : Over) (c : After-ne g) → c.ne.result ≡ false → name_of (object g c) ≡ c.in-Some.found.head.name
+named g c e = sym c.answered_name.ensures ∙ same_bytes_by c.answered_name.result c.in-Some.found.head.name (sym c.ne.ensures ∙ e)
+
+pub returns-clause-ends : goal.returns-clause-ends
+returns-clause-ends g c =
+    let at = (goal.at.returns-clause-ends g c).After-ne in
+    let there = g.W.Write.contents (inner c.args.writer.now) in
+    let then = g.W.Write.contents (inner c.write_object.new.writer) in
+    let answer = result_of (state_of c.receive.new.receiver.decoder) in (
+      c.in-Some.found.head,
+      object g at,
+      found_object g at,
+      named g at c.if-ne.false,
+      written answer (object g at) (answer_is g at) there then c.in_ok-write_object.field-0 c.in_ok-write_object.ensures.ends,
+    )
+
+pub returns-in_err-write_object-clause-ends : goal.returns-in_err-write_object-clause-ends
+returns-in_err-write_object-clause-ends g c =
+    let at = (goal.at.returns-in_err-write_object-clause-ends g c).After-ne in
+    let there = g.W.Write.contents (inner c.args.writer.now) in
+    let then = g.W.Write.contents (inner c.write_object.new.writer) in
+    let answer = result_of (state_of c.receive.new.receiver.decoder) in
+    let p = err_from_is_err_and c.from_residual-in_err-write_object.result c.from_residual-in_err-write_object.ensures.1 in
+    rw (p.1, p.2) (not_written answer (object g at) (answer_is g at) there then c.args.table.now c.args.name.now
+    (g.R.Read.remaining (inner c.args.reader.now)) (g.R.Read.remaining (inner c.receive.new.reader)) c.in-Some.found.head c.receive.new.receiver.seen (found_object g at) (named g at c.if-ne.false)
+    c.in_err-write_object.field-0.0 c.in_err-write_object.ensures.ends)

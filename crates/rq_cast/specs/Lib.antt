@@ -1,0 +1,5 @@
+pub mod Reading
+pub mod Received
+pub mod Receiving
+pub mod Searching
+pub mod Taken

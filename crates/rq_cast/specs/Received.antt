@@ -1,0 +1,114 @@
+-- What a run writes of the cells among the bytes that it reads.
+use Rattle.std.specs.Prelude.{◌≡◌, ◌⊎◌, ℕ, ◌+◌, ◌-◌, ◌^◌, ◌≤◌, List, [], ◌++◌, length, take, drop, Option, Some, None, Result, Ok, Err}
+use Rattle.std.specs.Io.KnownBytes.{Consumes, Keeps, Appends, IsAtEnd}
+use Rattle.rq_bytes.specs.declared.error.Error.{Error}
+use Rattle.rq_bytes.specs.declared.error.Error.TheVariants.{OutOfMemory}
+use Rattle.rq_standard.specs.declared.row.TableRow.{TableRow}
+use Rattle.rq_standard.specs.TableRows.{greatest_size}
+use Rattle.rq_standard.specs.Packet.{Packet}
+use Rattle.rq_standard.specs.Headline.{IsHonestRun, AnswersExactly, AnswersWhereAnyCan}
+use Rattle.rq_standard.specs.Following.{IsAnswerAfter}
+use Rattle.raptorq.specs.Runs.{IsRefusalBehind}
+use Rattle.rq_streams.specs.declared.run.Stop.{Stop}
+use Rattle.rq_streams.specs.declared.run.Stop.TheVariants.{Fault, Refused}
+use Rattle.rq_cells.specs.declared.head.Head.{Head}
+use Rattle.rq_cells.specs.Cells.{name_of}
+use Rattle.rq_cells.specs.Found.{packets_in, damaged_in, others_in}
+use Rattle.rq_cells.specs.Scans.{IsUnsettled}
+use Rattle.rq_cells.specs.Wanted.{IsFirstWanted, NoneBefore}
+use Rattle.rq_cast.specs.declared.run.Ending.{Ending}
+use Rattle.rq_cast.specs.declared.run.Ending.TheVariants.{Written, Incomplete, AnotherObject}
+use Rattle.rq_cast.specs.declared.receiver.Seen.{Seen}
+use Rattle.rq_cast.specs.Searching.{FindsNone}
+use Rattle.rq_cast.specs.Reading.{chunk_length}
+use Rattle.rq_cast.specs.Receiving.{counted}
+use Rattle.rq_cast.specs.Taken.{known_packets, unknown_count}
+
+-- the packets of an object's cells at all places of bytes, those of the blocks that it has
+abbrev pub received_packets : Head → List ℕ → List Packet
+received_packets h bytes = known_packets h.configuration (packets_in h bytes)
+
+-- What was seen beside the whole cells in the bytes from the first of them on. Heads of other objects aren't counted in the last bytes, from the first
+-- place on at which a cell may still end.
+pub record IsSeen (h : Head) (bytes : List ℕ) (seen : Seen) : Type 0 where
+  pub damaged : seen.damaged ≡ counted (damaged_in h bytes)
+  pub settled : List ℕ
+  pub left : List ℕ
+  pub cut : bytes ≡ settled ++ left
+  pub stopped : IsUnsettled h left
+  pub others : ℕ
+  pub all_others : others_in h bytes ≡ others + others_in h left
+  pub others_seen : seen.others ≡ counted (others + unknown_count h.configuration (packets_in h bytes))
+
+-- nothing was seen
+abbrev pub SeesNothing : Seen → Type 0
+SeesNothing seen = (seen.damaged ≡ 0) × (seen.others ≡ 0)
+
+-- All this was read, and the first wanted cell in a beginning of it, up to the end of a read, says whose cells are received.
+pub record IsReceived (greatest : ℕ) (name : List ℕ) (before after : Option (List ℕ)) (past : List ℕ) (h : Head) : Type 0 where
+  pub read : Consumes before after past
+  pub front : List ℕ
+  pub later : List ℕ
+  pub cut : past ≡ front ++ later
+  pub at : ℕ
+  pub first : IsFirstWanted greatest name front at h
+
+-- the bytes from that cell on
+abbrev pub from_first : {greatest : ℕ} {name : List ℕ} {before after : Option (List ℕ)} {past : List ℕ} {h : Head} → IsReceived greatest name before after past h → List ℕ
+from_first r = drop r.at r.front ++ r.later
+
+-- what is answered of the object's cells among bytes, whoever sent them; where they are an object's, exactly where they determine it, which is where
+-- no other object makes them
+pub record IsAnswered (table : List TableRow) (h : Head) (bytes : List ℕ) (answer : Option (List ℕ)) : Type 0 where
+  pub whoever : IsAnswerAfter table h.configuration (received_packets h bytes) answer
+  pub honest : AnswersExactly table h.configuration (received_packets h bytes) answer
+  pub only_object : AnswersWhereAnyCan table h.configuration (received_packets h bytes) answer
+
+-- In a beginning of what was read, which lacks no more than a read brings, no wanted cell was whole, or the cells that were didn't determine the
+-- object. So no more is read than that.
+pub record WasntBefore (table : List TableRow) (name : List ℕ) (h : Head) (past : List ℕ) : Type 0 where
+  pub earlier : List ℕ
+  pub last : List ℕ
+  pub cut : past ≡ earlier ++ last
+  pub few : length last ≤ chunk_length
+  pub wasnt : NoneBefore (greatest_size table) name earlier (length earlier) ⊎ IsAnswered table h earlier None
+
+-- What was read determines an object, and not much less of it did.
+pub record Determines (table : List TableRow) (name : List ℕ) (before after : Option (List ℕ)) (h : Head) (object : List ℕ) (s : Seen) : Type 0 where
+  pub past : List ℕ
+  pub received : IsReceived (greatest_size table) name before after past h
+  pub answered : IsAnswered table h past (Some object)
+  pub not_earlier : WasntBefore table name h past
+  pub beside : IsSeen h (from_first received) s
+
+-- All was read, or more bytes than a u64 counts, and the cells that were received don't determine the object.
+pub record DoesntDetermine (table : List TableRow) (name : List ℕ) (before after : Option (List ℕ)) (s : Seen) : Type 0 where
+  pub past : List ℕ
+  pub head : Head
+  pub received : IsReceived (greatest_size table) name before after past head
+  pub answered : IsAnswered table head past None
+  pub ended : IsAtEnd after ⊎ (2 ^ 64 - 1 ≤ length past)
+  pub beside : IsSeen head (from_first received) s
+
+-- The first packet that is refused of those that were received: among an object's there is none.
+pub record RefusesReceived (table : List TableRow) (name : List ℕ) (before after : Option (List ℕ)) (e : Error) : Type 0 where
+  pub past : List ℕ
+  pub head : Head
+  pub received : IsReceived (greatest_size table) name before after past head
+  pub refused : (e ≡ OutOfMemory) ⊎ IsRefusalBehind table head.configuration [] (received_packets head past) (Err e)
+  pub honest : (object : List ℕ) → IsHonestRun table head.configuration object (received_packets head past) → e ≡ OutOfMemory
+
+-- How a run ends that reads this input, and behind whose writer this stood before and after: with the object that the cells determine, whose name
+-- is theirs; with nothing written, where they determine another one or none; with the first refusal, and nothing written; or at a failed call,
+-- where a beginning of the object may be written.
+abbrev pub EndsReceiving : List TableRow → List ℕ → Result (Ending × Seen) Stop → Option (List ℕ) → Option (List ℕ) → Option (List ℕ) → Option (List ℕ) → Type 0
+EndsReceiving table name (Ok (Written, seen)) before after there then =
+    (h : Head) × (object : List ℕ) × Determines table name before after h object seen × (name_of object ≡ h.name) × Appends there then object
+EndsReceiving table name (Ok (AnotherObject, seen)) before after there then =
+    (h : Head) × (object : List ℕ) × Determines table name before after h object seen × (name_of object ≡ h.name → ⊥) × Keeps there then
+EndsReceiving table name (Ok (Incomplete, seen)) before after there then =
+    ((FindsNone (greatest_size table) name before after × SeesNothing seen) ⊎ DoesntDetermine table name before after seen) × Keeps there then
+EndsReceiving table name (Err (Refused e)) before after there then = ((e ≡ OutOfMemory) ⊎ RefusesReceived table name before after e) × Keeps there then
+EndsReceiving table name (Err Fault) before after there then =
+    Keeps there then
+    ⊎ ((h : Head) × (object : List ℕ) × (seen : Seen) × Determines table name before after h object seen × (name_of object ≡ h.name) × ((n : ℕ) × Appends there then (take n object)))

@@ -1,0 +1,114 @@
+//! What a receiver does with an object's cells.
+ghost use Rattle.std.specs.Prelude.{◌≡◌, ◌+◌, ◌^◌, ◌-◌, ◌<◌, OnOk, IfOk, IfErr};
+ghost use Rattle.rq_bytes.specs.Refusals.{IsRefusal};
+ghost use Rattle.rq_standard.specs.TableRows.{greatest_size};
+ghost use Rattle.rq_base.specs.RefusedInput.{checked_configuration};
+ghost use Rattle.raptorq.specs.Decoder.{state_of};
+ghost use Rattle.rq_cast.specs.Taken.{known_packets, unknown_count, TakesAll, StopsAmong};
+ghost use Rattle.rq_streams.specs.Counted.{failed_count, inner};
+ghost use Rattle.rq_streams.specs.Ends.{failed_calls};
+ghost use Rattle.rq_cast.specs.Receiving.{IsNewReceiver, TakesCells, StopsInCells, Receives, StopsReceiving};
+
+use crate::reading::{CHUNK, Found, read_more};
+use raptorq::error::Error;
+use raptorq::systematic_constants::SystematicTable;
+use raptorq::{Decoder, EncodingPacket};
+use rq_cells::CellScanner;
+use rq_streams::{Counted, Stop};
+use std::alloc::Global;
+use std::io::Read;
+
+/// What came beside an object's whole cells, from the first of these on. A count stays at `u64::MAX`.
+#[derive(Clone, Copy, Debug, Default, PartialEq, Eq)]
+pub struct Seen {
+    /// How many of the object's cells were damaged behind their head.
+    pub damaged: u64,
+    /// How many heads were other objects', and how many cells of no block of the object.
+    pub others: u64,
+}
+
+/// What is received of an object.
+#[derive(Drop)]
+pub(crate) struct Receiver {
+    pub scanner: CellScanner,
+    pub decoder: Decoder,
+    /// What was read and may still become cells.
+    pub bytes: Vec<u8>,
+    pub seen: Seen,
+}
+
+// Hands packets to the decoder, in order, and answers how many are of no block of the object.
+fn add_packets(decoder: &mut Decoder, packets: Vec<EncodingPacket>) -> Result<usize, Error>
+    ensures takes { OnOk result (TakesAll (state_of decoder.old) (known_packets (state_of decoder.old).configuration packets.items) (state_of decoder.new)) }
+    ensures stops { IfErr result (StopsAmong (state_of decoder.old) (known_packets (state_of decoder.old).configuration packets.items)) }
+    ensures unknown { IfOk result (λ n. n ≡ unknown_count (state_of decoder.old).configuration packets.items) }
+{
+    let blocks = decoder.get_config().source_blocks();
+    let mut unknown = 0;
+    for packet in packets {
+        if packet.payload_id().source_block_number() < blocks {
+            decoder.add_new_packet(packet)?;
+        } else {
+            unknown += 1;
+        }
+    }
+    Ok(unknown)
+}
+
+impl Receiver {
+    /// A receiver of the object that was found, and of what was read from its first cell on.
+    pub fn new(alloc: Global, table: &SystematicTable, found: Found) -> Result<Receiver, Error>
+        ensures made { IfOk result (IsNewReceiver table.now found) }
+        ensures refused { IfErr result (λ e. IsRefusal e (checked_configuration (greatest_size table.now) found.head.configuration)) }
+    {
+        let Found { head, bytes } = found;
+        let decoder = Decoder::new(alloc, table, head.configuration)?;
+        let scanner = CellScanner::new(alloc, head)?;
+        Ok(Receiver {
+            scanner,
+            decoder,
+            bytes,
+            seen: Seen::default(),
+        })
+    }
+
+    /// Takes the cells that are whole in what was read, and keeps what may still become cells.
+    pub fn take_cells(&mut self, alloc: Global) -> Result<(), Error>
+        ensures takes { OnOk result (TakesCells self.old self.new) }
+        ensures stops { IfErr result (StopsInCells self.old) }
+    {
+        let scan = self.scanner.scan(alloc, self.bytes.as_slice())?;
+        let unknown = add_packets(&mut self.decoder, scan.packets)?;
+        self.bytes = Vec::from_slice(alloc, &self.bytes[scan.places..])?;
+        self.seen.damaged = self.seen.damaged.saturating_add(scan.damaged as u64);
+        self.seen.others = self.seen.others.saturating_add(scan.others as u64);
+        self.seen.others = self.seen.others.saturating_add(unknown as u64);
+        Ok(())
+    }
+}
+
+/// Takes cells until they determine the object, or to the end of the input. Answers whether they do.
+pub(crate) fn receive<R: Read>(
+    alloc: Global,
+    reader: &mut Counted<R>,
+    chunk: &mut [u8; CHUNK],
+    receiver: &mut Receiver,
+) -> Result<bool, Stop>
+    requires { failed_count reader.old < 2 ^ 64 - 1 }
+    ensures receives { IfOk result (Receives receiver.old receiver.new (R.remaining (inner reader.old)) (R.remaining (inner reader.new))) }
+    ensures stops { IfErr result (StopsReceiving receiver.old (R.remaining (inner reader.old)) (R.remaining (inner reader.new))) }
+    ensures counts { failed_count reader.new ≡ failed_count reader.old + failed_calls result }
+{
+    receiver.take_cells(alloc)?;
+    // More reads than these are never made.
+    'reading: for _reads in 0..u64::MAX {
+        if receiver.decoder.is_complete() {
+            return Ok(true);
+        }
+        if read_more(reader, chunk, &mut receiver.bytes)? == 0 {
+            return Ok(false);
+        }
+        receiver.take_cells(alloc)?;
+    }
+    Ok(receiver.decoder.is_complete())
+}

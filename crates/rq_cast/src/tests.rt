@@ -1,0 +1,131 @@
+use crate::{Ending, Seen, run_receive};
+use raptorq::error::Error;
+use raptorq::systematic_constants::SystematicTable;
+use rq_streams::{Counted, Stop};
+use std::alloc::Global;
+use std::io;
+use std::io::{ErrorKind, Read};
+
+const OBJECT: [u8; 3] = [7, 8, 9];
+
+// The cells of that object in symbols of two bytes, as Python's hashlib has them, one of a block that
+// it hasn't, and cells of the same bytes under a name of zeros.
+const FIRST: [u8; 50] = [
+    82, 81, 67, 1, 187, 194, 129, 53, 165, 47, 242, 115, 176, 238, 23, 89, 119, 224, 221, 181, 0,
+    0, 0, 0, 3, 0, 0, 2, 1, 0, 1, 1, 188, 146, 92, 230, 0, 0, 0, 0, 7, 8, 30, 213, 159, 95, 220,
+    120, 224, 122,
+];
+
+const SECOND: [u8; 50] = [
+    82, 81, 67, 1, 187, 194, 129, 53, 165, 47, 242, 115, 176, 238, 23, 89, 119, 224, 221, 181, 0,
+    0, 0, 0, 3, 0, 0, 2, 1, 0, 1, 1, 188, 146, 92, 230, 0, 0, 0, 1, 9, 0, 1, 42, 197, 181, 225, 64,
+    194, 50,
+];
+
+const OF_NO_BLOCK: [u8; 50] = [
+    82, 81, 67, 1, 187, 194, 129, 53, 165, 47, 242, 115, 176, 238, 23, 89, 119, 224, 221, 181, 0,
+    0, 0, 0, 3, 0, 0, 2, 1, 0, 1, 1, 188, 146, 92, 230, 1, 0, 0, 0, 1, 1, 177, 42, 206, 12, 191,
+    159, 91, 63,
+];
+
+const FIRST_MISNAMED: [u8; 50] = [
+    82, 81, 67, 1, 0, 0, 0, 0, 0, 0, 0, 0, 0, 0, 0, 0, 0, 0, 0, 0, 0, 0, 0, 0, 3, 0, 0, 2, 1, 0, 1,
+    1, 200, 231, 154, 220, 0, 0, 0, 0, 7, 8, 99, 168, 43, 90, 5, 3, 73, 201,
+];
+
+const SECOND_MISNAMED: [u8; 50] = [
+    82, 81, 67, 1, 0, 0, 0, 0, 0, 0, 0, 0, 0, 0, 0, 0, 0, 0, 0, 0, 0, 0, 0, 0, 3, 0, 0, 2, 1, 0, 1,
+    1, 200, 231, 154, 220, 0, 0, 0, 1, 9, 0, 50, 72, 164, 238, 173, 56, 37, 26,
+];
+
+// A reader that gives at most so many bytes a call, and fails behind the last.
+#[derive(Drop)]
+struct Open<'a> {
+    rest: &'a [u8],
+    most: usize,
+}
+
+impl<'a> Read for Open<'a> {
+    fn read(&mut self, buf: &mut [u8]) -> io::Result<usize> {
+        if self.rest.is_empty() {
+            return Err(io::Error::from(ErrorKind::Other));
+        }
+        let count = self.most.min(buf.len());
+        self.rest.read(&mut buf[..count])
+    }
+}
+
+type Ended = (Result<(Ending, Seen), Stop>, Vec<u8>);
+
+// How a run ends, and what it writes.
+fn received<R: Read + Drop>(alloc: Global, name: &[u8], reader: R) -> Result<Ended, Error> {
+    let table = SystematicTable::built_in(alloc)?;
+    let mut reader = Counted::new(reader);
+    let mut out: Vec<u8> = Vec::new(alloc);
+    let mut writer = Counted::new(&mut out);
+    let ended = run_receive(alloc, &table, name, &mut reader, &mut writer);
+    drop(writer);
+    Ok((ended, out))
+}
+
+fn joined(alloc: Global, parts: &[&[u8]]) -> Result<Vec<u8>, Error> {
+    let mut bytes = Vec::new(alloc);
+    for part in parts {
+        bytes.extend_from_slice(part)?;
+    }
+    Ok(bytes)
+}
+
+#[test]
+fn cells_among_other_bytes_are_received(rt: HostRuntime) {
+    let alloc = rt.alloc();
+    let mut damaged = FIRST;
+    damaged[45] ^= 1;
+    let parts = [
+        &FIRST_MISNAMED[..49],
+        b"RQC",
+        &FIRST,
+        &OF_NO_BLOCK,
+        &damaged,
+        &FIRST_MISNAMED,
+        &SECOND,
+    ];
+    let bytes = joined(alloc, &parts).expect(&rt, "bytes");
+    let seen = Seen {
+        damaged: 1,
+        others: 2,
+    };
+    for most in [1, 7, 50, 65536] {
+        let reader = Open {
+            rest: bytes.as_slice(),
+            most,
+        };
+        let (ended, out) = received(alloc, &[187, 194], reader).expect(&rt, "memory");
+        assert_eq!(rt; ended, Ok((Ending::Written, seen)));
+        assert_eq!(rt; out.as_slice(), OBJECT.as_slice());
+    }
+}
+
+#[test]
+fn other_runs_write_nothing(rt: HostRuntime) {
+    let alloc = rt.alloc();
+    let misnamed = joined(alloc, &[&FIRST_MISNAMED, &SECOND_MISNAMED]).expect(&rt, "bytes");
+    let cases: [(&[u8], &[u8], Ending); 4] = [
+        (b"", b"", Ending::Incomplete),
+        (b"", &FIRST, Ending::Incomplete),
+        (&[1], &FIRST, Ending::Incomplete),
+        (b"", misnamed.as_slice(), Ending::AnotherObject),
+    ];
+    for (name, bytes, ending) in cases {
+        let (ended, out) = received(alloc, name, bytes).expect(&rt, "memory");
+        assert_eq!(rt; ended, Ok((ending, Seen::default())));
+        assert!(rt; out.is_empty());
+    }
+    let reader = Open {
+        rest: &FIRST,
+        most: 9,
+    };
+    let (ended, out) = received(alloc, b"", reader).expect(&rt, "memory");
+    assert_eq!(rt; ended, Err(Stop::Fault));
+    assert!(rt; out.is_empty());
+}
