@@ -1,13 +1,21 @@
-/* Random objects there and back, with losses, by buffers and by handles: as many as the first word says,
- * from the seed that the second word is. Ends with 0 where each that was answered was the object, and both
- * ways answered the same. */
+/* Random objects there and back, with losses, by buffers, by handles, and by two threads that share the encoder of the
+ * object and those of its blocks, made by plans: as many as the first word says, from the seed that the second word
+ * is. Ends with 0 where each that was answered was the object, and all ways did the same. */
+#include <pthread.h>
 #include <stdio.h>
 #include <stdlib.h>
 #include <string.h>
 
 #include "reamertan.h"
 
+/* Source symbols of a block, over the rows that are built in, and blocks of an object. */
+#define MOST_SYMBOLS 497
+#define MOST_BLOCKS 255
+
 static uint64_t state;
+
+/* Of blocks of so many symbols. */
+static struct reamertan_handle plans[MOST_SYMBOLS + 1];
 
 /* A number below a bound: the high bits of a linear congruence. */
 static uint32_t below(uint32_t bound)
@@ -16,78 +24,216 @@ static uint32_t below(uint32_t bound)
     return (uint32_t)(state >> 32) % bound;
 }
 
+static uint8_t *bytes_of(size_t count)
+{
+    /* Where there are none, the address is one, too. */
+    uint8_t *bytes = calloc(count + 1, 1);
+    if (!bytes)
+        exit(1);
+    return bytes;
+}
+
+/* An object, and its packets, of `size` bytes each. */
+struct object {
+    uint8_t configuration[REAMERTAN_CONFIGURATION_BYTES];
+    uint32_t repair;
+    uint8_t *bytes, *packets;
+    size_t length, size, count;
+};
+
+/* Those of its packets that came, and what the decoder of buffers made of them. */
+struct came {
+    uint8_t *packets, *back;
+    size_t count;
+    int answer;
+};
+
 /* Whether handles make the same packets, and answer those that came in the same way. */
-static int by_handles(const uint8_t *configuration, const uint8_t *object, size_t length,
-                      const uint8_t *packets, size_t count, const uint8_t *came, size_t kept,
-                      size_t size, int answer, const uint8_t *back)
+static int by_handles(const struct object *object, const struct came *came)
 {
     struct reamertan_handle handle = REAMERTAN_HANDLE_INIT;
-    uint8_t *made = malloc(size), *again = malloc(length);
-    if (!made || !again)
-        exit(1);
-    int good = reamertan_open_encoder(NULL, 0, configuration, object, length, &handle) == REAMERTAN_DONE;
-    for (size_t i = 0; i < count; i++) {
-        const uint8_t *id = packets + size * i;
+    size_t size = object->size, length = object->length;
+    uint8_t *made = bytes_of(size), *again = bytes_of(length);
+    int good = reamertan_open_encoder(NULL, 0, object->configuration, object->bytes, length, &handle) == REAMERTAN_DONE;
+    for (size_t i = 0; i < object->count; i++) {
+        const uint8_t *id = object->packets + size * i;
         uint32_t esi = (uint32_t)id[1] << 16 | (uint32_t)id[2] << 8 | id[3];
         good &= reamertan_write_packet(&handle, id[0], esi, made, size) == REAMERTAN_DONE
                 && memcmp(made, id, size) == 0;
     }
-    good &= reamertan_open_decoder(NULL, 0, configuration, &handle) == REAMERTAN_DONE;
-    for (size_t i = 0; i < kept; i++)
-        good &= reamertan_add_packet(&handle, came + size * i, size) == REAMERTAN_DONE;
-    good &= reamertan_write_object(&handle, again, length) == answer;
-    good &= answer != REAMERTAN_DONE || memcmp(again, back, length) == 0;
+    good &= reamertan_open_decoder(NULL, 0, object->configuration, &handle) == REAMERTAN_DONE;
+    for (size_t i = 0; i < came->count; i++)
+        good &= reamertan_add_packet(&handle, came->packets + size * i, size) == REAMERTAN_DONE;
+    good &= reamertan_write_object(&handle, again, length) == came->answer;
+    good &= came->answer != REAMERTAN_DONE || memcmp(again, came->back, length) == 0;
     reamertan_close(&handle);
     free(made), free(again);
     return good;
 }
 
-/* Draws a configuration and a number of repair packets a block until they are taken: less memory than
- * some packets need is refused. Answers the object's length. */
-static size_t drawn(uint8_t *configuration, uint32_t *repair, uint64_t *bytes)
+/* A thread, with its handles on the encoders of an object and of its blocks. It writes half of each block's packets, by
+ * both encoders. */
+struct writer {
+    struct reamertan_handle object, blocks[MOST_BLOCKS];
+    uint8_t *by_object, *by_block;
+    size_t size;
+    uint32_t counts[MOST_BLOCKS]; /* of each block's packets */
+    unsigned block_count, half;
+    int good;
+};
+
+static void *write_half(void *given)
+{
+    struct writer *writer = given;
+    size_t start = 0;
+    for (unsigned block = 0; block < writer->block_count; block++) {
+        uint32_t first = writer->half ? writer->counts[block] / 2 : 0;
+        uint32_t count = writer->half ? writer->counts[block] - first : writer->counts[block] / 2;
+        size_t at = start + first * writer->size, length = count * writer->size;
+        writer->good &= reamertan_write_packets(&writer->object, (uint8_t)block, first, count, writer->by_object + at,
+                                                length) == REAMERTAN_DONE;
+        writer->good &= reamertan_write_block_packets(&writer->blocks[block], first, count, writer->by_block + at,
+                                                      length) == REAMERTAN_DONE;
+        reamertan_close(&writer->blocks[block]);
+        start += writer->counts[block] * writer->size;
+    }
+    reamertan_close(&writer->object);
+    return NULL;
+}
+
+/* Gives a handle to both writers, and closes it. */
+static int hand_out(struct reamertan_handle *handle, struct reamertan_handle *first, struct reamertan_handle *second)
+{
+    int good = reamertan_share(handle, first) == REAMERTAN_DONE && reamertan_share(handle, second) == REAMERTAN_DONE;
+    reamertan_close(handle);
+    return good;
+}
+
+/* A further handle on the plan of blocks of so many symbols. It is kept, but each second one that is opened is closed,
+ * before its encoders have made a packet. */
+static int find_plan(size_t symbols, struct reamertan_handle *plan)
+{
+    static unsigned opened;
+    if (reamertan_share(&plans[symbols], plan) == REAMERTAN_DONE)
+        return 1;
+    int good = reamertan_open_plan(NULL, 0, (uint16_t)symbols, &plans[symbols]) == REAMERTAN_DONE
+               && reamertan_share(&plans[symbols], plan) == REAMERTAN_DONE;
+    if (opened++ % 2 == 0)
+        reamertan_close(&plans[symbols]);
+    return good;
+}
+
+/* Opens the encoder of a block in both writers, by a plan which is then closed. */
+static int open_block(const struct object *object, uint8_t block, struct writer writers[2])
+{
+    struct reamertan_handle plan = REAMERTAN_HANDLE_INIT, encoder = REAMERTAN_HANDLE_INIT;
+    struct reamertan_range range;
+    int good = reamertan_block_range(object->configuration, block, &range) == REAMERTAN_DONE;
+    size_t length = range.end - range.start, symbols = length / (object->size - REAMERTAN_PAYLOAD_ID_BYTES);
+    size_t end = range.end < object->length ? range.end : object->length;
+    uint8_t *bytes = bytes_of(length);
+    if (range.start < end)
+        memcpy(bytes, object->bytes + range.start, end - range.start);
+    good &= find_plan(symbols, &plan);
+    good &= reamertan_open_block_encoder(NULL, 0, object->configuration, block, bytes, length, &plan, &encoder)
+            == REAMERTAN_DONE;
+    reamertan_close(&plan);
+    free(bytes);
+    writers[0].counts[block] = writers[1].counts[block] = (uint32_t)symbols + object->repair;
+    return good & hand_out(&encoder, &writers[0].blocks[block], &writers[1].blocks[block]);
+}
+
+/* Opens all encoders of an object in both writers. */
+static int open_writers(const struct object *object, struct writer writers[2])
+{
+    struct reamertan_handle encoder = REAMERTAN_HANDLE_INIT;
+    int good = reamertan_open_encoder(NULL, 0, object->configuration, object->bytes, object->length, &encoder)
+               == REAMERTAN_DONE;
+    good &= hand_out(&encoder, &writers[0].object, &writers[1].object);
+    for (unsigned block = 0; block < writers[0].block_count; block++)
+        good &= open_block(object, (uint8_t)block, writers);
+    return good;
+}
+
+/* Whether two threads make the same packets, by encoders that they share. */
+static int by_threads(const struct object *object)
+{
+    size_t length = object->count * object->size;
+    struct reamertan_parameters cut;
+    reamertan_read_configuration(object->configuration, &cut);
+    struct writer first = {.by_object = bytes_of(length), .by_block = bytes_of(length), .size = object->size,
+                           .block_count = cut.source_blocks, .good = 1};
+    struct writer writers[] = {first, first};
+    writers[1].half = 1;
+    int good = open_writers(object, writers);
+    pthread_t other;
+    if (pthread_create(&other, NULL, write_half, &writers[1]) != 0)
+        exit(1);
+    write_half(&writers[0]);
+    pthread_join(other, NULL);
+    good &= writers[0].good && writers[1].good && memcmp(first.by_object, object->packets, length) == 0
+            && memcmp(first.by_block, object->packets, length) == 0;
+    free(first.by_object), free(first.by_block);
+    return good;
+}
+
+/* Draws a configuration and a number of repair packets a block until they are taken: less memory than some packets need
+ * is refused. Answers how many bytes the packets take. */
+static uint64_t draw(struct object *object)
 {
     for (;;) {
-        size_t length = 1 + below(2000);
+        uint64_t bytes;
+        object->length = 1 + below(2000);
         uint16_t size = (uint16_t)(8 + below(120));
         uint64_t memory = 1u << (8 + below(16));
-        *repair = below(8);
-        if (reamertan_derive_configuration(NULL, 0, length, size, memory, configuration) == REAMERTAN_DONE
-            && reamertan_packets_length(NULL, 0, configuration, *repair, bytes) == REAMERTAN_DONE)
-            return length;
+        object->repair = below(8);
+        if (reamertan_derive_configuration(NULL, 0, object->length, size, memory, object->configuration) == REAMERTAN_DONE
+            && reamertan_packets_length(NULL, 0, object->configuration, object->repair, &bytes) == REAMERTAN_DONE)
+            return bytes;
     }
+}
+
+/* Whether a random object's packets are made by buffers. */
+static int make_object(struct object *object)
+{
+    uint64_t bytes = draw(object);
+    struct reamertan_parameters cut;
+    reamertan_read_configuration(object->configuration, &cut);
+    object->size = REAMERTAN_PAYLOAD_ID_BYTES + cut.symbol_size;
+    object->count = bytes / object->size;
+    object->bytes = bytes_of(object->length);
+    object->packets = bytes_of(bytes);
+    for (size_t i = 0; i < object->length; i++)
+        object->bytes[i] = (uint8_t)below(256);
+    return reamertan_encode(NULL, 0, object->configuration, object->bytes, object->length, object->repair,
+                            object->packets, bytes) == REAMERTAN_DONE;
+}
+
+/* Loses each packet with a chance of one in ten, and has any come twice. */
+static void send(const struct object *object, struct came *came)
+{
+    size_t size = object->size;
+    came->packets = bytes_of(2 * object->count * size);
+    for (size_t i = 0; i < object->count; i++)
+        for (uint32_t times = below(10) == 0 ? 0 : 1 + (below(10) == 0); times > 0; times--)
+            memcpy(came->packets + size * came->count++, object->packets + size * i, size);
 }
 
 /* Whether one object came back, or too little of it came. */
 static int round_trip(int *answered)
 {
-    uint8_t configuration[REAMERTAN_CONFIGURATION_BYTES];
-    struct reamertan_parameters cut;
-    uint32_t repair;
-    uint64_t bytes;
-    size_t length = drawn(configuration, &repair, &bytes);
-    reamertan_read_configuration(configuration, &cut);
-    size_t size = REAMERTAN_PAYLOAD_ID_BYTES + cut.symbol_size, count = bytes / size;
-    uint8_t *object = malloc(length), *back = malloc(length), *packets = malloc(count * size);
-    if (!object || !back || !packets)
-        exit(1);
-    for (size_t i = 0; i < length; i++)
-        object[i] = (uint8_t)below(256);
-    int good = reamertan_encode(NULL, 0, configuration, object, length, repair, packets, count * size) == 0;
-
-    /* Each packet is lost with a chance of one in ten, and any may come twice. */
-    uint8_t *came = malloc(2 * count * size + 1);
-    if (!came)
-        exit(1);
-    size_t kept = 0;
-    for (size_t i = 0; i < count; i++)
-        for (uint32_t times = below(10) == 0 ? 0 : 1 + (below(10) == 0); times > 0; times--)
-            memcpy(came + size * kept++, packets + size * i, size);
-    int answer = reamertan_decode(NULL, 0, configuration, came, kept * size, back, length);
-    *answered += answer == REAMERTAN_DONE;
-    good &= answer == REAMERTAN_DONE ? memcmp(object, back, length) == 0
-                                     : answer == REAMERTAN_INCOMPLETE;
-    good &= by_handles(configuration, object, length, packets, count, came, kept, size, answer, back);
-    free(object), free(back), free(packets), free(came);
+    struct object object = {.repair = 0};
+    struct came came = {.count = 0};
+    int good = make_object(&object);
+    send(&object, &came);
+    came.back = bytes_of(object.length);
+    came.answer = reamertan_decode(NULL, 0, object.configuration, came.packets, came.count * object.size, came.back,
+                                   object.length);
+    *answered += came.answer == REAMERTAN_DONE;
+    good &= came.answer == REAMERTAN_DONE ? memcmp(object.bytes, came.back, object.length) == 0
+                                          : came.answer == REAMERTAN_INCOMPLETE;
+    good &= by_handles(&object, &came) & by_threads(&object);
+    free(object.bytes), free(object.packets), free(came.packets), free(came.back);
     return good;
 }
 
@@ -100,6 +246,8 @@ int main(int count, char **words)
             fprintf(stderr, "round trip %d failed\n", i);
             return 1;
         }
+    for (size_t symbols = 0; symbols <= MOST_SYMBOLS; symbols++)
+        reamertan_close(&plans[symbols]);
     printf("%d round trips, %d answered\n", trips, answered);
     return 0;
 }

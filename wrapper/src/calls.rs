@@ -5,7 +5,7 @@ use std::fmt;
 use std::ptr::null_mut;
 use std::sync::LazyLock;
 
-use crate::rows::ROWS;
+use crate::rows::{BUILT_IN_SIZES, ROWS};
 use crate::version::VERSION;
 
 /// How many bytes spell a configuration.
@@ -52,9 +52,6 @@ pub const ESI_TOO_LARGE: Refusal = Refusal(11);
 /// The packets contradict each other.
 pub const CONTRADICTION: Refusal = Refusal(22);
 
-/// The buffer has another length than what is to be written.
-const WRONG_BUFFER: Refusal = Refusal(24);
-
 /// The packets don't determine what is asked for.
 const INCOMPLETE: Refusal = Refusal(25);
 
@@ -98,6 +95,27 @@ impl fmt::Display for Refusal {
 /// A row of RFC 6330, section 5.6: K', J, S, H and W.
 type Row = [u32; 5];
 
+/// The rows behind the built-in ones that a block of so many symbols takes: each call makes its table of
+/// those that it is handed.
+fn rows_for(symbols: u64) -> &'static [Row] {
+    if BUILT_IN_SIZES
+        .last()
+        .is_some_and(|&size| symbols <= size.into())
+    {
+        return &[];
+    }
+    let smaller = ROWS.partition_point(|&[size, ..]| u64::from(size) < symbols);
+    &ROWS[..ROWS.len().min(smaller + 1)]
+}
+
+/// Those that the greatest block of an object takes.
+fn rows_of(configuration: &Configuration) -> &'static [Row] {
+    let cut = read(configuration);
+    // What is 0 is refused whatever the rows.
+    let symbols = cut.transfer_length.div_ceil(cut.symbol_size.max(1).into());
+    rows_for(symbols.div_ceil(cut.source_blocks.max(1).into()))
+}
+
 unsafe extern "C" {
     fn reamertan_version() -> u32;
     fn reamertan_derive_configuration(
@@ -134,13 +152,38 @@ unsafe extern "C" {
         object_length: usize,
         handle: *mut Handle,
     ) -> u8;
-    fn reamertan_write_packet(
+    fn reamertan_write_packets(
         handle: *mut Handle,
         block: u8,
-        esi: u32,
-        packet: *mut u8,
-        packet_length: usize,
+        first: u32,
+        count: u32,
+        packets: *mut u8,
+        packets_length: usize,
     ) -> u8;
+    fn reamertan_open_plan(
+        rows: *const Row,
+        row_count: usize,
+        source_symbols: u16,
+        handle: *mut Handle,
+    ) -> u8;
+    fn reamertan_open_block_encoder(
+        rows: *const Row,
+        row_count: usize,
+        configuration: *const Configuration,
+        block: u8,
+        bytes: *const u8,
+        length: usize,
+        plan: *mut Handle,
+        handle: *mut Handle,
+    ) -> u8;
+    fn reamertan_write_block_packets(
+        handle: *mut Handle,
+        first: u32,
+        count: u32,
+        packets: *mut u8,
+        packets_length: usize,
+    ) -> u8;
+    fn reamertan_share(handle: *mut Handle, twin: *mut Handle) -> u8;
     fn reamertan_open_decoder(
         rows: *const Row,
         row_count: usize,
@@ -148,6 +191,7 @@ unsafe extern "C" {
         handle: *mut Handle,
     ) -> u8;
     fn reamertan_add_packet(handle: *mut Handle, packet: *const u8, packet_length: usize) -> u8;
+    fn reamertan_is_complete(handle: *mut Handle) -> u8;
     fn reamertan_write_block(handle: *mut Handle, block: u8, bytes: *mut u8, length: usize) -> u8;
     fn reamertan_close(handle: *mut Handle);
 }
@@ -225,9 +269,9 @@ pub fn read(configuration: &Configuration) -> Parameters {
 }
 
 pub fn check(configuration: &Configuration) -> Result<(), Refusal> {
-    meet_library();
+    let rows = rows_of(configuration);
     // SAFETY: as above.
-    let number = unsafe { reamertan_check_configuration(ROWS.as_ptr(), ROWS.len(), configuration) };
+    let number = unsafe { reamertan_check_configuration(rows.as_ptr(), rows.len(), configuration) };
     answered(number, ())
 }
 
@@ -251,7 +295,8 @@ pub struct Handle {
     owned: Owned,
 }
 
-// SAFETY: it is proved of the library's type of a handle that it may cross threads.
+// SAFETY: it is proved of the library's type of a handle that it may cross threads, and of what handles share
+// that several threads may use it at a time.
 unsafe impl Send for Handle {}
 
 // SAFETY: each call takes a handle by `&mut`, so that nothing can be done by a `&`.
@@ -266,13 +311,13 @@ impl Handle {
 
     /// The encoder of an object.
     pub fn encoder(configuration: &Configuration, object: &[u8]) -> Result<Handle, Refusal> {
-        meet_library();
+        let rows = rows_of(configuration);
         let mut made = Handle::empty();
         // SAFETY: the struct has the header's layout, and the pointers go with their slices' lengths.
         let number = unsafe {
             reamertan_open_encoder(
-                ROWS.as_ptr(),
-                ROWS.len(),
+                rows.as_ptr(),
+                rows.len(),
                 configuration,
                 object.as_ptr(),
                 object.len(),
@@ -282,22 +327,84 @@ impl Handle {
         answered(number, made)
     }
 
-    /// Fills a buffer with a packet, a payload id of 4 bytes and a symbol.
-    pub fn write_packet(&mut self, block: u8, id: u32, packet: &mut [u8]) -> Result<(), Refusal> {
-        // SAFETY: the pointer goes with its slice's length, and a handle is used by one call at a
-        // time.
-        let number =
-            unsafe { reamertan_write_packet(self, block, id, packet.as_mut_ptr(), packet.len()) };
+    /// The plan of blocks of so many symbols.
+    pub fn plan(symbols: u16) -> Result<Handle, Refusal> {
+        meet_library();
+        let rows = rows_for(symbols.into());
+        let mut made = Handle::empty();
+        // SAFETY: as for encoders.
+        let number = unsafe { reamertan_open_plan(rows.as_ptr(), rows.len(), symbols, &mut made) };
+        answered(number, made)
+    }
+
+    /// The encoder of a block alone, which is what the configuration is of, by a plan.
+    pub fn block_encoder(
+        configuration: &Configuration,
+        block: u8,
+        bytes: &[u8],
+        plan: &mut Handle,
+    ) -> Result<Handle, Refusal> {
+        let rows = rows_of(configuration);
+        let mut made = Handle::empty();
+        // SAFETY: as for encoders, and the handles are two.
+        let number = unsafe {
+            reamertan_open_block_encoder(
+                rows.as_ptr(),
+                rows.len(),
+                configuration,
+                block,
+                bytes.as_ptr(),
+                bytes.len(),
+                plan,
+                &mut made,
+            )
+        };
+        answered(number, made)
+    }
+
+    /// A further handle on the encoder or the plan.
+    pub fn share(&mut self) -> Result<Handle, Refusal> {
+        let mut twin = Handle::empty();
+        // SAFETY: the handles are two, and each is used by one call at a time.
+        let number = unsafe { reamertan_share(self, &mut twin) };
+        answered(number, twin)
+    }
+
+    /// Fills a buffer with packets of a block of an object, whose encoding symbol ids go from one on. Each is
+    /// a payload id of 4 bytes and a symbol.
+    pub fn write_packets(
+        &mut self,
+        block: u8,
+        first: u32,
+        count: u32,
+        packets: &mut [u8],
+    ) -> Result<(), Refusal> {
+        let (at, length) = (packets.as_mut_ptr(), packets.len());
+        // SAFETY: the pointer goes with its slice's length, and a handle is used by one call at a time.
+        let number = unsafe { reamertan_write_packets(self, block, first, count, at, length) };
+        answered(number, ())
+    }
+
+    /// The same of a block alone.
+    pub fn write_block_packets(
+        &mut self,
+        first: u32,
+        count: u32,
+        packets: &mut [u8],
+    ) -> Result<(), Refusal> {
+        let (at, length) = (packets.as_mut_ptr(), packets.len());
+        // SAFETY: as above.
+        let number = unsafe { reamertan_write_block_packets(self, first, count, at, length) };
         answered(number, ())
     }
 
     /// A decoder, before any packet.
     pub fn decoder(configuration: &Configuration) -> Result<Handle, Refusal> {
-        meet_library();
+        let rows = rows_of(configuration);
         let mut made = Handle::empty();
         // SAFETY: as for encoders.
         let number =
-            unsafe { reamertan_open_decoder(ROWS.as_ptr(), ROWS.len(), configuration, &mut made) };
+            unsafe { reamertan_open_decoder(rows.as_ptr(), rows.len(), configuration, &mut made) };
         answered(number, made)
     }
 
@@ -308,11 +415,11 @@ impl Handle {
         answered(number, ())
     }
 
-    /// Whether the packets of a block determine it. A buffer of no bytes asks: only a block of none
-    /// fills it.
-    pub fn is_complete(&mut self, block: u8) -> Result<bool, Refusal> {
-        match self.write_block(block, &mut []) {
-            Ok(()) | Err(WRONG_BUFFER) => Ok(true),
+    /// Whether the packets that were taken determine the object.
+    pub fn is_complete(&mut self) -> Result<bool, Refusal> {
+        // SAFETY: as above.
+        match answered(unsafe { reamertan_is_complete(self) }, ()) {
+            Ok(()) => Ok(true),
             Err(INCOMPLETE) => Ok(false),
             Err(refusal) => Err(refusal),
         }

@@ -211,7 +211,7 @@ impl SourceBlockDecoder {
         for packet in self.packets[taken..].chunks(PAYLOAD_ID_LENGTH + self.symbol_size) {
             handle.add_packet(packet)?;
         }
-        if handle.is_complete(0)? {
+        if handle.is_complete()? {
             let mut bytes = vec![0; self.source_symbols as usize * self.symbol_size];
             handle.write_block(0, &mut bytes)?;
             return Ok(Some(bytes));

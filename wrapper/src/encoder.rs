@@ -1,13 +1,18 @@
 //! Encoders.
 
-use crate::base::{EncodingPacket, ObjectTransmissionInformation, PayloadId};
-use crate::blocks::{GREATEST_BLOCK, calculate_block_offsets};
+use crate::base::{EncodingPacket, ObjectTransmissionInformation};
+use crate::blocks::calculate_block_offsets;
 use crate::calls::{
-    Configuration, DEFAULT_DECODER_MEMORY, ENCODING_SYMBOL_IDS, Handle, PAYLOAD_ID_LENGTH, accepted,
+    DEFAULT_DECODER_MEMORY, ENCODING_SYMBOL_IDS, Handle, PAYLOAD_ID_LENGTH, Refusal, accepted,
 };
+use crate::plans::{SourceBlockEncodingPlan, kept_plan};
+use crate::shared::SharedHandle;
 use std::fmt;
 use std::ops::Range;
-use std::sync::{Arc, Mutex, PoisonError};
+
+/// About how many bytes of packets the library is asked for at a time: few enough to stay in the processor's caches,
+/// and so many that the call itself doesn't count.
+const BYTES_AT_A_TIME: usize = 32 * 1024;
 
 /// Builds encoders by the memory of a decoder and a size of packets.
 #[derive(Clone, Debug, PartialEq, Eq)]
@@ -62,14 +67,14 @@ pub struct Encoder {
 impl Encoder {
     /// The encoder of an object. Panics where the configuration is refused, or isn't the object's.
     pub fn new(data: &[u8], config: ObjectTransmissionInformation) -> Encoder {
-        let sender = Sender::new(&config.serialize(), data);
+        let sender = SharedHandle::new(accepted(Handle::encoder(&config.serialize(), data)));
         let size = usize::from(config.symbol_size());
         let offsets = calculate_block_offsets(data, &config).into_iter();
         let block = |(number, (start, end)): (u8, (usize, usize))| SourceBlockEncoder {
             source_block_id: number,
             source_symbols: ((end - start) / size) as u32,
             symbol_size: config.symbol_size(),
-            sender: sender.of_block(number),
+            sender: Sender::Object(sender.clone()),
         };
         Encoder {
             config,
@@ -93,34 +98,18 @@ impl Encoder {
     /// The packets of the source symbols of each block, and of so many repair symbols a block. Panics
     /// where there are no ids for so many.
     pub fn get_encoded_packets(&self, repair_packets_per_block: u32) -> Vec<EncodingPacket> {
-        let packets = |block: &SourceBlockEncoder| {
-            let repair = block.repair_packets(0, repair_packets_per_block);
-            block.source_packets().into_iter().chain(repair)
-        };
-        self.blocks.iter().flat_map(packets).collect()
+        let ids = |block: &SourceBlockEncoder| 0..block.repair_ids(0, repair_packets_per_block).end;
+        let count = self.blocks.iter().map(|block| ids(block).len()).sum();
+        let mut packets = Vec::with_capacity(count);
+        for block in &self.blocks {
+            block.append(ids(block), &mut packets);
+        }
+        packets
     }
 
-    /// The encoders of the source blocks. Threads that ask those of one object for packets take
-    /// turns.
+    /// The encoders of the source blocks. Threads that ask them for packets go side by side.
     pub fn get_block_encoders(&self) -> &Vec<SourceBlockEncoder> {
         &self.blocks
-    }
-}
-
-/// What the encoders of source blocks of one size share. It holds the number of their symbols alone:
-/// with a plan, encoding isn't faster.
-#[derive(Clone, Debug, PartialEq, Eq)]
-pub struct SourceBlockEncodingPlan {
-    source_symbol_count: u16,
-}
-
-impl SourceBlockEncodingPlan {
-    /// The plan for source blocks of so many symbols. Panics above 56403.
-    pub fn generate(symbol_count: u16) -> SourceBlockEncodingPlan {
-        assert!(u32::from(symbol_count) <= GREATEST_BLOCK, "BlockOverTable");
-        SourceBlockEncodingPlan {
-            source_symbol_count: symbol_count,
-        }
     }
 }
 
@@ -135,34 +124,45 @@ pub struct SourceBlockEncoder {
 
 impl SourceBlockEncoder {
     /// The encoder of a block of these bytes, whole symbols, cut into sub-blocks as the configuration
-    /// says. Its transfer length and its number of source blocks aren't read. Panics where the rest is
-    /// refused, the last symbol isn't whole, or there are more than 56403.
+    /// says. Its transfer length and its number of source blocks aren't read. The plans of the 64 numbers of
+    /// symbols that were new last are kept for further blocks. Panics where there are more than 56403
+    /// symbols, the rest of the configuration is refused, or the last symbol isn't whole.
     pub fn new(
         source_block_id: u8,
         config: &ObjectTransmissionInformation,
         data: &[u8],
     ) -> SourceBlockEncoder {
-        let sender = Sender::new(&config.of_block(data.len() as u64), data);
-        let size = usize::from(config.symbol_size());
-        assert!(data.len() % size == 0, "WrongDataLength");
-        SourceBlockEncoder {
-            source_block_id,
-            source_symbols: (data.len() / size) as u32,
-            symbol_size: config.symbol_size(),
-            sender,
-        }
+        // Symbols of no bytes are refused below, and too many of them here.
+        let symbols = data.len().checked_div(config.symbol_size().into());
+        let symbols = u16::try_from(symbols.unwrap_or(0)).unwrap_or(u16::MAX);
+        SourceBlockEncoder::by_plan(source_block_id, config, data, &mut kept_plan(symbols))
     }
 
-    /// The same. Panics also where the plan is one for another number of symbols.
+    /// The same by a plan. Panics also where the plan is one for another number of symbols.
     pub fn with_encoding_plan(
         source_block_id: u8,
         config: &ObjectTransmissionInformation,
         data: &[u8],
         plan: &SourceBlockEncodingPlan,
     ) -> SourceBlockEncoder {
-        let planned = usize::from(plan.source_symbol_count) * usize::from(config.symbol_size());
-        assert!(data.len() == planned, "PlanMismatch");
-        SourceBlockEncoder::new(source_block_id, config, data)
+        SourceBlockEncoder::by_plan(source_block_id, config, data, &mut plan.handle())
+    }
+
+    fn by_plan(
+        source_block_id: u8,
+        config: &ObjectTransmissionInformation,
+        data: &[u8],
+        plan: &mut Handle,
+    ) -> SourceBlockEncoder {
+        let configuration = config.of_block(data.len() as u64);
+        let handle = Handle::block_encoder(&configuration, source_block_id, data, plan);
+        let sender = Sender::Block(SharedHandle::new(accepted(handle)));
+        SourceBlockEncoder {
+            source_block_id,
+            source_symbols: (data.len() / usize::from(config.symbol_size())) as u32,
+            symbol_size: config.symbol_size(),
+            sender,
+        }
     }
 
     /// The packets of the source symbols.
@@ -173,31 +173,51 @@ impl SourceBlockEncoder {
     /// So many packets of repair symbols, from one on: the first is number 0. Panics where one would
     /// have an encoding symbol id of more than 24 bits.
     pub fn repair_packets(&self, start_repair_symbol_id: u32, packets: u32) -> Vec<EncodingPacket> {
-        let start = u64::from(self.source_symbols) + u64::from(start_repair_symbol_id);
-        let end = start + u64::from(packets);
-        assert!(
-            packets == 0 || end <= u64::from(ENCODING_SYMBOL_IDS),
-            "EsiTooLarge"
-        );
-        self.packets(start as u32..end as u32)
+        self.packets(self.repair_ids(start_repair_symbol_id, packets))
+    }
+
+    // The encoding symbol ids of these repair packets.
+    fn repair_ids(&self, start_repair_symbol_id: u32, packets: u32) -> Range<u32> {
+        if packets == 0 {
+            return self.source_symbols..self.source_symbols;
+        }
+        let first = u64::from(self.source_symbols) + u64::from(start_repair_symbol_id);
+        let end = first + u64::from(packets);
+        assert!(end <= u64::from(ENCODING_SYMBOL_IDS), "EsiTooLarge");
+        first as u32..end as u32
     }
 
     // The packets of these encoding symbol ids.
     fn packets(&self, ids: Range<u32>) -> Vec<EncodingPacket> {
-        let mut bytes = vec![0; PAYLOAD_ID_LENGTH + usize::from(self.symbol_size)];
-        let mut handle = self
-            .sender
-            .handle
-            .lock()
-            .unwrap_or_else(PoisonError::into_inner);
-        let packet = |id| {
-            accepted(handle.write_packet(self.sender.block, id, &mut bytes));
-            EncodingPacket::new(
-                PayloadId::new(self.source_block_id, id),
-                bytes[PAYLOAD_ID_LENGTH..].to_vec(),
-            )
-        };
-        ids.map(packet).collect()
+        let mut packets = Vec::with_capacity(ids.len());
+        self.append(ids, &mut packets);
+        packets
+    }
+
+    // Appends them.
+    fn append(&self, ids: Range<u32>, packets: &mut Vec<EncodingPacket>) {
+        let length = PAYLOAD_ID_LENGTH + usize::from(self.symbol_size);
+        let most = BYTES_AT_A_TIME.div_ceil(length);
+        let mut bytes = vec![0; most.min(ids.len()) * length];
+        for first in ids.clone().step_by(most) {
+            let count = (ids.end - first).min(most as u32);
+            let filled = &mut bytes[..count as usize * length];
+            accepted(self.write(first, count, filled));
+            packets.extend(filled.chunks_exact(length).map(EncodingPacket::deserialize));
+        }
+    }
+
+    // Fills a buffer with so many packets, whose encoding symbol ids go from one on.
+    fn write(&self, first: u32, count: u32, packets: &mut [u8]) -> Result<(), Refusal> {
+        let number = self.source_block_id;
+        match &self.sender {
+            Sender::Object(object) => {
+                object.call(|handle| handle.write_packets(number, first, count, packets))
+            }
+            Sender::Block(block) => {
+                block.call(|handle| handle.write_block_packets(first, count, packets))
+            }
+        }
     }
 }
 
@@ -220,39 +240,15 @@ impl PartialEq for SourceBlockEncoder {
                 block.symbol_size,
             )
         };
-        numbers(self) == numbers(other)
-            && (self.sender.is(&other.sender) || self.source_packets() == other.source_packets())
+        numbers(self) == numbers(other) && self.source_packets() == other.source_packets()
     }
 }
 
 impl Eq for SourceBlockEncoder {}
 
-// The library's encoder of an object, and which of its source blocks is meant. It never changes, so
-// that clones share it.
+// The library's encoder of a block's object, or of the block alone.
 #[derive(Clone)]
-struct Sender {
-    handle: Arc<Mutex<Handle>>,
-    block: u8,
-}
-
-impl Sender {
-    // The first block of an object.
-    fn new(configuration: &Configuration, object: &[u8]) -> Sender {
-        let handle = accepted(Handle::encoder(configuration, object));
-        Sender {
-            handle: Arc::new(Mutex::new(handle)),
-            block: 0,
-        }
-    }
-
-    fn of_block(&self, block: u8) -> Sender {
-        Sender {
-            handle: Arc::clone(&self.handle),
-            block,
-        }
-    }
-
-    fn is(&self, other: &Sender) -> bool {
-        Arc::ptr_eq(&self.handle, &other.handle) && self.block == other.block
-    }
+enum Sender {
+    Object(SharedHandle),
+    Block(SharedHandle),
 }

@@ -24,10 +24,13 @@ mod decoder;
 mod encoder;
 #[cfg(feature = "serde")]
 mod fields;
+mod plans;
 mod rows;
+mod shared;
 mod version;
 
 pub use base::{EncodingPacket, ObjectTransmissionInformation, PayloadId};
 pub use blocks::{calculate_block_offsets, extended_source_block_symbols, partition};
 pub use decoder::{Decoder, SourceBlockDecoder};
-pub use encoder::{Encoder, EncoderBuilder, SourceBlockEncoder, SourceBlockEncodingPlan};
+pub use encoder::{Encoder, EncoderBuilder, SourceBlockEncoder};
+pub use plans::SourceBlockEncodingPlan;

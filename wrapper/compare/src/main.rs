@@ -1,12 +1,22 @@
-//! The proved codec beside the crate `raptorq` 2.0.1, in one process: on 2,000 random configurations,
-//! losses and orders, packets are equal byte for byte and both answer at the same packet. One in eight
-//! has blocks of more than 497 symbols. So are those of 2,000 blocks by themselves. On 2,000 lengths and
-//! packet sizes default configurations are equal. Then both encode blocks by a plan and further blocks of
-//! a size, take 400 packets that decide nothing, and encode and decode objects of one block and of 64, in
-//! turn, and the medians of the ratios of their times are printed (above 1 the proved one is faster).
+//! The proved codec beside the crate `raptorq` 2.0.1, in one process.
+//!
+//!     compare          asks that both do the same, and measures blocks and objects
+//!     compare table    measures blocks alone
+//!
+//! On 2,000 random configurations, losses and orders, packets are equal byte for byte and both answer at the same
+//! packet. One in eight has blocks of more than 497 symbols. So are those of 2,000 blocks by themselves. On 2,000
+//! lengths and packet sizes default configurations are equal. Then both take turns at blocks (`table.rs`), and at
+//! objects and packets that decide nothing (`objects.rs`).
 
-use std::hint::black_box;
-use std::time::Instant;
+mod objects;
+mod table;
+
+const USAGE: &str = "\
+The proved codec beside the crate raptorq 2.0.1.
+
+    compare          asks that both do the same, and measures blocks and objects
+    compare table    measures blocks alone
+";
 
 struct Numbers(u64);
 
@@ -127,116 +137,7 @@ fn compare_defaults(numbers: &mut Numbers) {
     assert_eq!(ours.serialize(), theirs.serialize(), "{length} {size}");
 }
 
-fn nanoseconds(work: impl FnOnce()) -> f64 {
-    let start = Instant::now();
-    work();
-    start.elapsed().as_nanos() as f64
-}
-
-/// The median of the crate's time by the proved codec's, the two taking turns.
-fn ratio(mut ours: impl FnMut(), mut theirs: impl FnMut()) -> f64 {
-    let mut ratios: Vec<f64> = (0..41)
-        .map(|_| {
-            let here = nanoseconds(&mut ours);
-            nanoseconds(&mut theirs) / here
-        })
-        .collect();
-    ratios.sort_by(f64::total_cmp);
-    ratios[20]
-}
-
-/// Two decoders that are given the same packets, until they answer the object.
-fn decode_ratio(
-    ours: proved::ObjectTransmissionInformation,
-    theirs: raptorq::ObjectTransmissionInformation,
-    packets: &[Vec<u8>],
-) -> f64 {
-    ratio(
-        || {
-            let mut decoder = proved::Decoder::new(ours);
-            let mut came = packets.iter().map(|packet| proved::EncodingPacket::deserialize(packet));
-            black_box(came.find_map(|packet| decoder.decode(packet)));
-        },
-        || {
-            let mut decoder = raptorq::Decoder::new(theirs);
-            let mut came = packets.iter().map(|packet| raptorq::EncodingPacket::deserialize(packet));
-            black_box(came.find_map(|packet| decoder.decode(packet)));
-        },
-    )
-}
-
-/// Blocks of so many symbols, each tenth of which is lost.
-fn measure(blocks: u8, symbols: usize, size: u16) {
-    let data = Numbers(7).bytes(usize::from(blocks) * symbols * usize::from(size));
-    let length = data.len() as u64;
-    let repair = (symbols / 10) as u32;
-    let ours = proved::ObjectTransmissionInformation::new(length, size, blocks, 1, 8);
-    let theirs = raptorq::ObjectTransmissionInformation::new(length, size, blocks, 1, 8);
-    let encode = ratio(
-        || {
-            black_box(proved::Encoder::new(&data, ours).get_encoded_packets(repair));
-        },
-        || {
-            black_box(raptorq::Encoder::new(&data, theirs).get_encoded_packets(repair));
-        },
-    );
-    let packets = proved::Encoder::new(&data, ours).get_encoded_packets(repair + 1);
-    let lost = |id: u32| id % 10 == 3 && (id as usize) < symbols;
-    let kept = packets.iter().filter(|packet| !lost(packet.payload_id().encoding_symbol_id()));
-    let came: Vec<Vec<u8>> = kept.map(|packet| packet.serialize()).collect();
-    let decode = decode_ratio(ours, theirs, &came);
-    println!("Z = {blocks}, K = {symbols}, T = {size}: encode {encode:.2}, decode {decode:.2}");
-}
-
-/// 400 packets of a block of one symbol whose equations say nothing of it.
-fn measure_idle() {
-    let ours = proved::ObjectTransmissionInformation::new(1, 1, 1, 1, 1);
-    let theirs = raptorq::ObjectTransmissionInformation::new(1, 1, 1, 1, 1);
-    let packets = proved::Encoder::new(&[7], ours).get_encoded_packets(150_000);
-    let idle: Vec<Vec<u8>> = packets
-        .iter()
-        .map(|packet| packet.serialize())
-        .filter(|packet| {
-            let mut alone = proved::Decoder::new(ours);
-            alone.decode(proved::EncodingPacket::deserialize(packet)).is_none()
-        })
-        .take(400)
-        .collect();
-    let taken = decode_ratio(ours, theirs, &idle);
-    println!("{} packets that decide nothing: {taken:.2}", idle.len());
-}
-
-/// One block after another of so many symbols, by a plan that is handed in, and without one: a repair packet for
-/// each ten source symbols.
-fn measure_blocks(symbols: u16, size: u16) {
-    let data = Numbers(7).bytes(usize::from(symbols) * usize::from(size));
-    let repair = u32::from(symbols / 10);
-    let ours = proved::ObjectTransmissionInformation::new(0, size, 0, 1, 8);
-    let theirs = raptorq::ObjectTransmissionInformation::new(0, size, 0, 1, 8);
-    let our_plan = proved::SourceBlockEncodingPlan::generate(symbols);
-    let their_plan = raptorq::SourceBlockEncodingPlan::generate(symbols);
-    let planned = ratio(
-        || {
-            let block = proved::SourceBlockEncoder::with_encoding_plan(0, &ours, &data, &our_plan);
-            black_box(block.repair_packets(0, repair));
-        },
-        || {
-            let block = raptorq::SourceBlockEncoder::with_encoding_plan(0, &theirs, &data, &their_plan);
-            black_box(block.repair_packets(0, repair));
-        },
-    );
-    let again = ratio(
-        || {
-            black_box(proved::SourceBlockEncoder::new(0, &ours, &data).repair_packets(0, repair));
-        },
-        || {
-            black_box(raptorq::SourceBlockEncoder::new(0, &theirs, &data).repair_packets(0, repair));
-        },
-    );
-    println!("K = {symbols}, T = {size}: a block by a plan {planned:.2}, a further block of a size {again:.2}");
-}
-
-fn main() {
+fn compare_all() {
     let mut numbers = Numbers(2026);
     for number in 0..2_000 {
         compare(&mut numbers, number);
@@ -246,16 +147,22 @@ fn main() {
     println!("2000 configurations: the same packets, the same answers at the same packets");
     println!("2000 blocks: the same packets by a plan, the same answers, the same decoders equal");
     println!("2000 lengths and packet sizes: the same default configurations");
-    for size in [1280, 64] {
-        for symbols in [10, 101, 248, 497, 1002, 10120] {
-            measure_blocks(symbols, size);
+}
+
+fn main() {
+    let words: Vec<String> = std::env::args().skip(1).collect();
+    let words: Vec<&str> = words.iter().map(String::as_str).collect();
+    match words[..] {
+        [] => {
+            compare_all();
+            table::print();
+            objects::print();
         }
-    }
-    measure_idle();
-    for size in [1280, 64] {
-        for symbols in [10, 101, 248, 497, 1002, 10120] {
-            measure(1, symbols, size);
+        ["table"] => table::print(),
+        ["-h" | "--help"] => print!("{USAGE}"),
+        _ => {
+            eprint!("{USAGE}");
+            std::process::exit(2);
         }
-        measure(64, 10, size);
     }
 }

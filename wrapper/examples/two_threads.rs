@@ -1,0 +1,165 @@
+//! Repair packets of the 64 source blocks of an object, by two threads over one `Encoder`, and by two processes that have
+//! half of the blocks each, in turns. Prints the medians of both times and of their ratio, which is 1 where threads
+//! hinder each other no more than processes do.
+//!
+//!     cargo run --release --example two_threads [PACKETS]
+//!
+//! PACKETS: how many a call asks for, 50 where there is none.
+
+use raptorq::{Encoder, ObjectTransmissionInformation, SourceBlockEncoder};
+use std::env;
+use std::hint::black_box;
+use std::io::{BufRead, BufReader, Lines, Write, stdin, stdout};
+use std::process::{Child, ChildStdin, ChildStdout, Command, Stdio, exit};
+use std::thread;
+use std::time::Instant;
+
+const USAGE: &str = "\
+Repair packets by two threads over one encoder, and by two processes.
+
+    two_threads [PACKETS]      PACKETS: how many a call asks for, 50 where there is none
+";
+const SYMBOL_SIZE: u16 = 1280;
+const SYMBOLS: usize = 101;
+const BLOCKS: usize = 64;
+// How many packets are asked for of each block.
+const REPAIR: u32 = 500;
+const ROUNDS: usize = 41;
+// What a process is called with that does half of the work.
+const HALF: &str = "half";
+
+// The encoder of so many blocks.
+fn encoder(blocks: usize) -> Encoder {
+    let length = blocks * SYMBOLS * usize::from(SYMBOL_SIZE);
+    let places = 0..length;
+    let object: Vec<u8> = places
+        .map(|place| ((place * 2654435761) >> 24) as u8)
+        .collect();
+    let config = ObjectTransmissionInformation::new(length as u64, SYMBOL_SIZE, blocks as u8, 1, 8);
+    Encoder::new(&object, config)
+}
+
+fn ask(blocks: &[SourceBlockEncoder], packets: u32) {
+    for block in blocks {
+        for first in (0..REPAIR).step_by(packets as usize) {
+            black_box(block.repair_packets(first, packets.min(REPAIR - first)));
+        }
+    }
+}
+
+// Asks once for each line that comes, and answers by one.
+fn answer_lines(packets: u32) {
+    let encoder = encoder(BLOCKS / 2);
+    for _ in stdin().lines() {
+        ask(encoder.get_block_encoders(), packets);
+        println!();
+        stdout().flush().expect("a reader");
+    }
+}
+
+// A process that does half of the work for each line.
+struct Half {
+    process: Child,
+    asks: Option<ChildStdin>,
+    answers: Lines<BufReader<ChildStdout>>,
+}
+
+impl Half {
+    fn start(packets: u32) -> Half {
+        let program = env::current_exe().expect("this program");
+        let mut command = Command::new(program);
+        command.args([HALF, &packets.to_string()]);
+        let piped = command.stdin(Stdio::piped()).stdout(Stdio::piped());
+        let mut process = piped.spawn().expect("a process");
+        let asks = process.stdin.take();
+        let answers = BufReader::new(process.stdout.take().expect("a pipe")).lines();
+        Half {
+            process,
+            asks,
+            answers,
+        }
+    }
+
+    fn ask(&mut self) {
+        let asks = self.asks.as_mut().expect("a pipe");
+        writeln!(asks).expect("a process that reads");
+    }
+
+    fn wait(&mut self) {
+        self.answers
+            .next()
+            .expect("a line")
+            .expect("a process that answers");
+    }
+}
+
+impl Drop for Half {
+    fn drop(&mut self) {
+        // It ends when no line can come any more.
+        self.asks = None;
+        let _ = self.process.wait();
+    }
+}
+
+fn milliseconds(work: impl FnOnce()) -> f64 {
+    let start = Instant::now();
+    work();
+    start.elapsed().as_secs_f64() * 1e3
+}
+
+fn median(mut numbers: Vec<f64>) -> f64 {
+    numbers.sort_by(f64::total_cmp);
+    numbers[numbers.len() / 2]
+}
+
+fn measure(packets: u32) {
+    let encoder = encoder(BLOCKS);
+    let (first, second) = encoder.get_block_encoders().split_at(BLOCKS / 2);
+    let mut halves = [Half::start(packets), Half::start(packets)];
+    let mut by_processes = || {
+        halves.iter_mut().for_each(Half::ask);
+        halves.iter_mut().for_each(Half::wait);
+    };
+    let by_threads = || {
+        thread::scope(|scope| {
+            scope.spawn(|| ask(first, packets));
+            scope.spawn(|| ask(second, packets));
+        });
+    };
+    by_processes();
+    let round = |_| (milliseconds(by_threads), milliseconds(&mut by_processes));
+    let (threads, processes): (Vec<f64>, Vec<f64>) = (0..ROUNDS).map(round).unzip();
+    let ratios = threads
+        .iter()
+        .zip(&processes)
+        .map(|(threads, processes)| threads / processes);
+    let ratio = median(ratios.collect());
+    println!(
+        "two threads {:.1} ms, two processes {:.1} ms, ratio {ratio:.2}",
+        median(threads),
+        median(processes)
+    );
+}
+
+fn main() {
+    let words: Vec<String> = env::args().skip(1).collect();
+    let words: Vec<&str> = words.iter().map(String::as_str).collect();
+    let is_half = words.first() == Some(&HALF);
+    let packets = match words[usize::from(is_half)..] {
+        ["-h" | "--help"] => return print!("{USAGE}"),
+        [] => Some(50),
+        [packets] => packets
+            .parse()
+            .ok()
+            .filter(|packets| (1..=REPAIR).contains(packets)),
+        _ => None,
+    };
+    match packets {
+        Some(packets) if is_half => answer_lines(packets),
+        Some(packets) => measure(packets),
+        None => {
+            eprint!("{USAGE}");
+            exit(2);
+        }
+    }
+}

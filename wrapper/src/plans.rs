@@ -1,0 +1,94 @@
+//! Plans of source blocks, and those that are kept.
+
+use crate::calls::{Handle, accepted};
+use crate::shared::SharedHandle;
+use std::collections::VecDeque;
+use std::fmt;
+use std::sync::{Mutex, MutexGuard, PoisonError};
+
+/// What encoders of source blocks of one size share: with it each takes its symbols alone.
+#[derive(Clone)]
+pub struct SourceBlockEncodingPlan {
+    source_symbol_count: u16,
+    plan: SharedHandle,
+}
+
+impl SourceBlockEncodingPlan {
+    /// The plan for source blocks of so many symbols. Panics above 56403.
+    pub fn generate(symbol_count: u16) -> SourceBlockEncodingPlan {
+        SourceBlockEncodingPlan {
+            source_symbol_count: symbol_count,
+            plan: SharedHandle::new(accepted(Handle::plan(symbol_count))),
+        }
+    }
+
+    /// A handle on the plan.
+    pub(crate) fn handle(&self) -> Handle {
+        self.plan.further()
+    }
+}
+
+impl fmt::Debug for SourceBlockEncodingPlan {
+    fn fmt(&self, f: &mut fmt::Formatter<'_>) -> fmt::Result {
+        f.debug_struct("SourceBlockEncodingPlan")
+            .field("source_symbol_count", &self.source_symbol_count)
+            .finish_non_exhaustive()
+    }
+}
+
+// A plan is made of the number alone.
+impl PartialEq for SourceBlockEncodingPlan {
+    fn eq(&self, other: &SourceBlockEncodingPlan) -> bool {
+        self.source_symbol_count == other.source_symbol_count
+    }
+}
+
+impl Eq for SourceBlockEncodingPlan {}
+
+/// How many plans are kept, as in the crate.
+const KEPT: usize = 64;
+
+/// Plans by their numbers of symbols, the one that was kept first in front.
+struct KeptPlans(VecDeque<(u16, Handle)>);
+
+impl KeptPlans {
+    fn lock() -> MutexGuard<'static, KeptPlans> {
+        static PLANS: Mutex<KeptPlans> = Mutex::new(KeptPlans(VecDeque::new()));
+        PLANS.lock().unwrap_or_else(PoisonError::into_inner)
+    }
+
+    // A further handle on a plan that is kept.
+    fn find(&mut self, symbols: u16) -> Option<Handle> {
+        let mut plans = self.0.iter_mut();
+        let (_, plan) = plans.find(|(count, _)| *count == symbols)?;
+        Some(accepted(plan.share()))
+    }
+
+    // Keeps a plan, and answers the one that makes room for it.
+    fn keep(&mut self, symbols: u16, plan: Handle) -> Option<(u16, Handle)> {
+        let full = self.0.len() >= KEPT;
+        let oldest = full.then(|| self.0.pop_front()).flatten();
+        self.0.push_back((symbols, plan));
+        oldest
+    }
+}
+
+/// A handle on the plan for blocks of so many symbols: on one that is kept, or else on a new one, which is kept from
+/// then on. Panics above 56403.
+pub fn kept_plan(symbols: u16) -> Handle {
+    if let Some(plan) = KeptPlans::lock().find(symbols) {
+        return plan;
+    }
+    let mut made = accepted(Handle::plan(symbols));
+    let further = accepted(made.share());
+    let mut plans = KeptPlans::lock();
+    // Another thread may have kept one since.
+    if let Some(plan) = plans.find(symbols) {
+        return plan;
+    }
+    let oldest = plans.keep(symbols, further);
+    // It is freed when others may go on.
+    drop(plans);
+    drop(oldest);
+    made
+}
