@@ -5,9 +5,15 @@
 
 use raptorq::{Decoder, Encoder, ObjectTransmissionInformation};
 use std::env;
+use std::process::exit;
 use std::thread;
 use std::time::Instant;
 
+const USAGE: &str = "\
+A large object by several threads: cut into parts, sent, and received without each tenth packet.
+
+    side_by_side BYTES THREADS
+";
 const SYMBOL_SIZE: u16 = 1280;
 const SYMBOLS: usize = 1000;
 
@@ -24,12 +30,7 @@ fn there_and_back(part: &[u8]) -> bool {
     answers.next().is_some_and(|object| object == part)
 }
 
-fn main() {
-    let mut words = env::args()
-        .skip(1)
-        .map(|word| word.parse::<usize>().expect("a number"));
-    let bytes = words.next().expect("how many bytes?");
-    let threads = words.next().expect("how many threads?");
+fn measure(bytes: usize, threads: usize) {
     let object: Vec<u8> = (0..bytes)
         .map(|place| ((place * 2654435761) >> 24) as u8)
         .collect();
@@ -47,4 +48,21 @@ fn main() {
         "{} parts by {threads} threads in {seconds:.2} s, equal: {equal}",
         parts.len()
     );
+}
+
+fn main() {
+    let words: Vec<String> = env::args().skip(1).collect();
+    let words: Vec<&str> = words.iter().map(String::as_str).collect();
+    let numbers = match words[..] {
+        ["-h" | "--help"] => return print!("{USAGE}"),
+        [bytes, threads] => (bytes.parse().unwrap_or(0), threads.parse().unwrap_or(0)),
+        _ => (0, 0),
+    };
+    match numbers {
+        (1.., 1..) => measure(numbers.0, numbers.1),
+        _ => {
+            eprint!("{USAGE}");
+            exit(2);
+        }
+    }
 }

@@ -108,6 +108,19 @@ fn extended_sizes_are_those_of_the_library() {
     }
 }
 
+// The rows of the table end here and there: built-in ones at 497, and all at 56403.
+#[test]
+fn blocks_at_the_ends_of_rows() {
+    let config = ObjectTransmissionInformation::new(0, 1, 0, 1, 1);
+    for symbols in [1, 10, 11, 497, 498, 511, 512, 56403] {
+        let data = bytes(symbols as usize);
+        let encoder = SourceBlockEncoder::new(0, &config, &data);
+        let mut decoder = SourceBlockDecoder::new(0, &config, data.len() as u64);
+        let came = encoder.repair_packets(7, symbols + 5);
+        assert_eq!(decoder.decode(came), Some(data), "{symbols}");
+    }
+}
+
 // As in the crate, source symbols are compared by their places, and repair symbols as they came.
 #[test]
 fn decoders_are_equal_by_what_came() {
@@ -143,6 +156,25 @@ fn coders_cross_threads_and_panics() {
 fn a_plan_of_another_number() {
     let plan = SourceBlockEncodingPlan::generate(11);
     SourceBlockEncoder::with_encoding_plan(0, &config(), &bytes(40), &plan);
+}
+
+#[test]
+#[should_panic(expected = "BlockOverTable")]
+fn a_plan_of_more_symbols_than_a_block_has() {
+    SourceBlockEncodingPlan::generate(56404);
+}
+
+#[test]
+#[should_panic(expected = "BlockOverTable")]
+fn more_symbols_than_a_block_has() {
+    SourceBlockEncoder::new(0, &config(), &bytes(70_000 * 4));
+}
+
+#[test]
+#[should_panic(expected = "SymbolSizeZero")]
+fn symbols_of_no_bytes() {
+    let config = ObjectTransmissionInformation::new(0, 0, 0, 1, 1);
+    SourceBlockEncoder::new(0, &config, &bytes(40));
 }
 
 #[test]

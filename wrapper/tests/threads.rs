@@ -62,15 +62,19 @@ fn one_block_encoder() {
     assert!(answers.iter().all(|packets| *packets == expected.concat()));
 }
 
+// 10,000 blocks of up to 20 symbols.
 #[test]
-fn one_plan() {
-    let plan = SourceBlockEncodingPlan::generate(30);
+fn plans_of_all_threads() {
+    let plans: Vec<_> = (0..=20).map(SourceBlockEncodingPlan::generate).collect();
     let there_and_back = |thread: usize| {
-        (0..50).all(|round| {
-            let data = block(30, 50 * thread + round);
-            let encoder = SourceBlockEncoder::with_encoding_plan(7, &config(), &data, &plan);
+        (0..10_000 / THREADS).all(|round| {
+            let symbols = 1 + round % 20;
+            let data = block(symbols, 3 * round + thread);
+            let plan = &plans[symbols];
+            let encoder = SourceBlockEncoder::with_encoding_plan(7, &config(), &data, plan);
             let mut decoder = SourceBlockDecoder::new(7, &config(), data.len() as u64);
-            decoder.decode(encoder.repair_packets(round as u32, 34)) == Some(data)
+            let came = encoder.repair_packets(round as u32, symbols as u32 + 5);
+            decoder.decode(came) == Some(data)
         })
     };
     assert_eq!(in_threads(there_and_back), [true; THREADS]);
