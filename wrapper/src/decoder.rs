@@ -1,6 +1,6 @@
 //! Decoders.
 
-use crate::base::{EncodingPacket, ObjectTransmissionInformation};
+use crate::base::{EncodingPacket, ObjectTransmissionInformation, PayloadId};
 use crate::blocks::{GREATEST_BLOCK, calculate_block_offsets};
 use crate::calls::{
     self, CONTRADICTION, Configuration, Handle, PAYLOAD_ID_LENGTH, Refusal, accepted,
@@ -55,7 +55,7 @@ impl Decoder {
         let block = &mut self.blocks[number];
         block.check(&packet);
         if block.answer.is_none() {
-            block.record(&packet);
+            block.record(packet);
             block.solve_where_enough();
         }
     }
@@ -92,8 +92,8 @@ pub struct SourceBlockDecoder {
     source_symbols: u32,
     symbol_size: usize,
     ids: BTreeSet<u32>,
-    // The packets that came, each its id and its payload, one behind another.
-    packets: Vec<u8>,
+    // The packets that came, one of each id.
+    packets: Vec<EncodingPacket>,
     contradictory: bool,
     answer: Option<Vec<u8>>,
     sparse_threshold: u32,
@@ -153,7 +153,7 @@ impl SourceBlockDecoder {
     ) -> Option<Vec<u8>> {
         for packet in packets {
             self.check(&packet);
-            self.record(&packet);
+            self.record(packet);
         }
         self.solve_where_enough();
         self.answer.clone()
@@ -179,14 +179,11 @@ impl SourceBlockDecoder {
     }
 
     // Records a packet of a new id, unless it can't matter any more: what is contradictory stays so.
-    fn record(&mut self, packet: &EncodingPacket) {
+    fn record(&mut self, packet: EncodingPacket) {
         let id = packet.payload_id().encoding_symbol_id();
-        if self.contradictory || !self.ids.insert(id) {
-            return;
+        if !self.contradictory && self.ids.insert(id) {
+            self.packets.push(packet);
         }
-        let [_, id @ ..] = id.to_be_bytes();
-        self.packets.extend([0, id[0], id[1], id[2]]);
-        self.packets.extend(packet.data());
     }
 
     // Answers the block, where enough packets came to determine it perhaps, and do.
@@ -208,8 +205,14 @@ impl SourceBlockDecoder {
             Some(begun) => begun,
             None => (Handle::decoder(&self.configuration)?, 0),
         };
-        for packet in self.packets[taken..].chunks(PAYLOAD_ID_LENGTH + self.symbol_size) {
-            handle.add_packet(packet)?;
+        let mut bytes = Vec::with_capacity(PAYLOAD_ID_LENGTH + self.symbol_size);
+        for packet in &self.packets[taken..] {
+            // As an object of its own the block is number 0.
+            let id = PayloadId::new(0, packet.payload_id().encoding_symbol_id());
+            bytes.clear();
+            bytes.extend(id.serialize());
+            bytes.extend_from_slice(packet.data());
+            handle.add_packet(&bytes)?;
         }
         if handle.is_complete()? {
             let mut bytes = vec![0; self.source_symbols as usize * self.symbol_size];
@@ -222,13 +225,10 @@ impl SourceBlockDecoder {
 
     // What `==` of the crate's decoders sees of the packets: those of source symbols by their ids, and
     // behind them the others as they came.
-    fn compared(&self) -> Vec<&[u8]> {
-        let mut packets: Vec<&[u8]> = self
-            .packets
-            .chunks(PAYLOAD_ID_LENGTH + self.symbol_size)
-            .collect();
+    fn compared(&self) -> Vec<&EncodingPacket> {
+        let mut packets: Vec<&EncodingPacket> = self.packets.iter().collect();
         packets.sort_by_key(|packet| {
-            let id = u32::from_be_bytes([0, packet[1], packet[2], packet[3]]);
+            let id = packet.payload_id().encoding_symbol_id();
             id.min(self.source_symbols)
         });
         packets
@@ -261,7 +261,7 @@ impl PartialEq for SourceBlockDecoder {
 
 impl Eq for SourceBlockDecoder {}
 
-// The library's decoder of a block, and how many bytes of its packets it has. There is one while enough
+// The library's decoder of a block, and how many of its packets it has. There is one while enough
 // packets came to determine the block perhaps, and it has no answer. A clone begins without one.
 struct Solver(Option<(Handle, usize)>);
 

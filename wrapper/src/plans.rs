@@ -6,7 +6,8 @@ use std::collections::VecDeque;
 use std::fmt;
 use std::sync::{Mutex, MutexGuard, PoisonError};
 
-/// What encoders of source blocks of one size share: with it each takes its symbols alone.
+/// What the encoders of source blocks of one size share: which of their symbols are to be added to which. To find
+/// that is most of the work of an encoder of small symbols. Clones share it.
 #[derive(Clone)]
 pub struct SourceBlockEncodingPlan {
     source_symbol_count: u16,
