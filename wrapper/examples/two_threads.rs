@@ -11,7 +11,8 @@ use std::env;
 use std::hint::black_box;
 use std::io::{BufRead, BufReader, Lines, Write, stdin, stdout};
 use std::process::{Child, ChildStdin, ChildStdout, Command, Stdio, exit};
-use std::thread;
+use std::sync::mpsc::{Receiver, Sender, channel};
+use std::thread::{self, Scope};
 use std::time::Instant;
 
 const USAGE: &str = "\
@@ -57,29 +58,36 @@ fn answer_lines(packets: u32) {
     }
 }
 
-// A process that does half of the work for each line.
-struct Half {
-    process: Child,
+// Who does half of the work each time that it is asked to.
+trait Worker {
+    fn ask(&mut self);
+    fn wait(&mut self);
+}
+
+struct Process {
+    child: Child,
     asks: Option<ChildStdin>,
     answers: Lines<BufReader<ChildStdout>>,
 }
 
-impl Half {
-    fn start(packets: u32) -> Half {
+impl Process {
+    fn start(packets: u32) -> Process {
         let program = env::current_exe().expect("this program");
         let mut command = Command::new(program);
         command.args([HALF, &packets.to_string()]);
         let piped = command.stdin(Stdio::piped()).stdout(Stdio::piped());
-        let mut process = piped.spawn().expect("a process");
-        let asks = process.stdin.take();
-        let answers = BufReader::new(process.stdout.take().expect("a pipe")).lines();
-        Half {
-            process,
+        let mut child = piped.spawn().expect("a process");
+        let asks = child.stdin.take();
+        let answers = BufReader::new(child.stdout.take().expect("a pipe")).lines();
+        Process {
+            child,
             asks,
             answers,
         }
     }
+}
 
+impl Worker for Process {
     fn ask(&mut self) {
         let asks = self.asks.as_mut().expect("a pipe");
         writeln!(asks).expect("a process that reads");
@@ -93,17 +101,53 @@ impl Half {
     }
 }
 
-impl Drop for Half {
+impl Drop for Process {
     fn drop(&mut self) {
         // It ends when no line can come any more.
         self.asks = None;
-        let _ = self.process.wait();
+        let _ = self.child.wait();
     }
 }
 
-fn milliseconds(work: impl FnOnce()) -> f64 {
+// It ends when this does.
+struct Thread {
+    asks: Sender<()>,
+    answers: Receiver<()>,
+}
+
+impl Thread {
+    fn start<'scope>(
+        scope: &'scope Scope<'scope, '_>,
+        blocks: &'scope [SourceBlockEncoder],
+        packets: u32,
+    ) -> Thread {
+        let (asks, asked) = channel();
+        let (answered, answers) = channel();
+        scope.spawn(move || {
+            for () in asked {
+                ask(blocks, packets);
+                answered.send(()).expect("who waits");
+            }
+        });
+        Thread { asks, answers }
+    }
+}
+
+impl Worker for Thread {
+    fn ask(&mut self) {
+        self.asks.send(()).expect("a thread that reads");
+    }
+
+    fn wait(&mut self) {
+        self.answers.recv().expect("a thread that answers");
+    }
+}
+
+// How long two take, in milliseconds.
+fn time(workers: &mut [impl Worker; 2]) -> f64 {
     let start = Instant::now();
-    work();
+    workers.iter_mut().for_each(Worker::ask);
+    workers.iter_mut().for_each(Worker::wait);
     start.elapsed().as_secs_f64() * 1e3
 }
 
@@ -115,20 +159,15 @@ fn median(mut numbers: Vec<f64>) -> f64 {
 fn measure(packets: u32) {
     let encoder = encoder(BLOCKS);
     let (first, second) = encoder.get_block_encoders().split_at(BLOCKS / 2);
-    let mut halves = [Half::start(packets), Half::start(packets)];
-    let mut by_processes = || {
-        halves.iter_mut().for_each(Half::ask);
-        halves.iter_mut().for_each(Half::wait);
-    };
-    let by_threads = || {
-        thread::scope(|scope| {
-            scope.spawn(|| ask(first, packets));
-            scope.spawn(|| ask(second, packets));
-        });
-    };
-    by_processes();
-    let round = |_| (milliseconds(by_threads), milliseconds(&mut by_processes));
-    let (threads, processes): (Vec<f64>, Vec<f64>) = (0..ROUNDS).map(round).unzip();
+    let mut processes = [Process::start(packets), Process::start(packets)];
+    let (threads, processes): (Vec<f64>, Vec<f64>) = thread::scope(|scope| {
+        let mut threads = [first, second].map(|half| Thread::start(scope, half, packets));
+        // Their encoders are made, and their memory is taken, before it counts.
+        time(&mut threads);
+        time(&mut processes);
+        let round = |_| (time(&mut threads), time(&mut processes));
+        (0..ROUNDS).map(round).unzip()
+    });
     let ratios = threads
         .iter()
         .zip(&processes)
