@@ -5,7 +5,7 @@ use crate::blocks::{GREATEST_BLOCK, calculate_block_offsets};
 use crate::calls::{
     self, CONTRADICTION, Configuration, Handle, PAYLOAD_ID_LENGTH, Refusal, accepted,
 };
-use std::collections::BTreeSet;
+use std::collections::BTreeMap;
 use std::fmt;
 
 /// Up to how many symbols the crate solves by dense matrices, where nobody sets another number.
@@ -91,7 +91,7 @@ pub struct SourceBlockDecoder {
     configuration: Configuration,
     source_symbols: u32,
     symbol_size: usize,
-    ids: BTreeSet<u32>,
+    ids: Ids,
     // The packets that came, one of each id.
     packets: Vec<EncodingPacket>,
     contradictory: bool,
@@ -129,7 +129,7 @@ impl SourceBlockDecoder {
             configuration: config.of_block(symbols * symbol_size),
             source_symbols: symbols as u32,
             symbol_size: usize::from(config.symbol_size()),
-            ids: BTreeSet::new(),
+            ids: Ids::default(),
             packets: Vec::new(),
             contradictory: false,
             answer: None,
@@ -167,7 +167,7 @@ impl SourceBlockDecoder {
         if self.answer.is_some() {
             return Some(0);
         }
-        let came = self.ids.len() as u32;
+        let came = self.packets.len() as u32;
         let missing = self.source_symbols.saturating_sub(came).max(1);
         (!self.contradictory).then_some(missing)
     }
@@ -188,7 +188,7 @@ impl SourceBlockDecoder {
 
     // Answers the block, where enough packets came to determine it perhaps, and do.
     fn solve_where_enough(&mut self) {
-        let enough = self.ids.len() >= self.source_symbols as usize;
+        let enough = self.packets.len() >= self.source_symbols as usize;
         if self.answer.is_some() || self.contradictory || !enough {
             return;
         }
@@ -241,7 +241,7 @@ impl fmt::Debug for SourceBlockDecoder {
             .field("source_block_id", &self.source_block_id)
             .field("source_symbols", &self.source_symbols)
             .field("symbol_size", &self.symbol_size)
-            .field("ids", &self.ids)
+            .field("packets", &self.packets.len())
             .field("contradictory", &self.contradictory)
             .field("answered", &self.answer.is_some())
             .finish_non_exhaustive()
@@ -260,6 +260,21 @@ impl PartialEq for SourceBlockDecoder {
 }
 
 impl Eq for SourceBlockDecoder {}
+
+// Encoding symbol ids, each a bit of a word of 64.
+#[derive(Clone, Default)]
+struct Ids(BTreeMap<u32, u64>);
+
+impl Ids {
+    // Whether an id is new. From then on it is there.
+    fn insert(&mut self, id: u32) -> bool {
+        let word = self.0.entry(id / 64).or_default();
+        let bit = 1 << (id % 64);
+        let is_new = *word & bit == 0;
+        *word |= bit;
+        is_new
+    }
+}
 
 // The library's decoder of a block, and how many of its packets it has. There is one while enough
 // packets came to determine the block perhaps, and it has no answer. A clone begins without one.
