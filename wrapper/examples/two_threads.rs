@@ -2,9 +2,9 @@
 //! half of the blocks each, in turns. Prints the medians of both times and of their ratio, which is 1 where threads
 //! hinder each other no more than processes do.
 //!
-//!     cargo run --release --example two_threads [PACKETS]
+//!     cargo run --release --example two_threads [SIZE]
 //!
-//! PACKETS: how many a call asks for, 50 where there is none.
+//! SIZE: how many bytes a symbol has, a multiple of 8, and 1280 where there is none.
 
 use raptorq::{Encoder, ObjectTransmissionInformation, SourceBlockEncoder};
 use std::env;
@@ -18,41 +18,41 @@ use std::time::Instant;
 const USAGE: &str = "\
 Repair packets by two threads over one encoder, and by two processes.
 
-    two_threads [PACKETS]      PACKETS: how many a call asks for, 50 where there is none
+    two_threads [SIZE]      SIZE: how many bytes a symbol has, a multiple of 8, and 1280 where there is none
 ";
-const SYMBOL_SIZE: u16 = 1280;
 const SYMBOLS: usize = 101;
 const BLOCKS: usize = 64;
-// How many packets are asked for of each block.
-const REPAIR: u32 = 500;
+// How many packets a call asks for, and how often.
+const PACKETS: u32 = 50;
+const CALLS: u32 = 10;
 const ROUNDS: usize = 41;
 // What a process is called with that does half of the work.
 const HALF: &str = "half";
 
 // The encoder of so many blocks.
-fn encoder(blocks: usize) -> Encoder {
-    let length = blocks * SYMBOLS * usize::from(SYMBOL_SIZE);
+fn encoder(blocks: usize, size: u16) -> Encoder {
+    let length = blocks * SYMBOLS * usize::from(size);
     let places = 0..length;
     let object: Vec<u8> = places
         .map(|place| ((place * 2654435761) >> 24) as u8)
         .collect();
-    let config = ObjectTransmissionInformation::new(length as u64, SYMBOL_SIZE, blocks as u8, 1, 8);
+    let config = ObjectTransmissionInformation::new(length as u64, size, blocks as u8, 1, 8);
     Encoder::new(&object, config)
 }
 
-fn ask(blocks: &[SourceBlockEncoder], packets: u32) {
+fn ask(blocks: &[SourceBlockEncoder]) {
     for block in blocks {
-        for first in (0..REPAIR).step_by(packets as usize) {
-            black_box(block.repair_packets(first, packets.min(REPAIR - first)));
+        for call in 0..CALLS {
+            black_box(block.repair_packets(call * PACKETS, PACKETS));
         }
     }
 }
 
 // Asks once for each line that comes, and answers by one.
-fn answer_lines(packets: u32) {
-    let encoder = encoder(BLOCKS / 2);
+fn answer_lines(size: u16) {
+    let encoder = encoder(BLOCKS / 2, size);
     for _ in stdin().lines() {
-        ask(encoder.get_block_encoders(), packets);
+        ask(encoder.get_block_encoders());
         println!();
         stdout().flush().expect("a reader");
     }
@@ -71,10 +71,10 @@ struct Process {
 }
 
 impl Process {
-    fn start(packets: u32) -> Process {
+    fn start(size: u16) -> Process {
         let program = env::current_exe().expect("this program");
         let mut command = Command::new(program);
-        command.args([HALF, &packets.to_string()]);
+        command.args([HALF, &size.to_string()]);
         let piped = command.stdin(Stdio::piped()).stdout(Stdio::piped());
         let mut child = piped.spawn().expect("a process");
         let asks = child.stdin.take();
@@ -119,13 +119,12 @@ impl Thread {
     fn start<'scope>(
         scope: &'scope Scope<'scope, '_>,
         blocks: &'scope [SourceBlockEncoder],
-        packets: u32,
     ) -> Thread {
         let (asks, asked) = channel();
         let (answered, answers) = channel();
         scope.spawn(move || {
             for () in asked {
-                ask(blocks, packets);
+                ask(blocks);
                 answered.send(()).expect("who waits");
             }
         });
@@ -156,12 +155,12 @@ fn median(mut numbers: Vec<f64>) -> f64 {
     numbers[numbers.len() / 2]
 }
 
-fn measure(packets: u32) {
-    let encoder = encoder(BLOCKS);
+fn measure(size: u16) {
+    let encoder = encoder(BLOCKS, size);
     let (first, second) = encoder.get_block_encoders().split_at(BLOCKS / 2);
-    let mut processes = [Process::start(packets), Process::start(packets)];
+    let mut processes = [Process::start(size), Process::start(size)];
     let (threads, processes): (Vec<f64>, Vec<f64>) = thread::scope(|scope| {
-        let mut threads = [first, second].map(|half| Thread::start(scope, half, packets));
+        let mut threads = [first, second].map(|half| Thread::start(scope, half));
         // Their encoders are made, and their memory is taken, before it counts.
         time(&mut threads);
         time(&mut processes);
@@ -184,18 +183,15 @@ fn main() {
     let words: Vec<String> = env::args().skip(1).collect();
     let words: Vec<&str> = words.iter().map(String::as_str).collect();
     let is_half = words.first() == Some(&HALF);
-    let packets = match words[usize::from(is_half)..] {
+    let size = match words[usize::from(is_half)..] {
         ["-h" | "--help"] => return print!("{USAGE}"),
-        [] => Some(50),
-        [packets] => packets
-            .parse()
-            .ok()
-            .filter(|packets| (1..=REPAIR).contains(packets)),
+        [] => Some(1280),
+        [size] => size.parse().ok().filter(|size| size % 8 == 0 && *size > 0),
         _ => None,
     };
-    match packets {
-        Some(packets) if is_half => answer_lines(packets),
-        Some(packets) => measure(packets),
+    match size {
+        Some(size) if is_half => answer_lines(size),
+        Some(size) => measure(size),
         None => {
             eprint!("{USAGE}");
             exit(2);
