@@ -1,8 +1,19 @@
 """Reads the calls of the library for C, and their structs, from the places where they stand: what crates/raptorq_c exports and
 include/constants.c defines, what include/reamertan.h declares, and what wrapper/src/calls.rs declares. A type is spelled as in Rust. A
-call is its parameters, as pairs of name and type, and its result; a struct is its fields, as such pairs."""
+call is its parameters, as pairs of name and type, and its result; a struct is its fields, as such pairs. The declarations of
+python/reamertan/_calls.py, by ctypes, are compared as they are."""
+import ctypes
 import re
 
+CTYPES = {
+    "()": None,
+    "bool": ctypes.c_bool,
+    "u8": ctypes.c_uint8,
+    "u16": ctypes.c_uint16,
+    "u32": ctypes.c_uint32,
+    "u64": ctypes.c_uint64,
+    "usize": ctypes.c_size_t,
+}
 C_TYPES = {"uint8_t": "u8", "uint16_t": "u16", "uint32_t": "u32", "uint64_t": "u64", "size_t": "usize", "void": "()"}
 
 
@@ -131,3 +142,30 @@ def differences(place, found, wanted, is_whole):
     else:
         order = [name for name in wanted_calls if name in calls]
         yield from (f"{place}: {name} stands where the header has {other}" for name, other in zip(calls, order) if name != other)
+
+
+def in_ctypes(kind, structs):
+    """What stands for a type of the header in Python, where these are the structs."""
+    known = {**CTYPES, **structs}
+    pointer = re.fullmatch(r"\*(?:const|mut) (\w+)", kind)
+    if not pointer:
+        return known[kind]
+    if pointer[1] in ("u8", "char", "Configuration"):
+        return ctypes.c_char_p
+    return ctypes.c_void_p if pointer[1] == "Row" else ctypes.POINTER(known[pointer[1]])
+
+
+def module_differences(declared, wanted):
+    """What differs in the declarations of Python's module from the header's, of which it may lack some."""
+    calls, structs = wanted
+    classes = {name: getattr(declared, name) for name in structs if hasattr(declared, name)}
+    for name, made in classes.items():
+        # A pointer to bytes that a struct owns is never followed.
+        fields = [(field, ctypes.c_void_p if kind == "*mut u8" else in_ctypes(kind, classes)) for field, kind in structs[name]]
+        if made._fields_ != fields:
+            yield f"python/reamertan/_calls.py: {name} is {made._fields_}, and in the header {fields}"
+    for name, found in declared.CALLS.items():
+        pairs, result = calls.get(f"reamertan_{name}", ([], None))
+        kinds = [in_ctypes(kind, classes) for kind in (result, *(kind for _, kind in pairs))] if result else []
+        if list(found) != kinds:
+            yield f"python/reamertan/_calls.py: {name} is {found}, and in the header {kinds}"

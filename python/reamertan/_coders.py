@@ -1,0 +1,281 @@
+"""Coders of objects and of blocks. Each keeps a handle of the library."""
+from __future__ import annotations
+
+import os
+import threading
+from ctypes import byref, c_uint32, c_uint64
+from typing import Any, Callable, TypeVar
+
+from ._answers import Answer, Error
+from ._calls import Handle
+from ._configuration import PAYLOAD_ID_BYTES, ObjectTransmissionInformation
+from ._library import ROWS, calls, exact, fresh, must, number
+
+ENCODING_SYMBOL_IDS = 1 << 24
+# How many bytes of packets a call makes at a time, unless one packet has more.
+BATCH = 1 << 20
+
+_Any = TypeVar("_Any", bound="Coder")
+# How often this process was forked off. Coders from before are looked at when they are next used.
+_forks = 0
+_meeting = threading.Lock()
+
+
+def _count_fork() -> None:
+    global _forks, _meeting
+    _forks += 1
+    _meeting = threading.Lock()
+
+
+os.register_at_fork(after_in_child=_count_fork)
+
+
+class Coder:
+    """What coders share: a handle, and a lock, since one call at a time uses a handle.
+
+    The lock lets its own thread in again, as a signal's handler may come between two calls. In a forked child, a coder that another
+    thread was using is lost, since that thread isn't there to end its call.
+    """
+
+    __slots__ = ("_forks", "_handle", "_lock")
+    _forks: int
+    _handle: Handle
+    _lock: Any
+
+    def __new__(cls: type[_Any], *words: Any, **named: Any) -> _Any:
+        made = super().__new__(cls)
+        made._lock, made._handle, made._forks = threading.RLock(), Handle(), _forks
+        return made
+
+    def _ask(self, call: Callable[..., Any], *words: Any) -> int:
+        """What a call with the handle answers."""
+        if self._forks != _forks:
+            self._meet()
+        with self._lock:
+            answer: int = call(self._handle, *words)
+        return answer
+
+    def _meet(self) -> None:
+        """Looks at a coder that comes from another process."""
+        with _meeting:
+            if self._forks == _forks:
+                return
+            if not self._lock.acquire(blocking=False):
+                raise RuntimeError("another thread was using this coder when the process was forked")
+            self._forks = _forks
+            self._lock.release()
+
+    def close(self) -> None:
+        """Frees what the coder holds. Calls are refused from then on (`Answer.NO_CODER`)."""
+        self._ask(calls.close)
+
+    def __enter__(self: _Any) -> _Any:
+        return self
+
+    def __exit__(self, *reason: object) -> None:
+        self.close()
+
+    # Nobody else has the coder any more: where its lock is held, that is by a thread of another process.
+    def __del__(self, close: Callable[[Handle], None] = calls.close) -> None:
+        if self._lock.acquire(blocking=False):
+            close(self._handle)
+
+    def __reduce__(self) -> tuple[object, ...]:
+        raise TypeError("a coder can't be copied")
+
+
+def cut(packets: bytes, size: int) -> list[bytes]:
+    """Packets that lie one behind another."""
+    return [packets[start : start + size] for start in range(0, len(packets), size)]
+
+
+def batches(write: Callable[..., int], size: int, first: int, count: int) -> list[bytes]:
+    """Packets of the ids from `first` on, by a call that fills a buffer with some of them."""
+    first = number(first, 32, "the first id")
+    count = number(count, 32, "the number of packets")
+    if first + count > ENCODING_SYMBOL_IDS:
+        # Refused before any is made.
+        must(write(first, count, b"", 0))
+    at_once = max(1, BATCH // size)
+    packets: list[bytes] = []
+    for start in range(first, first + count, at_once):
+        made = min(at_once, first + count - start)
+        filled = fresh(made * size)
+        must(write(start, made, filled, len(filled)))
+        packets += cut(filled, size)
+    return packets
+
+
+def configured(config: ObjectTransmissionInformation) -> bytes:
+    """The 12 bytes of a configuration."""
+    if not isinstance(config, ObjectTransmissionInformation):
+        raise TypeError(f"an ObjectTransmissionInformation is needed, not {type(config).__name__}")
+    return config.serialize()
+
+
+class Encoder(Coder):
+    """The encoder of an object.
+
+    >>> encoder = Encoder.with_defaults(bytes(5000), 100)
+    >>> packets = encoder.get_encoded_packets(10)
+    >>> len(packets), packets[0] == encoder.packet(0, 0)
+    (63, True)
+    """
+
+    __slots__ = ("_config",)
+    _config: ObjectTransmissionInformation
+
+    def __init__(self, data: bytes, config: ObjectTransmissionInformation) -> None:
+        """The encoder of an object by this configuration. Neither is needed any more."""
+        data, config_bytes = exact(data), configured(config)
+        must(self._ask(lambda handle: calls.open_encoder(*ROWS, config_bytes, data, len(data), handle)))
+        self._config = config
+
+    @staticmethod
+    def with_defaults(data: bytes, maximum_transmission_unit: int) -> Encoder:
+        """The encoder of an object in packets of at most so many bytes of payload."""
+        data = exact(data)
+        return Encoder(data, ObjectTransmissionInformation.with_defaults(len(data), maximum_transmission_unit))
+
+    def get_config(self) -> ObjectTransmissionInformation:
+        """The object's configuration, which a receiver needs."""
+        return self._config
+
+    def get_encoded_packets(self, repair_packets_per_block: int) -> list[bytes]:
+        """Block by block the packets of all source symbols, and of so many repair symbols."""
+        repair = number(repair_packets_per_block, 32, "the number of repair packets")
+        # Refuses ids that are too great before any packet is made.
+        must(calls.packets_length(*ROWS, self._config.serialize(), repair, byref(c_uint64())))
+        packets: list[bytes] = []
+        for block in range(self._config.source_blocks):
+            packets += self.packets(block, 0, self._config.source_symbols(block) + repair)
+        return packets
+
+    def packet(self, block: int, encoding_symbol_id: int) -> bytes:
+        """The packet of a source block and an encoding symbol id, below the block's source symbols that of one of these."""
+        return self.packets(block, encoding_symbol_id, 1)[0]
+
+    def packets(self, block: int, first: int, count: int) -> list[bytes]:
+        """So many packets of a source block, of the encoding symbol ids from `first` on."""
+        block = number(block, 8, "a source block")
+        size = PAYLOAD_ID_BYTES + self._config.symbol_size
+        return batches(lambda *words: self._ask(calls.write_packets, block, *words), size, first, count)
+
+
+class SourceBlockEncodingPlan(Coder):
+    """How blocks of so many source symbols are encoded, which is most of the work where symbols are small. One plan serves them all.
+
+    >>> plan = SourceBlockEncodingPlan.generate(10)
+    """
+
+    __slots__ = ()
+
+    @staticmethod
+    def generate(symbol_count: int) -> SourceBlockEncodingPlan:
+        """The plan for blocks of so many source symbols."""
+        made = SourceBlockEncodingPlan()
+        must(calls.open_plan(*ROWS, number(symbol_count, 16, "the number of source symbols"), made._handle))
+        return made
+
+
+class SourceBlockEncoder(Coder):
+    """The encoder of one source block, whose other blocks needn't be there.
+
+    >>> config = ObjectTransmissionInformation(1000, 100, 1, 1, 1)
+    >>> plan = SourceBlockEncodingPlan.generate(config.source_symbols(0))
+    >>> encoder = SourceBlockEncoder.with_encoding_plan(0, config, bytes(1000), plan)
+    >>> encoder.packets(0, 12) == Encoder(bytes(1000), config).packets(0, 0, 12)
+    True
+    """
+
+    __slots__ = ("_size",)
+    _size: int
+
+    @staticmethod
+    def with_encoding_plan(
+        source_block_id: int, config: ObjectTransmissionInformation, data: bytes, plan: SourceBlockEncodingPlan
+    ) -> SourceBlockEncoder:
+        """The encoder of a block with these bytes, which are all of it: where the object ends before it, zeros follow."""
+        if not isinstance(plan, SourceBlockEncodingPlan):
+            raise TypeError(f"a SourceBlockEncodingPlan is needed, not {type(plan).__name__}")
+        data, words = exact(data), (configured(config), number(source_block_id, 8, "a source block"))
+        made = SourceBlockEncoder()
+        made._size = PAYLOAD_ID_BYTES + config.symbol_size
+        must(plan._ask(lambda handle: calls.open_block_encoder(*ROWS, *words, data, len(data), handle, made._handle)))
+        return made
+
+    def packets(self, first: int, count: int) -> list[bytes]:
+        """So many packets of the block, of the encoding symbol ids from `first` on."""
+        return batches(lambda *words: self._ask(calls.write_block_packets, *words), self._size, first, count)
+
+
+class Decoder(Coder):
+    """The decoder of an object.
+
+    >>> packets = Encoder.with_defaults(b"reamertan" * 100, 100).get_encoded_packets(3)
+    >>> decoder = Decoder.with_defaults(900, 100)
+    >>> answers = [decoder.decode(packet) for packet in packets[2:]]
+    >>> answers[-1] == b"reamertan" * 100
+    True
+    """
+
+    __slots__ = ("_config",)
+    _config: ObjectTransmissionInformation
+
+    def __init__(self, config: ObjectTransmissionInformation) -> None:
+        """The decoder of an object that was cut by this configuration."""
+        config_bytes = configured(config)
+        must(self._ask(lambda handle: calls.open_decoder(*ROWS, config_bytes, handle)))
+        self._config = config
+
+    @staticmethod
+    def with_defaults(transfer_length: int, maximum_transmission_unit: int) -> Decoder:
+        """The decoder of an object of so many bytes, in packets of at most so many bytes of payload."""
+        return Decoder(ObjectTransmissionInformation.with_defaults(transfer_length, maximum_transmission_unit))
+
+    def get_config(self) -> ObjectTransmissionInformation:
+        """The object's configuration."""
+        return self._config
+
+    def decode(self, packet: bytes) -> bytes | None:
+        """Takes a packet. Answers the object once the packets that were taken determine it, and before that nothing.
+
+        Raises an `Error` where the packet is refused: it is none of the object's, or contradicts others (`Answer.CONTRADICTION`).
+        """
+        packet = exact(packet)
+        must(self._ask(calls.add_packet, packet, len(packet)))
+        return self.get_result()
+
+    def is_complete(self) -> bool:
+        """Whether the packets that were taken determine the object."""
+        return self._is_there(self._ask(calls.is_complete))
+
+    def get_result(self) -> bytes | None:
+        """The object, where the packets that were taken determine it."""
+        if not self.is_complete():
+            return None
+        data = fresh(self._config.transfer_length)
+        must(self._ask(calls.write_object, data, len(data)))
+        return data
+
+    def missing_packets(self, block: int) -> int:
+        """How many packets more a source block needs at least, and 0 once it is complete."""
+        missing = c_uint32()
+        must(self._ask(calls.missing_packets, number(block, 8, "a source block"), byref(missing)))
+        return missing.value
+
+    def block_bytes(self, block: int) -> bytes | None:
+        """The object's bytes in a source block, where the packets that were taken determine the block."""
+        number(block, 8, "a source block")
+        # A block's bytes end where the object does. One that isn't there has none, and is refused by the call.
+        is_there = block < self._config.source_blocks
+        place = self._config.block_range(block) if is_there else range(0)
+        data = fresh(max(0, min(place.stop, self._config.transfer_length) - place.start))
+        return data if self._is_there(self._ask(calls.write_block, block, data, len(data))) else None
+
+    @staticmethod
+    def _is_there(answer: int) -> bool:
+        """Whether what was asked for is there. Raises what else an answer means."""
+        if answer != Answer.INCOMPLETE:
+            must(answer)
+        return answer == Answer.DONE

@@ -1,0 +1,92 @@
+"""The library for C: where it is found, and its calls with what Python asks for around them.
+
+ctypes looks at little: it cuts numbers that are too great for their type, and takes the interpreter's lock away from a call. So all
+that reaches the library goes through `exact` and `number`, or is made here.
+"""
+from __future__ import annotations
+
+import ctypes
+import operator
+import os
+from ctypes import byref, c_ssize_t, c_void_p, py_object
+from types import SimpleNamespace
+
+from ._answers import Answer, Error
+from ._calls import CALLS
+
+# Libraries of one interface have the same calls, so that a later one may stand in.
+INTERFACE = "0.1"
+NAME = f"libreamertan.so.{INTERFACE}"
+
+
+def found() -> str:
+    """The path of the library, or its name where the system's loader is to look for it."""
+    named = os.environ.get("REAMERTAN_LIB")
+    if not named:
+        beside = os.path.join(os.path.dirname(os.path.abspath(__file__)), NAME)
+        return beside if os.path.exists(beside) else NAME
+    for folder in (named, os.path.join(named, "lib")):
+        path = os.path.join(os.path.abspath(folder), NAME)
+        if os.path.exists(path):
+            return path
+    raise ImportError(f"REAMERTAN_LIB is {named}, where there is neither {NAME} nor lib/{NAME}")
+
+
+def loaded(path: str) -> SimpleNamespace:
+    """The calls of the library there, which has to be of this interface."""
+    try:
+        library = ctypes.CDLL(path)
+        calls = SimpleNamespace(**{name: getattr(library, f"reamertan_{name}") for name in CALLS})
+    except (OSError, AttributeError) as error:
+        raise ImportError(f"Reamertan's library for C can't be loaded: {error}") from error
+    for name, (result, *parameters) in CALLS.items():
+        call = getattr(calls, name)
+        call.restype, call.argtypes = result, parameters
+    if spelled(calls.version()).rpartition(".")[0] != INTERFACE:
+        raise ImportError(f"{path} has version {spelled(calls.version())}, and this module is for {INTERFACE}")
+    return calls
+
+
+def spelled(version: int) -> str:
+    """A version, as in `0.1.0`."""
+    return f"{version // 1000000}.{version // 1000 % 1000}.{version % 1000}"
+
+
+calls = loaded(found())
+_count = ctypes.c_size_t()
+# The rows of RFC 6330 for blocks of more than 497 symbols, and how many there are.
+ROWS = (calls.further_rows(byref(_count)), _count.value)
+
+# New bytes, which a call fills before anybody else sees them. So an object isn't copied once more.
+_new_bytes = ctypes.PYFUNCTYPE(py_object, c_void_p, c_ssize_t)(("PyBytes_FromStringAndSize", ctypes.pythonapi))
+
+
+def fresh(length: int) -> bytes:
+    """New bytes of any content, to be filled by a call."""
+    made: bytes = _new_bytes(None, length)
+    return made
+
+
+def must(answer: int) -> None:
+    """Raises what an answer means, unless it is 0."""
+    if answer == Answer.OUT_OF_MEMORY:
+        raise MemoryError
+    if answer:
+        raise Error(answer, calls.answer_text(answer).decode())
+
+
+def number(value: int, bits: int, what: str) -> int:
+    """A number that fits so many bits."""
+    value = int(operator.index(value))
+    if not 0 <= value < 1 << bits:
+        raise OverflowError(f"{what} has to be from 0 to {(1 << bits) - 1}")
+    return value
+
+
+def exact(value: bytes) -> bytes:
+    """Bytes, and nothing that could change, or say another length than it has, while a call reads it."""
+    if type(value) is bytes:
+        return value
+    if isinstance(value, bytes):
+        return bytes(memoryview(value))
+    raise TypeError(f"bytes are needed, not {type(value).__name__}")

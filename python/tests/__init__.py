@@ -1,0 +1,1 @@
+"""The tests of the module `reamertan`, which `python/test` runs."""
