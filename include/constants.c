@@ -1,11 +1,14 @@
 /* The calls that answer constants, for programs in languages that read no header. Nothing proves these lines. `install`
- * compiles them for any processor of the architecture, and names in REAMERTAN_PROCESSOR the one of the library. */
+ * compiles them for any processor of the architecture, and names in REAMERTAN_PROCESSOR the one of the library. Where there are
+ * several builds in it, packaging/choose.c says which one runs. */
 #include "reamertan_rows.h"
 
+#ifdef REAMERTAN_PROCESSOR
 const char *reamertan_processor(void)
 {
     return REAMERTAN_PROCESSOR;
 }
+#endif
 
 const struct reamertan_row *reamertan_further_rows(size_t *count)
 {

@@ -28,15 +28,17 @@
  *
  * `./install PREFIX` puts the library in place, and `pkg-config --cflags --libs reamertan` says how to link it.
  *
- * A library is built for one processor, which `pkg-config --variable=processor reamertan` names: x86-64-v2;
- * x86-64-v3, which has AVX2, BMI2 and others more; or aarch64, as a static library alone. No call looks whether the
- * machine has it. Where an x86-64 machine hasn't, glibc's loader starts no program that GNU's ld linked with the
- * library, but ends it with 127 and a line that says why. What is linked statically, or by another linker, runs until
- * a call ends it (SIGILL).
+ * A library for x86-64 holds two builds: for x86-64-v2; and for x86-64-v3, which has AVX2, BMI2 and others more. The
+ * first call looks which of them the machine's processor has, and from then on each call goes to the greatest. The
+ * lines of C that look and choose aren't proved. `install` also makes a library with one build, and one for aarch64, as
+ * a static library alone; `pkg-config --variable=processor reamertan` names what a library is for. No call looks
+ * whether the machine has at least that. Where an x86-64 machine hasn't, glibc's loader starts no program that GNU's ld
+ * linked with the library, but ends it with 127 and a line that says why. What is linked statically, or by another
+ * linker, runs until a call ends it (SIGILL).
  *
  * `reamertan_processor`, `reamertan_answer_text` and `reamertan_further_rows` answer constants, so that a program in
  * another language reads no header. They are written in C, and not proved. Any processor of the architecture runs
- * them, so that a program may ask for the library's before it makes another call. What they point at is there as long
+ * them, so that a program may ask which build runs before it makes another call. What they point at is there as long
  * as the library is loaded.
  */
 #ifndef REAMERTAN_H
@@ -128,7 +130,7 @@ const char *reamertan_answer_text(uint8_t answer);
 /* The version of the library that is linked or loaded: its REAMERTAN_VERSION. */
 uint32_t reamertan_version(void);
 
-/* The processor that the library was built for: "x86-64-v2", "x86-64-v3" or "aarch64". */
+/* The processor that the build which runs is for: "x86-64-v2", "x86-64-v3" or "aarch64". */
 const char *reamertan_processor(void);
 
 /* The numbers of a configuration. */

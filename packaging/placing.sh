@@ -1,0 +1,148 @@
+#!/usr/bin/env bash
+# Puts a tree of files in place, all or none, and takes it away again. `install` sources this, behind objects.sh.
+#
+# A file that is there goes aside to FILE$OLD before the new one, FILE$NEW, takes its place. The journal says what is to be undone, so
+# that a call which was ended in the midst is undone by the next one: PLACING until all files are in place, and from then on PLACED,
+# until those that went aside are gone.
+
+: "${made:?a scratch folder}"
+readonly OLD=.reamertan-old NEW=.reamertan-new
+readonly DOCUMENTS=share/doc/reamertan
+readonly MANIFEST=$DOCUMENTS/MANIFEST
+readonly PLACING=$DOCUMENTS/PLACING PLACED=$DOCUMENTS/PLACED
+
+# The paths of a list that begin with a word, as `file` or `folder`: LIST WORD. What leads out of PREFIX is none.
+listed() {
+    sed -n "s/^$2 //p" "$1" | grep -vE '^/|(^|/)\.\.(/|$)' || true
+}
+
+# The same of an earlier version's manifest, if there is one: ROOT WORD.
+earlier() {
+    [ ! -f "$1/$MANIFEST" ] || listed "$1/$MANIFEST" "$2"
+}
+
+# Loops are the shell's own, and not a pipe's: who is killed does nothing more.
+
+# Undoes what was begun below ROOT, or ends what was nearly done.
+recover() {
+    if [ -f "$1/$PLACING" ]; then
+        remove_new "$1"
+        put_back "$1"
+        # Folders go last, and the journal before its own.
+        listed "$1/$PLACING" folder >"$made/folders"
+        rm "$1/$PLACING"
+        remove_folders "$1" "$made/folders"
+    elif [ -f "$1/$PLACED" ]; then
+        forget_old "$1"
+    fi
+}
+
+is_there() {
+    [ -e "$1" ] || [ -L "$1" ]
+}
+
+# The files that are new go: ROOT.
+remove_new() {
+    local file
+    while read -r file; do rm -f "$1/$file" "$1/$file$NEW"; done < <(listed "$1/$PLACING" new)
+}
+
+# The files that were there come back: ROOT.
+put_back() {
+    local file
+    while read -r file; do
+        ! is_there "$1/$file$OLD" || mv -fT "$1/$file$OLD" "$1/$file"
+        rm -f "$1/$file$NEW"
+    done < <(listed "$1/$PLACING" there)
+}
+
+forget_old() {
+    local file
+    while read -r file; do rm -f "$1/$file$OLD"; done < <(listed "$1/$PLACED" there)
+    rm "$1/$PLACED"
+}
+
+# Removes those of the folders in a list, below ROOT, that are empty, the lowest first: ROOT LIST.
+remove_folders() {
+    local folder
+    while read -r folder; do
+        folder=$1/$folder
+        # PREFIX itself is `.`, and the last.
+        [ ! -d "$folder" ] || rmdir --ignore-fail-on-non-empty "${folder%/.}"
+    done < <(sort -r "$2")
+}
+
+# The folders that files need below ROOT, the highest first: FILES.
+folders() {
+    sed 's|[^/]*$||' "$1" | while IFS=/ read -ra parts; do
+        printf '.\n'
+        for ((place = 1; place <= ${#parts[@]}; place++)); do
+            (IFS=/ && echo "${parts[*]:0:place}")
+        done
+    done | sort -u
+}
+
+# What is to be done below ROOT, for a tree: TREE ROOT. Writes the journal and the manifest.
+plan_placing() {
+    local file folder
+    find "$1" ! -type d -printf '%P\n' | sort >"$made/files"
+    echo "$MANIFEST" >>"$made/files"
+    folders "$made/files" | while read -r folder; do [ -d "$2/$folder" ] || echo "folder $folder"; done >"$made/new_folders"
+    { sed 's/^/file /' "$made/files" && cat "$made/new_folders" && earlier "$2" folder | sed 's/^/folder /'; } |
+        sort -u >"$made/MANIFEST"
+    command install -D -m 644 "$made/MANIFEST" "$1/$MANIFEST"
+    # Files of an earlier version go with it.
+    { cat "$made/files" && earlier "$2" file; } | sort -u | while read -r file; do
+        if is_there "$2/$file"; then
+            echo "there $file"
+        else
+            echo "new $file"
+        fi
+    done | cat - "$made/new_folders" >"$made/journal"
+}
+
+# Refuses files that are in the way and of nobody who is known: ROOT.
+refuse_foreign() {
+    local file
+    if [ ! -f "$1/$DOCUMENTS/LINKED" ]; then
+        file=$(listed "$made/journal" there | head -n 1)
+        [ -z "$file" ] || fail "$1/$file is there, and isn't Reamertan's"
+    fi
+}
+
+# Puts a tree in place below ROOT: TREE ROOT.
+place_tree() {
+    local file
+    plan_placing "$1" "$2"
+    refuse_foreign "$2"
+    mkdir -p "$2/$DOCUMENTS"
+    cp "$made/journal" "$2/$PLACING$NEW"
+    mv -fT "$2/$PLACING$NEW" "$2/$PLACING"
+    while read -r file; do
+        mkdir -p "$(dirname "$2/$file")"
+        cp -dp "$1/$file" "$2/$file$NEW"
+    done <"$made/files"
+    exchange "$2"
+    mv -fT "$2/$PLACING" "$2/$PLACED"
+    forget_old "$2"
+}
+
+# Files that were there go aside, and the new ones take their places: ROOT.
+exchange() {
+    local file
+    while read -r file; do
+        ! is_there "$1/$file" || mv -fT "$1/$file" "$1/$file$OLD"
+        ! is_there "$1/$file$NEW" || mv -fT "$1/$file$NEW" "$1/$file"
+    done < <(listed "$made/journal" there && listed "$made/journal" new)
+}
+
+# Takes away all that the manifest names, which goes last: ROOT.
+take_away() {
+    local file
+    [ -f "$1/$MANIFEST" ] || fail "there is no $1/$MANIFEST, which would say what to take away"
+    cp "$1/$MANIFEST" "$made/MANIFEST"
+    while read -r file; do rm -f "$1/$file"; done < <(listed "$made/MANIFEST" file | grep -vxF "$MANIFEST")
+    rm "$1/$MANIFEST"
+    listed "$made/MANIFEST" folder >"$made/folders"
+    remove_folders "$1" "$made/folders"
+}

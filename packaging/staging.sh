@@ -1,0 +1,103 @@
+#!/usr/bin/env bash
+# What is put in place beside the library and programs, and where. `install` and `release` source this, behind objects.sh.
+
+: "${top:?the folder of the repository}" "${made:?a scratch folder}" "${staged:?the tree}"
+declare -a processors
+
+# Prints one of the numbers of the version, by the header. `.ci/outside` compares all places where they stand.
+number() {
+    sed -n "s/^#define REAMERTAN_VERSION_$1 \([0-9]*\)$/\1/p" "$top/include/reamertan.h"
+}
+
+version=$(number MAJOR).$(number MINOR).$(number PATCH)
+# A program that loads the library goes on with a later one of the same interface.
+interface=$(number MAJOR)
+[ "$interface" != 0 ] || interface=0.$(number MINOR)
+soname=libreamertan.so.$interface
+
+# What the library is for, in a word.
+architecture() {
+    if [ ${#processors[@]} -gt 1 ]; then
+        echo x86-64
+    else
+        echo "${processors[0]}"
+    fi
+}
+
+# The file for pkg-config: PREFIX LIBDIR, which is below PREFIX.
+write_pkgconfig() {
+    cat <<TEXT
+prefix=$1
+libdir=\${prefix}/$2
+includedir=\${prefix}/include
+processor=$(architecture)
+
+Name: reamertan
+Description: RaptorQ erasure codec (RFC 6330) that is proved
+Version: $version
+Cflags: -I\${includedir}
+Libs: -L\${libdir} -lreamertan
+TEXT
+}
+
+# What is linked in beside this repository, and under which licence: BUILT.
+write_linked() {
+    local processor
+    cat <<TEXT
+Reamertan $version, for $(architecture). Its licence is in LICENSE (Apache-2.0).
+
+Programs and libraries also hold compiled code that comes with the toolchain which proved them:
+
+- of its standard library, and of the functions in C by which that takes memory, reads and writes. The toolchain
+  has no file that says under which licence. Ask whoever gave it to you before you hand these files on.
+- of its crates ${LINKED// /, }, which are after the Rust crates of these names, as far as they are
+  called. Their licences are in licences.
+
+They take memory from the system's C library. What was proved:
+
+TEXT
+    for processor in "${processors[@]}"; do
+        echo "  $processor: $(cat "$1/$processor/PROVED")"
+    done
+}
+
+# Puts a file into the tree: MODE FILE PLACE.
+stage() {
+    command install -D -m "$1" "$2" "$staged/$3"
+}
+
+stage_documents() {
+    local crate file
+    stage 644 "$top/LICENSE" share/doc/reamertan/LICENSE
+    write_linked "$1" >"$made/LINKED"
+    stage 644 "$made/LINKED" share/doc/reamertan/LINKED
+    for crate in $LINKED; do
+        for file in "$1/toolchain/licences/$crate"/*; do
+            stage 644 "$file" "share/doc/reamertan/licences/$crate/$(basename "$file")"
+        done
+    done
+}
+
+# What is there for x86-64 alone: LIBDIR.
+stage_programs() {
+    local program
+    stage 755 "$made/libreamertan.so" "$1/libreamertan.so.$version"
+    ln -s "libreamertan.so.$version" "$staged/$1/$soname"
+    ln -s "$soname" "$staged/$1/libreamertan.so"
+    for program in "${PROGRAMS[@]%% *}"; do
+        stage 755 "$made/$program" "bin/$program"
+        sed "s/@VERSION@/$version/" "$top/docs/$program.1" >"$made/$program.1"
+        stage 644 "$made/$program.1" "share/man/man1/$program.1"
+    done
+}
+
+# Puts all files into the tree `staged`, of what was made in `made`: BUILT PREFIX LIBDIR.
+stage_all() {
+    write_pkgconfig "$2" "$3" >"$made/reamertan.pc"
+    stage 644 "$made/reamertan.pc" "$3/pkgconfig/reamertan.pc"
+    stage 644 "$made/libreamertan.a" "$3/libreamertan.a"
+    stage 644 "$top/include/reamertan.h" include/reamertan.h
+    stage 644 "$top/include/reamertan_rows.h" include/reamertan_rows.h
+    stage_documents "$1"
+    [ "${processors[0]}" = aarch64 ] || stage_programs "$3"
+}
