@@ -15,10 +15,10 @@ interface=$(number MAJOR)
 [ "$interface" != 0 ] || interface=0.$(number MINOR)
 soname=libreamertan.so.$interface
 
-# What the library is for, in a word.
+# What the library is for, in few words.
 architecture() {
     if [ ${#processors[@]} -gt 1 ]; then
-        echo x86-64
+        printf '%s\n' "${processors[@]%-v*}" | uniq | paste -sd ' ' | sed 's/ / and /'
     else
         echo "${processors[0]}"
     fi
@@ -40,9 +40,16 @@ Libs: -L\${libdir} -lreamertan
 TEXT
 }
 
+# From which commit each build was proved, and by which toolchain: BUILT PROCESSOR..
+write_proved() {
+    local processor
+    for processor in "${@:2}"; do
+        echo "  $processor: $(cat "$1/$processor/PROVED")"
+    done
+}
+
 # What is linked in beside this repository, and under which licence: BUILT.
 write_linked() {
-    local processor
     cat <<TEXT
 Reamertan $version, for $(architecture). Its licence is in LICENSE (Apache-2.0).
 
@@ -56,9 +63,7 @@ Programs and libraries also hold compiled code that comes with the toolchain whi
 They take memory from the system's C library. What was proved:
 
 TEXT
-    for processor in "${processors[@]}"; do
-        echo "  $processor: $(cat "$1/$processor/PROVED")"
-    done
+    write_proved "$1" "${processors[@]}"
 }
 
 # Puts a file into the tree: MODE FILE PLACE.

@@ -1,6 +1,6 @@
 //! Links the codec's static library: the one in the folder or the PREFIX that `REAMERTAN_LIB` names, or else the one
-//! that pkg-config knows. Where there is none of this package's version, `src/calls.rs` gets a sentence to end the build
-//! with, since `cargo check` and `cargo doc` need none.
+//! that a release puts into this package, or else the one that pkg-config knows. Where there is none of this package's
+//! version, `src/calls.rs` gets a sentence to end the build with, since `cargo check` and `cargo doc` need none.
 
 use std::env;
 use std::fs;
@@ -24,7 +24,10 @@ fn main() {
     let named = env::var_os("REAMERTAN_LIB")
         .filter(|named| !named.is_empty())
         .map(PathBuf::from);
-    let folder = named.as_deref().map_or_else(in_pkg_config, in_named);
+    let folder = match &named {
+        Some(named) => in_named(named),
+        None => in_package().or_else(in_pkg_config),
+    };
     let fault = match &folder {
         Some(folder) => {
             link(folder);
@@ -81,6 +84,15 @@ fn in_named(named: &Path) -> Option<PathBuf> {
         .into_iter()
         .flatten()
         .find_map(|start| in_prefix(&start.join(named)))
+}
+
+// The folder of the library for the target's architecture, whichever C library it has.
+fn in_package() -> Option<PathBuf> {
+    let package = env::var_os("CARGO_MANIFEST_DIR")?;
+    let architecture = env::var("CARGO_CFG_TARGET_ARCH").ok()?;
+    let system = env::var("CARGO_CFG_TARGET_OS").ok()?;
+    let folder = Path::new(&package).join(format!("lib/{architecture}-{system}"));
+    folder.join(LIBRARY).is_file().then_some(folder)
 }
 
 fn in_prefix(prefix: &Path) -> Option<PathBuf> {
