@@ -15,6 +15,9 @@ ENCODING_SYMBOL_IDS = 1 << 24
 # How many bytes of packets a call makes at a time, unless one packet has more.
 BATCH = 1 << 20
 
+# What is asked for each packet, without a look-up.
+_add_packet, _is_complete, _INCOMPLETE = calls.add_packet, calls.is_complete, int(Answer.INCOMPLETE)
+
 _Any = TypeVar("_Any", bound="Coder")
 # How often this process was forked off. Coders from before are looked at when they are next used.
 _forks = 0
@@ -39,12 +42,12 @@ class Coder:
 
     __slots__ = ("_forks", "_handle", "_lock")
     _forks: int
-    _handle: Handle
+    _handle: Any
     _lock: Any
 
     def __new__(cls: type[_Any], *words: Any, **named: Any) -> _Any:
         made = super().__new__(cls)
-        made._lock, made._handle, made._forks = threading.RLock(), Handle(), _forks
+        made._lock, made._handle, made._forks = threading.RLock(), byref(Handle()), _forks
         return made
 
     def _ask(self, call: Callable[..., Any], *words: Any) -> int:
@@ -76,7 +79,7 @@ class Coder:
         self.close()
 
     # Nobody else has the coder any more: where its lock is held, that is by a thread of another process.
-    def __del__(self, close: Callable[[Handle], None] = calls.close) -> None:
+    def __del__(self, close: Callable[[Any], None] = calls.close) -> None:
         if self._lock.acquire(blocking=False):
             close(self._handle)
 
@@ -242,9 +245,14 @@ class Decoder(Coder):
 
         Raises an `Error` where the packet is refused: it is none of the object's, or contradicts others (`Answer.CONTRADICTION`).
         """
-        packet = exact(packet)
-        must(self._ask(calls.add_packet, packet, len(packet)))
-        return self.get_result()
+        # The lines of `exact` and `_ask`, and two calls at once: this is asked for each packet.
+        if type(packet) is not bytes:
+            packet = exact(packet)
+        if self._forks != _forks:
+            self._meet()
+        with self._lock:
+            answer = _add_packet(self._handle, packet, len(packet)) or _is_complete(self._handle)
+        return self.get_result() if self._is_there(answer) else None
 
     def is_complete(self) -> bool:
         """Whether the packets that were taken determine the object."""
@@ -276,6 +284,7 @@ class Decoder(Coder):
     @staticmethod
     def _is_there(answer: int) -> bool:
         """Whether what was asked for is there. Raises what else an answer means."""
-        if answer != Answer.INCOMPLETE:
-            must(answer)
-        return answer == Answer.DONE
+        if answer == _INCOMPLETE:
+            return False
+        must(answer)
+        return True
