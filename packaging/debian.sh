@@ -82,10 +82,10 @@ finish() {
     dpkg-deb --root-owner-group -Zxz --threads-max=1 --build "$staged" "$out/${package}_$version-1_$architecture.deb" >/dev/null
 }
 
-# The C library that a library asks for, by the greatest version of glibc that it names.
+# The C library that programs and libraries ask for, by the greatest version of glibc that they name.
 needed_glibc() {
     local greatest
-    greatest=$(objdump -T "$1" | sed -n 's/.*(\{0,1\}GLIBC_\([0-9.]*\).*/\1/p' | sort -V | tail -n 1)
+    greatest=$(objdump -T "$@" | sed -n 's/.*(\{0,1\}GLIBC_\([0-9.]*\).*/\1/p' | sort -V | tail -n 1)
     echo "libc6${greatest:+ (>= $greatest)}"
 }
 
@@ -117,7 +117,7 @@ make_dev_deb() {
 
 # python3-rq has a /usr/bin/rq: here each program has the name of this package before its own.
 make_program_deb() {
-    local program
+    local program programs=("${PROGRAMS[@]%% *}")
     begin reamertan amd64
     for program in "${PROGRAMS[@]%% *}"; do
         stage 755 "$work/x86/$program" "usr/bin/reamertan-$program"
@@ -125,7 +125,7 @@ make_program_deb() {
             sed 's/share\/doc\/reamertan\/LINKED/\/usr\/share\/doc\/reamertan\/copyright/' | gzip -9n >"$work/$program.1.gz"
         stage 644 "$work/$program.1.gz" "usr/share/man/man1/reamertan-$program.1.gz"
     done
-    finish utils "" "sends files over links that lose data (RaptorQ, RFC 6330)" \
+    finish utils "$(needed_glibc "${programs[@]/#/$work/x86/}")" "sends files over links that lose data (RaptorQ, RFC 6330)" \
         "This is the program rq of Reamertan, as reamertan-rq. It makes packets of a file, and the file of any packets that determine it."
 }
 

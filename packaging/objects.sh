@@ -119,13 +119,13 @@ make_archive() {
     "${archiver[@]}" rcsD "$2/libreamertan.a" "$2/reamertan.o"
 }
 
-# Makes the shared library of what `make_archive` joined: MADE SONAME FLAGS..
+# Makes the shared library of what `make_archive` joined: MADE SONAME.
 make_shared() {
-    "${compiler[@]}" -shared "${@:3}" "${compiler_flags[@]}" -o "$1/libreamertan.so" -Wl,-soname,"$2" -Wl,-z,defs "$1/reamertan.o" \
+    "${compiler[@]}" -shared "${compiler_flags[@]}" -o "$1/libreamertan.so" -Wl,-soname,"$2" -Wl,-z,defs "$1/reamertan.o" \
         "${linker_flags[@]}"
 }
 
-# Links a program, with all its builds: BUILT MADE NAME FLAGS..
+# Links a program, with all its builds: BUILT MADE NAME.
 make_program() {
     local made=$2/$3 processor build builds=() objects=()
     for processor in "${processors[@]}"; do
@@ -135,7 +135,7 @@ make_program() {
         builds+=("-DREAMERTAN_${build^^}") objects+=("$made-$build.o")
     done
     compile "$2" packaging/main.c "${builds[@]}"
-    "${compiler[@]}" "${@:4}" "${compiler_flags[@]}" -o "$made" "$2/main.o" "${objects[@]}" "$1"/toolchain/lib{os,libc}_c.a \
+    "${compiler[@]}" "${compiler_flags[@]}" -o "$made" "$2/main.o" "${objects[@]}" "$1"/toolchain/lib{os,libc}_c.a \
         -Wl,--gc-sections "${linker_flags[@]}"
 }
 
@@ -160,14 +160,13 @@ TEXT
     "$1/asks" || fail "the library that was built answers another version than include/reamertan.h says"
 }
 
-# Makes the library and programs for x86-64, and tries them where this machine has a processor for them: BUILT MADE SONAME FLAGS..,
-# flags being those that link programs.
+# Makes the library and programs for x86-64, and tries them where this machine has a processor for them: BUILT MADE SONAME.
 make_all() {
     local program words
     make_archive "$1" "$2"
     make_shared "$2" "$3"
     for program in "${PROGRAMS[@]}"; do
-        make_program "$1" "$2" "${program%% *}" "${@:4}"
+        make_program "$1" "$2" "${program%% *}"
     done
     [ "$(level)" -ge "${processors[0]##*-v}" ] || return 0
     try_library "$2"
