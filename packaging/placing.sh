@@ -101,13 +101,12 @@ plan_placing() {
     done | cat - "$made/new_folders" >"$made/journal"
 }
 
-# Refuses files that are in the way and of nobody who is known: ROOT.
+# Refuses what is in the way: folders, and where there is no earlier version, files: ROOT.
 refuse_foreign() {
     local file
-    if [ ! -f "$1/$DOCUMENTS/LINKED" ]; then
-        file=$(listed "$made/journal" there | head -n 1)
-        [ -z "$file" ] || fail "$1/$file is there, and isn't Reamertan's"
-    fi
+    while read -r file; do
+        [ -f "$1/$DOCUMENTS/LINKED" ] && { [ ! -d "$1/$file" ] || [ -L "$1/$file" ]; } || fail "$1/$file is there, and isn't Reamertan's"
+    done < <(listed "$made/journal" there)
 }
 
 # Puts a tree in place below ROOT: TREE ROOT.
