@@ -110,10 +110,10 @@ def batches(write: Callable[..., int], size: int, first: int, count: int) -> lis
 
 
 def configured(config: ObjectTransmissionInformation) -> bytes:
-    """The 12 bytes of a configuration."""
+    """The 12 bytes of a configuration, whatever a class that is derived from it says."""
     if not isinstance(config, ObjectTransmissionInformation):
         raise TypeError(f"an ObjectTransmissionInformation is needed, not {type(config).__name__}")
-    return config.serialize()
+    return ObjectTransmissionInformation.serialize(config)
 
 
 class Encoder(Coder):
@@ -148,7 +148,7 @@ class Encoder(Coder):
         """Block by block the packets of all source symbols, and of so many repair symbols."""
         repair = number(repair_packets_per_block, 32, "the number of repair packets")
         # Refuses ids that are too great before any packet is made.
-        must(calls.packets_length(*ROWS, self._config.serialize(), repair, byref(c_uint64())))
+        must(calls.packets_length(*ROWS, configured(self._config), repair, byref(c_uint64())))
         packets: list[bytes] = []
         for block in range(self._config.source_blocks):
             packets += self.packets(block, 0, self._config.source_symbols(block) + repair)

@@ -122,6 +122,14 @@ class Refusals(unittest.TestCase):
 
             __lt__ = __ge__ = __gt__ = __le__
 
+        class Config(reamertan.ObjectTransmissionInformation):
+            def serialize(self):
+                return b""
+
+            symbol_size = transfer_length = 5
+
+        encoder = reamertan.Encoder(bytes(500), Config(500, 50, 1, 1, 1))
+        self.assertRaises(reamertan.Error, encoder.get_encoded_packets, 2)
         self.assertRaises(OverflowError, reamertan.Decoder.with_defaults, Number(-1), 64)
         data, packets = lying(), reamertan.Encoder.with_defaults(lying(), 64).get_encoded_packets(2)
         self.assertEqual(received(reamertan.Decoder.with_defaults(500, 64), packets), object_of(500))
