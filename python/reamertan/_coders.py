@@ -1,6 +1,7 @@
 """Coders of objects and of blocks. Each keeps a handle of the library."""
 from __future__ import annotations
 
+import itertools
 import os
 import threading
 from ctypes import byref, c_uint32, c_uint64
@@ -12,8 +13,8 @@ from ._configuration import PAYLOAD_ID_BYTES, ObjectTransmissionInformation
 from ._library import ROWS, calls, exact, fresh, must, number
 
 ENCODING_SYMBOL_IDS = 1 << 24
-# How many bytes of packets a call makes at a time, unless one packet has more.
-BATCH = 1 << 20
+# How many bytes of packets a call makes at a time, unless one packet has more: so few that their memory is used again.
+BATCH = 1 << 16
 
 # What is asked for each packet, without a look-up.
 _add_packet, _is_complete, _INCOMPLETE = calls.add_packet, calls.is_complete, int(Answer.INCOMPLETE)
@@ -222,13 +223,17 @@ class Decoder(Coder):
     True
     """
 
-    __slots__ = ("_config",)
+    __slots__ = ("_config", "_handed", "_least")
     _config: ObjectTransmissionInformation
+    _handed: itertools.count[int]
+    _least: int
 
     def __init__(self, config: ObjectTransmissionInformation) -> None:
         """The decoder of an object that was cut by this configuration."""
         config_bytes = configured(config)
         must(self._ask(lambda handle: calls.open_decoder(*ROWS, config_bytes, handle)))
+        # Fewer packets than there are source symbols determine no object. A count is taken in one step, whoever interrupts.
+        self._handed, self._least = itertools.count(1), -(-config.transfer_length // config.symbol_size)
         self._config = config
 
     @staticmethod
@@ -245,13 +250,16 @@ class Decoder(Coder):
 
         Raises an `Error` where the packet is refused: it is none of the object's, or contradicts others (`Answer.CONTRADICTION`).
         """
-        # The lines of `exact` and `_ask`, and two calls at once: this is asked for each packet.
+        # The lines of `exact` and `_ask`: this is asked for each packet.
         if type(packet) is not bytes:
             packet = exact(packet)
         if self._forks != _forks:
             self._meet()
+        is_early = next(self._handed) < self._least
         with self._lock:
-            answer = _add_packet(self._handle, packet, len(packet)) or _is_complete(self._handle)
+            answer = _add_packet(self._handle, packet, len(packet)) or not is_early and _is_complete(self._handle)
+        if is_early and not answer:
+            return None
         return self.get_result() if self._is_there(answer) else None
 
     def is_complete(self) -> bool:
