@@ -64,7 +64,8 @@ on_processors() {
     local processor status=0
     "$1" send 1280 13 <LICENSE >stream
     for processor in Nehalem Haswell; do
-        "$(emulator x86_64)" -cpu "$processor" "$1" send 1280 13 <LICENSE | cmp - stream
+        # It warns of features that it lacks.
+        "$(emulator x86_64)" -cpu "$processor" "$1" send 1280 13 <LICENSE 2>/dev/null | cmp - stream
     done
     "$(emulator x86_64)" -cpu core2duo "$1" send 1280 13 <LICENSE >/dev/null 2>printed || status=$?
     [ "$status" -eq 127 ] && [ -s printed ] || failed "on a core2duo the program ends with $status"
@@ -127,8 +128,9 @@ assert [decoder.decode(packet) for packet in packets[3:]][-1] == data'
 in_rust() {
     local rustc
     export PATH=/try/rust/bin:$PATH
-    rustc=$(rustc --version 2>/dev/null | sed 's/rustc 1\.\([0-9]*\).*/\1/')
-    [ "${rustc:-0}" -ge 85 ] || { say "passed over: there is no Rust 1.85" && return; }
+    rustc=$(rustc --version 2>/dev/null || echo "rustc 1.0")
+    rustc=${rustc#rustc 1.}
+    [ "${rustc%%.*}" -ge 85 ] || { say "passed over: there is no Rust 1.85" && return; }
     tar -xzf out/raptorq-*.crate
     mkdir -p program/src
     cat >program/Cargo.toml <<'TEXT'
