@@ -82,23 +82,36 @@ folders() {
     done | sort -u
 }
 
-# What is to be done below ROOT, for a tree: TREE ROOT. Writes the journal and the manifest.
+# Writes what a tree has, and which folders aren't there yet: TREE ROOT.
 plan_placing() {
-    local file folder
+    local folder
     find "$1" ! -type d -printf '%P\n' | sort >"$made/files"
     echo "$MANIFEST" >>"$made/files"
-    folders "$made/files" | while read -r folder; do [ -d "$2/$folder" ] || echo "folder $folder"; done >"$made/new_folders"
-    { sed 's/^/file /' "$made/files" && cat "$made/new_folders" && earlier "$2" folder | sed 's/^/folder /'; } |
-        sort -u >"$made/MANIFEST"
+    folders "$made/files" >"$made/folders"
+    while read -r folder; do [ -d "$2/$folder" ] || echo "folder $folder"; done <"$made/folders" >"$made/new_folders"
+}
+
+# Writes what can be taken away, into the tree: TREE ROOT. Folders of its own documents are its own, whoever made them.
+write_manifest() {
+    {
+        sed 's/^/file /' "$made/files"
+        cat "$made/new_folders"
+        { earlier "$2" folder && grep "^$DOCUMENTS" "$made/folders"; } | sed 's/^/folder /'
+    } | sort -u >"$made/MANIFEST"
     command install -D -m 644 "$made/MANIFEST" "$1/$MANIFEST"
-    # Files of an earlier version go with it.
-    { cat "$made/files" && earlier "$2" file; } | sort -u | while read -r file; do
-        if is_there "$2/$file"; then
+}
+
+# Writes what is to be done: ROOT. Files of an earlier version go with it.
+write_journal() {
+    local file
+    while read -r file; do
+        if is_there "$1/$file"; then
             echo "there $file"
         else
             echo "new $file"
         fi
-    done | cat - "$made/new_folders" >"$made/journal"
+    done < <({ cat "$made/files" && earlier "$1" file; } | sort -u)
+    cat "$made/new_folders"
 }
 
 # Refuses what is in the way: folders, and where there is no earlier version, files: ROOT.
@@ -113,6 +126,8 @@ refuse_foreign() {
 place_tree() {
     local file
     plan_placing "$1" "$2"
+    write_manifest "$1" "$2"
+    write_journal "$2" >"$made/journal"
     refuse_foreign "$2"
     mkdir -p "$2/$DOCUMENTS"
     cp "$made/journal" "$2/$PLACING$NEW"
