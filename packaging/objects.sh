@@ -121,8 +121,8 @@ make_archive() {
 
 # Makes the shared library of what `make_archive` joined: MADE SONAME.
 make_shared() {
-    "${compiler[@]}" -shared "${compiler_flags[@]}" -o "$1/libreamertan.so" -Wl,-soname,"$2" -Wl,-z,defs "$1/reamertan.o" \
-        "${linker_flags[@]}"
+    "${compiler[@]}" -shared "${compiler_flags[@]}" -o "$1/libreamertan.so" -Wl,-soname,"$2" -Wl,-z,defs,-z,relro,-z,now \
+        "$1/reamertan.o" "${linker_flags[@]}"
 }
 
 # Links a program, with all its builds: BUILT MADE NAME.
@@ -136,7 +136,7 @@ make_program() {
     done
     compile "$2" packaging/main.c "${builds[@]}"
     "${compiler[@]}" "${compiler_flags[@]}" -o "$made" "$2/main.o" "${objects[@]}" "$1"/toolchain/lib{os,libc}_c.a \
-        -Wl,--gc-sections "${linker_flags[@]}"
+        -Wl,--gc-sections,-z,relro,-z,now "${linker_flags[@]}"
 }
 
 # The number N of x86-64-vN of this machine, and 0 where it is another one.
