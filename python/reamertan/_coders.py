@@ -3,6 +3,7 @@ from __future__ import annotations
 
 import itertools
 import os
+import struct
 import threading
 from ctypes import byref, c_uint32, c_uint64
 from typing import Any, Callable, TypeVar
@@ -88,11 +89,6 @@ class Coder:
         raise TypeError("a coder can't be copied")
 
 
-def cut(packets: bytes, size: int) -> list[bytes]:
-    """Packets that lie one behind another."""
-    return [packets[start : start + size] for start in range(0, len(packets), size)]
-
-
 def batches(write: Callable[..., int], size: int, first: int, count: int) -> list[bytes]:
     """Packets of the ids from `first` on, by a call that fills a buffer with some of them."""
     first = number(first, 32, "the first id")
@@ -106,7 +102,8 @@ def batches(write: Callable[..., int], size: int, first: int, count: int) -> lis
         made = min(at_once, first + count - start)
         filled = fresh(made * size)
         must(write(start, made, filled, len(filled)))
-        packets += cut(filled, size)
+        # One step for all: half of the time of slices.
+        packets += struct.unpack(f"{size}s" * made, filled)
     return packets
 
 
