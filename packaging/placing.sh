@@ -25,6 +25,8 @@ earlier() {
 
 # Undoes what was begun below ROOT, or ends what was nearly done.
 recover() {
+    # Of a journal that wasn't begun nothing was done.
+    rm -f "$1/$PLACING$NEW"
     if [ -f "$1/$PLACING" ]; then
         remove_new "$1"
         put_back "$1"
@@ -137,6 +139,8 @@ place_tree() {
         cp -dp "$1/$file" "$2/$file$NEW"
     done <"$made/files"
     exchange "$2"
+    # All is in place: whoever ends it now comes too late.
+    trap '' HUP INT TERM
     mv -fT "$2/$PLACING" "$2/$PLACED"
     forget_old "$2"
 }
