@@ -1,4 +1,4 @@
-"""What the scripts of bench/ share: programs built in scratch folders, and the table's rows after the built-in ones."""
+"""What the scripts of bench/ share: programs built in scratch folders, and the tables of the standard."""
 import os
 import re
 import shutil
@@ -21,6 +21,14 @@ def arguments(usage, names=None, least=1):
         print(usage, file=sys.stderr)
         sys.exit(2)
     return words
+
+
+def whole_numbers(words, usage):
+    """The numbers that words are. Where one is none it ends the script as `arguments` does."""
+    if not all(re.fullmatch(r"[0-9]+", word) for word in words):
+        print(usage, file=sys.stderr)
+        sys.exit(2)
+    return list(map(int, words))
 
 
 def run_here(name, folder, processor, crates, **streams):
@@ -59,3 +67,45 @@ def further_rows(crate):
         table = source.read().split("SYSTEMATIC_INDICES_AND_PARAMETERS", 1)[1].split("];", 1)[0]
     rows = [re.findall(r"\d+", row) for row in re.findall(r"\(((?:\d+,? *){5})\)", table)]
     return [number for row in rows if int(row[0]) > 497 for number in row]
+
+
+def numbers(name, constant):
+    """The numbers of a constant of rq_standard."""
+    with open(f"{TOP}/crates/rq_standard/src/{name}.rt") as source:
+        return list(map(int, re.findall(r"\d+", source.read().split(f"const {constant}:", 1)[1].split("=", 1)[1].split("];", 1)[0])))
+
+
+def is_prime(number):
+    return number > 1 and all(number % factor for factor in range(2, int(number**0.5) + 1))
+
+
+def all_rows():
+    """All rows of the table, as K', J, S, H, W and P1."""
+    built_in, sizes = numbers("systematic_indices", "SYSTEMATIC_INDICES_AND_PARAMETERS"), numbers("p1_table", "P1_TABLE")
+    rows = [built_in[at : at + 5] for at in range(0, len(built_in), 5)]
+    with open(f"{TOP}/crates/example_tables/data/rows.txt") as further:
+        rows += [list(map(int, line.split())) for line in further]
+    p1 = dict(zip(sizes[::2], sizes[1::2]))
+    rows = [[*row, p1[row[0]]] for row in rows]
+    assert all(is_prime(row[place]) for row in rows for place in (2, 4, 5)), "S, W and P1 are primes"
+    return rows
+
+
+def write_tables(path):
+    """Writes the tables that bench/rank reads."""
+    tables = {f"V{place}": numbers("random_numbers", f"V{place}") for place in range(4)}
+    tables["DEGREE_STARTS"] = numbers("degrees", "DEGREE_STARTS")
+    with open(path, "w") as file:
+        for name, table in tables.items():
+            file.write(f"static const uint32_t {name}[{len(table)}] = {{{', '.join(map(str, table))}}};\n")
+        rows = ", ".join(f"{{{', '.join(map(str, row))}}}" for row in all_rows())
+        file.write(f"static const struct row table_rows[] = {{{rows}}};\n")
+
+
+def build_rank(name, folder):
+    """The program NAME.c of bench/rank, for this machine. Needs a compiler of C."""
+    write_tables(f"{folder}/tables.h")
+    sources = [f"{BENCH}/rank/{source}.c" for source in ("rank", "peeling", "equations", "draw", name)]
+    flags = ["-std=c11", "-O3", "-march=native", "-flto", f"-I{BENCH}/rank", f"-I{folder}"]
+    subprocess.run([os.environ.get("CC", "cc"), *flags, *sources, "-o", f"{folder}/{name}"], check=True)
+    return f"{folder}/{name}"
