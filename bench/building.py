@@ -102,10 +102,21 @@ def write_tables(path):
         file.write(f"static const struct row table_rows[] = {{{rows}}};\n")
 
 
-def build_rank(name, folder):
-    """The program NAME.c of bench/rank, for this machine. Needs a compiler of C."""
+def build_rank(name, folder, *beside):
+    """The program NAME.c of bench/rank, with other files of it beside, for this machine. Needs a compiler of C."""
     write_tables(f"{folder}/tables.h")
-    sources = [f"{BENCH}/rank/{source}.c" for source in ("rank", "peeling", "equations", "draw", name)]
+    sources = [f"{BENCH}/rank/{source}.c" for source in ("rank", "peeling", "equations", "draw", name, *beside)]
     flags = ["-std=c11", "-O3", "-march=native", "-flto", f"-I{BENCH}/rank", f"-I{folder}"]
     subprocess.run([os.environ.get("CC", "cc"), *flags, *sources, "-o", f"{folder}/{name}"], check=True)
     return f"{folder}/{name}"
+
+
+def build_over_library(names, prefix, folder, *flags):
+    """A program of the files NAME.c of bench/ over the library that is installed in PREFIX. It has the first one's name. Needs a compiler of C."""
+    library, program = f"{prefix}/lib/libreamertan.a", f"{folder}/{os.path.basename(names[0])}"
+    if not os.path.exists(library):
+        sys.exit(f"there is no {library}")
+    sources = [f"{BENCH}/{name}.c" for name in names]
+    words = ["-std=c11", "-O2", f"-I{prefix}/include", *sources, library, *flags, "-o", program]
+    subprocess.run([os.environ.get("CC", "cc"), *words], check=True)
+    return program
