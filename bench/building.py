@@ -120,3 +120,11 @@ def build_over_library(names, prefix, folder, *flags):
     words = ["-std=c11", "-O2", f"-I{prefix}/include", *sources, library, *flags, "-o", program]
     subprocess.run([os.environ.get("CC", "cc"), *words], check=True)
     return program
+
+
+def build_pieces(name, folder, *flags):
+    """The program of a code of pieces, NAME.c of bench/others. Needs a compiler of C, and what the flags name."""
+    sources = [f"{BENCH}/others/{source}.c" for source in (name, "pieces")]
+    words = ["-std=c11", "-O2", *sources, *flags, "-o", f"{folder}/{name}"]
+    subprocess.run([os.environ.get("CC", "cc"), *words], check=True)
+    return f"{folder}/{name}"

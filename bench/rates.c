@@ -1,0 +1,143 @@
+// MB/s of the library that is installed in PREFIX, of blocks of K symbols of T bytes.
+//
+//     cc -O2 -IPREFIX/include bench/rates.c PREFIX/lib/libreamertan.a -o rates
+//     taskset -c 1 ./rates ROUNDS
+//
+// Prints for each K and T the MB of the block a second of encoding it with one repair packet for each ten source symbols by a plan that is
+// there, of encoding it with its plan, and of decoding it from K packets, each tenth source packet lost. It is the median of the rounds. In a
+// round each work is done as often as takes SAMPLE seconds.
+#define _POSIX_C_SOURCE 199309L
+#include <stdio.h>
+#include <stdlib.h>
+#include <time.h>
+
+#include "reamertan.h"
+#include "reamertan_rows.h"
+
+enum { COUNTS = 7, SIZES = 2, WORKS = 3, ROUNDS_MOST = 99 };
+
+static const double SAMPLE = 0.05;
+static const uint16_t counts[COUNTS] = {10, 101, 248, 497, 1002, 10120, 56403}, sizes[SIZES] = {1280, 64};
+
+// A block, its coders and what they fill.
+struct block {
+    uint16_t symbols, size;
+    uint32_t repair;
+    size_t length, packet, row_count;
+    uint8_t configuration[REAMERTAN_CONFIGURATION_BYTES];
+    uint8_t *bytes, *packets, *back;
+    struct reamertan_handle plan, coder;
+};
+
+static void done(uint8_t answer) {
+    if (answer == REAMERTAN_DONE) return;
+    fprintf(stderr, "%s\n", reamertan_answer_text(answer));
+    exit(1);
+}
+
+static void *take(size_t bytes) {
+    void *memory = calloc(1, bytes);
+    if (!memory) done(REAMERTAN_OUT_OF_MEMORY);
+    return memory;
+}
+
+static void make_plan(struct block *block) {
+    done(reamertan_open_plan(reamertan_rows, block->row_count, block->symbols, &block->plan));
+}
+
+static void encode(struct block *block) {
+    done(reamertan_open_block_encoder(reamertan_rows, block->row_count, block->configuration, 0, block->bytes, block->length, &block->plan,
+                                      &block->coder));
+    done(reamertan_write_block_packets(&block->coder, 0, block->symbols + block->repair, block->packets,
+                                       (block->symbols + block->repair) * block->packet));
+}
+
+static void make_plan_and_encode(struct block *block) {
+    make_plan(block);
+    encode(block);
+}
+
+// Every (K / repair)-th source packet is lost, as many as there are repair packets.
+static void decode(struct block *block) {
+    uint32_t step = block->symbols / block->repair, all = block->symbols + block->repair;
+    done(reamertan_open_decoder(reamertan_rows, block->row_count, block->configuration, &block->coder));
+    for (uint32_t at = 0; at < all; at++) {
+        bool is_lost = at < block->symbols && at % step == 0 && at / step < block->repair;
+        if (!is_lost) done(reamertan_add_packet(&block->coder, block->packets + at * block->packet, block->packet));
+    }
+    // K packets that don't determine the block: two more do.
+    if (reamertan_is_complete(&block->coder) == REAMERTAN_INCOMPLETE)
+        for (uint32_t at = 0; at < 2; at++) done(reamertan_add_packet(&block->coder, block->packets + at * step * block->packet, block->packet));
+    done(reamertan_write_object(&block->coder, block->back, block->length));
+}
+
+static struct block make_block(uint16_t symbols, uint16_t size) {
+    struct block made = {.symbols = symbols, .size = size, .repair = symbols / 10, .packet = REAMERTAN_PAYLOAD_ID_BYTES + (size_t)size};
+    made.length = (size_t)symbols * size;
+    made.row_count = symbols > 497 ? REAMERTAN_ROW_COUNT : 0;
+    made.bytes = take(made.length);
+    made.back = take(made.length);
+    made.packets = take((symbols + made.repair) * made.packet);
+    for (size_t at = 0; at < made.length; at++) made.bytes[at] = (uint8_t)((at * 2654435761) >> 16);
+    struct reamertan_parameters parameters = {made.length, size, 1, 1, 1};
+    done(reamertan_write_configuration(&parameters, made.configuration));
+    return made;
+}
+
+static void free_block(struct block *block) {
+    reamertan_close(&block->plan);
+    reamertan_close(&block->coder);
+    free(block->bytes);
+    free(block->back);
+    free(block->packets);
+}
+
+static double now(void) {
+    struct timespec time;
+    clock_gettime(CLOCK_MONOTONIC, &time);
+    return (double)time.tv_sec + (double)time.tv_nsec * 1e-9;
+}
+
+// Seconds that a work takes once.
+static double sample(void (*work)(struct block *), struct block *block) {
+    double start = now(), spent = 0;
+    int times = 0;
+    while (spent < SAMPLE) {
+        work(block);
+        times++;
+        spent = now() - start;
+    }
+    return spent / times;
+}
+
+static int ascending(const void *a, const void *b) {
+    double first = *(const double *)a, second = *(const double *)b;
+    return (first > second) - (first < second);
+}
+
+static void measure(uint16_t symbols, uint16_t size, int rounds) {
+    static void (*const works[WORKS])(struct block *) = {encode, make_plan_and_encode, decode};
+    struct block block = make_block(symbols, size);
+    double seconds[WORKS][ROUNDS_MOST];
+    make_plan_and_encode(&block);
+    for (int at = 0; at < rounds * WORKS; at++) seconds[at % WORKS][at / WORKS] = sample(works[at % WORKS], &block);
+    printf("%6u%6u", size, symbols);
+    for (int work = 0; work < WORKS; work++) {
+        qsort(seconds[work], (size_t)rounds, sizeof(double), ascending);
+        printf("%9.0f", (double)block.length / 1e6 / seconds[work][rounds / 2]);
+    }
+    puts("");
+    free_block(&block);
+}
+
+int main(int count, char **words) {
+    int rounds = count == 2 ? atoi(words[1]) : 0;
+    if (rounds < 1 || rounds > ROUNDS_MOST) {
+        fputs("usage: rates ROUNDS\n", stderr);
+        return 2;
+    }
+    printf("MB/s, %s\n     T     K   by a plan  plan too   decode\n", reamertan_processor());
+    for (int size = 0; size < SIZES; size++)
+        for (int at = 0; at < COUNTS; at++) measure(counts[at], sizes[size], rounds);
+    return 0;
+}
