@@ -27,14 +27,16 @@ const struct row *row_of(uint32_t symbols) {
     return NULL;
 }
 
+// Products of 64 bits by 64, which compilers of C11 have beside the standard.
+__extension__ typedef unsigned __int128 wide;
+
 static struct divisor divisor(uint32_t by) {
-    return (struct divisor){by, 1.0 / by};
+    return (struct divisor){by, UINT64_MAX / by + 1};
 }
 
-// The remainder, by a product: the quotient is right, or 1 less where the number is a multiple.
+// The quotient of a number of 32 bits is the upper half of a product: what the inverse is too great by is too little to count.
 static inline uint32_t remainder_of(uint32_t number, struct divisor divisor) {
-    uint32_t left = number - (uint32_t)(number * divisor.inverse) * divisor.by;
-    return left < divisor.by ? left : left - divisor.by;
+    return number - (uint32_t)((wide)number * divisor.inverse >> 64) * divisor.by;
 }
 
 // Rand (5.3.5.1) before its division.

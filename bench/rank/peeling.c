@@ -45,7 +45,7 @@ void make_peeling(const struct equations *of, uint32_t ids, struct peeling *made
     made->ends = zeros(columns, sizeof *made->ends);
     made->rows_of = zeros((size_t)PLACES_MOST * ids, sizeof *made->rows_of);
     made->most_used = zeros(columns, sizeof *made->most_used);
-    made->stack = zeros(rows, sizeof *made->stack);
+    made->stack = zeros((size_t)rows + 1, sizeof *made->stack);
     made->one = zeros((size_t)PLACES_MOST * ids, sizeof *made->one);
     make_ldpc(made);
 }
@@ -119,16 +119,20 @@ static void begin(struct peeling *peeling, const uint32_t *internal_ids, uint32_
     list_columns(peeling);
 }
 
-// Puts what is known of a column into rows that have it. The row that says it has only zeros left then.
+// Puts what is known of a column into rows that have it. The row that says it has only zeros left then. Each row is put behind
+// those that wait, and stays there where one unknown column is left.
 static inline void put(struct peeling *peeling, uint32_t column, const uint32_t *rows, uint32_t count, uint32_t words) {
     const uint64_t *bits = peeling->column_bits + (size_t)column * words;
+    uint32_t waiting = peeling->waiting, *stack = peeling->stack;
     for (uint32_t at = 0; at < count; at++) {
         uint64_t *row_bits = peeling->row_bits + (size_t)rows[at] * words;
         struct active *active = &peeling->active[rows[at]];
         for (uint32_t word = 0; word < words; word++) row_bits[word] ^= bits[word];
         active->columns ^= column;
-        if (--active->degree == 1) peeling->stack[peeling->waiting++] = rows[at];
+        stack[waiting] = rows[at];
+        waiting += --active->degree == 1;
     }
+    peeling->waiting = waiting;
 }
 
 static inline void put_all(struct peeling *peeling, uint32_t column, uint32_t words) {

@@ -43,10 +43,10 @@ struct places {
     uint32_t at[PLACES_MOST];
 };
 
-// A number to divide by, and what makes a product of a division.
+// A number to divide by, and 2^64 by it, rounded up.
 struct divisor {
     uint32_t by;
-    double inverse;
+    uint64_t inverse;
 };
 
 // What a row of the table says for all blocks.
