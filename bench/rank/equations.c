@@ -108,17 +108,30 @@ static void add_two_ones(uint32_t column, uint32_t hdpc_symbols, struct octets *
     sum->at[(first + mixed(column + 1, 7) % (hdpc_symbols - 1) + 1) % hdpc_symbols] ^= 1;
 }
 
+// MT in its last column, and what is behind MT * GAMMA: a one in each row.
+static void add_ends(struct equations *made, struct octets *last) {
+    uint32_t first = made->row.extended_symbols + made->row.ldpc_symbols;
+    for (uint32_t i = 0; i < made->row.hdpc_symbols && i < HDPC_MOST; i++) {
+        last->at[i] = i == 0 ? 1 : doubled(last->at[i - 1]);
+        made->hdpc[first + i].at[i] = 1;
+    }
+}
+
+static void double_all(struct octets *octets) {
+    for (int i = 0; i < HDPC_MOST; i++) octets->at[i] = doubled(octets->at[i]);
+}
+
 // MT * GAMMA: since GAMMA[i][j] is alpha^(i-j), a column is that of MT and alpha times the next one.
 static void make_hdpc(struct equations *made) {
-    uint32_t last = made->row.extended_symbols + made->row.ldpc_symbols - 1, hdpc_symbols = made->row.hdpc_symbols;
-    struct octets sum = {{1}};
-    for (uint32_t i = 1; i < hdpc_symbols; i++) sum.at[i] = doubled(sum.at[i - 1]);
-    made->hdpc[last] = sum;
-    for (uint32_t column = last; column-- > 0; made->hdpc[column] = sum) {
-        for (uint32_t i = 0; i < hdpc_symbols; i++) sum.at[i] = doubled(sum.at[i]);
-        add_two_ones(column, hdpc_symbols, &sum);
+    struct octets sum = {{0}};
+    add_ends(made, &sum);
+    uint32_t column = made->row.extended_symbols + made->row.ldpc_symbols - 1;
+    made->hdpc[column] = sum;
+    while (column-- > 0) {
+        double_all(&sum);
+        add_two_ones(column, made->row.hdpc_symbols, &sum);
+        made->hdpc[column] = sum;
     }
-    for (uint32_t i = 0; i < hdpc_symbols && i < HDPC_MOST; i++) made->hdpc[last + 1 + i].at[i] = 1;
 }
 
 void make_equations(const struct row *row, struct equations *made) {

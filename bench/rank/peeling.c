@@ -11,25 +11,17 @@ static uint32_t usual_words(const struct equations *of) {
     return (of->pi_symbols + of->row.lt_symbols / 48 + 12) / 64 + 1;
 }
 
-static void know_ldpc_row(struct peeling *peeling, uint32_t row, uint32_t column) {
-    peeling->ldpc_active[row].degree++;
-    peeling->ldpc_active[row].columns ^= column;
-}
-
 // The LT symbols of the LDPC equations. Below B = W - S a column is in three of them, which differ since S is prime, and
 // from there on in one.
 static void make_ldpc(struct peeling *made) {
     uint32_t count = made->of->row.ldpc_symbols, before = made->of->row.lt_symbols - count;
-    for (uint32_t column = 0; column < before; column++)
-        for (uint32_t time = 0; time < 3; time++) {
-            uint32_t row = (column + time * (1 + column / count)) % count;
+    for (uint32_t column = 0; column < made->of->row.lt_symbols; column++)
+        for (uint32_t time = 0; time < (column < before ? 3 : 1); time++) {
+            uint32_t row = column < before ? (column + time * (1 + column / count)) % count : column - before;
             made->ldpc_rows[3 * column + time] = row;
-            know_ldpc_row(made, row, column);
+            made->ldpc_active[row].degree++;
+            made->ldpc_active[row].columns ^= column;
         }
-    for (uint32_t row = 0; row < count; row++) {
-        made->ldpc_rows[3 * (before + row)] = row;
-        know_ldpc_row(made, row, before + row);
-    }
 }
 
 void make_peeling(const struct equations *of, uint32_t ids, struct peeling *made) {
@@ -83,26 +75,38 @@ static void add_ldpc(struct peeling *peeling) {
     }
 }
 
-// Lists the rows of each column, those of a column before its end.
-static void list_rows(struct peeling *peeling) {
+// Makes room for the list of each column's rows.
+static void place_lists(struct peeling *peeling) {
     uint32_t end = 0;
     for (uint32_t column = 0; column < peeling->of->row.lt_symbols; column++) {
         peeling->ends[column] = end;
         end += peeling->uses[column];
     }
+}
+
+// Lists the rows of each column, those of a column before its end.
+static void list_rows(struct peeling *peeling) {
+    place_lists(peeling);
     for (uint32_t at = 0; at < peeling->ones; at++) peeling->rows_of[peeling->ends[peeling->one[at].column]++] = peeling->one[at].row;
 }
 
-static uint32_t rank_of_uses(uint32_t uses) {
+// The place of a number of uses where the greatest come first.
+static uint32_t place_of_uses(uint32_t uses) {
     return uses < USES_MOST ? USES_MOST - uses : 0;
+}
+
+// How many columns come before those of each place.
+static void count_before(const struct peeling *peeling, uint32_t before[USES_MOST + 2]) {
+    for (uint32_t column = 0; column < peeling->of->row.lt_symbols; column++) before[place_of_uses(peeling->uses[column]) + 1]++;
+    for (uint32_t place = 0; place < USES_MOST; place++) before[place + 1] += before[place];
 }
 
 // Sorts the columns by how many rows have them.
 static void list_columns(struct peeling *peeling) {
-    uint32_t places[USES_MOST + 2] = {0}, columns = peeling->of->row.lt_symbols;
-    for (uint32_t column = 0; column < columns; column++) places[rank_of_uses(peeling->uses[column]) + 1]++;
-    for (uint32_t rank = 0; rank < USES_MOST; rank++) places[rank + 1] += places[rank];
-    for (uint32_t column = 0; column < columns; column++) peeling->most_used[places[rank_of_uses(peeling->uses[column])]++] = column;
+    uint32_t before[USES_MOST + 2] = {0};
+    count_before(peeling, before);
+    for (uint32_t column = 0; column < peeling->of->row.lt_symbols; column++)
+        peeling->most_used[before[place_of_uses(peeling->uses[column])]++] = column;
 }
 
 static void begin(struct peeling *peeling, const uint32_t *internal_ids, uint32_t count) {

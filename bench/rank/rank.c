@@ -172,20 +172,35 @@ static void fill_basis(struct rank *rank, const uint64_t *values, uint32_t free_
     }
 }
 
+// The columns of an echelon with a pivot, and those without.
+struct split {
+    uint32_t pivots, left;
+    uint32_t pivot[HDPC_MOST], without[FREE_MOST];
+};
+
+static struct split eliminate_octets(struct small *small) {
+    struct split made = {0};
+    for (uint32_t column = 0; column < small->width; column++)
+        if (made.pivots < small->height && pivot_octets(small, made.pivots, column)) made.pivot[made.pivots++] = column;
+        else made.without[made.left++] = column;
+    return made;
+}
+
+// Vector `at` of the basis: 1 in a column without a pivot, and 0 in the others.
+static void add_vector(const struct small *small, const struct split *split, uint32_t at, uint64_t *values) {
+    uint32_t column = split->without[at];
+    values[column] |= UINT64_C(1) << 8 * at;
+    for (uint32_t row = 0; row < split->pivots; row++) values[split->pivot[row]] |= (uint64_t)small->at[row][column] << 8 * at;
+}
+
 // Eliminates the HDPC equations: how many dimensions they leave, and the basis where these are few.
 static uint32_t finish(struct rank *rank, struct small *small) {
-    uint32_t pivots[HDPC_MOST], count = 0, left[FREE_MOST], left_count = 0;
-    for (uint32_t column = 0; column < small->width; column++)
-        if (count < small->height && pivot_octets(small, count, column)) pivots[count++] = column;
-        else left[left_count++] = column;
-    if (left_count == 0 || left_count > BASIS_MOST) return left_count;
+    struct split split = eliminate_octets(small);
     uint64_t values[FREE_MOST] = {0};
-    for (uint32_t i = 0; i < left_count; i++) {
-        values[left[i]] = UINT64_C(1) << 8 * i;
-        for (uint32_t row = 0; row < count; row++) values[pivots[row]] |= (uint64_t)small->at[row][left[i]] << 8 * i;
-    }
+    if (split.left == 0 || split.left > BASIS_MOST) return split.left;
+    for (uint32_t at = 0; at < split.left; at++) add_vector(small, &split, at, values);
     fill_basis(rank, values, small->width);
-    return left_count;
+    return split.left;
 }
 
 uint32_t undetermined(struct rank *rank, const uint32_t *internal_ids, uint32_t count) {
