@@ -65,7 +65,8 @@ static uint32_t rank_of(const uint32_t *words, uint32_t count, uint32_t dimensio
 static void estimate_few(const struct rank *rank, uint32_t dimension, struct drawn *drawn, double estimates[3]) {
     double pairs = 0, triples = 0;
     for (int i = 0; i < TRIPLES; i++) {
-        uint32_t words[3] = {value(rank, draw(drawn)), value(rank, draw(drawn)), value(rank, draw(drawn))};
+        uint32_t words[3];
+        for (int more = 0; more < 3; more++) words[more] = value(rank, draw(drawn));
         pairs += rank_of(words, 2, dimension) < dimension;
         triples += rank_of(words, 3, dimension) < dimension;
     }
