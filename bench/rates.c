@@ -4,8 +4,10 @@
 //     taskset -c 1 ./rates ROUNDS
 //
 // Prints for each K and T the MB of the block a second of encoding it with one repair packet for each ten source symbols by a plan that is
-// there, of encoding it with its plan, and of decoding it from K packets, each tenth source packet lost. It is the median of the rounds. In a
-// round each work is done as often as takes SAMPLE seconds.
+// there, of encoding it with its plan, and of decoding it from K packets, each tenth source packet lost. In a round each work is done as often
+// as takes SAMPLE seconds; of large blocks there are fewer rounds. Since a machine's speed may change from moment to moment, it is the rate
+// that a tenth of the rounds is above. Of large blocks much of the time may be that of pages that malloc gives back and takes again; in glibc's
+// MALLOC_TRIM_THRESHOLD_=4000000000 MALLOC_MMAP_THRESHOLD_=4000000000 before the program keep them.
 #define _POSIX_C_SOURCE 199309L
 #include <stdio.h>
 #include <stdlib.h>
@@ -14,9 +16,9 @@
 #include "reamertan.h"
 #include "reamertan_rows.h"
 
-enum { COUNTS = 7, SIZES = 2, WORKS = 3, ROUNDS_MOST = 99 };
+enum { COUNTS = 7, SIZES = 2, WORKS = 3, ROUNDS_MOST = 99, LARGE = 10120 };
 
-static const double SAMPLE = 0.05;
+static const double SAMPLE = 0.02;
 static const uint16_t counts[COUNTS] = {10, 101, 248, 497, 1002, 10120, 56403}, sizes[SIZES] = {1280, 64};
 
 // A block, its coders and what they fill.
@@ -124,7 +126,7 @@ static void measure(uint16_t symbols, uint16_t size, int rounds) {
     printf("%6u%6u", size, symbols);
     for (int work = 0; work < WORKS; work++) {
         qsort(seconds[work], (size_t)rounds, sizeof(double), ascending);
-        printf("%9.0f", (double)block.length / 1e6 / seconds[work][rounds / 2]);
+        printf("%9.0f", (double)block.length / 1e6 / seconds[work][rounds / 10]);
     }
     puts("");
     free_block(&block);
@@ -138,6 +140,6 @@ int main(int count, char **words) {
     }
     printf("MB/s, %s\n     T     K   by a plan  plan too   decode\n", reamertan_processor());
     for (int size = 0; size < SIZES; size++)
-        for (int at = 0; at < COUNTS; at++) measure(counts[at], sizes[size], rounds);
+        for (int at = 0; at < COUNTS; at++) measure(counts[at], sizes[size], counts[at] < LARGE ? rounds : (rounds + 3) / 4);
     return 0;
 }
