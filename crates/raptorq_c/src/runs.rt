@@ -47,19 +47,22 @@ fn block_encoder(encoder: &Encoder, block: u8) -> Result<&SourceBlockEncoder, Er
     }
 }
 
-// The bytes of the packets of a block with the ids from `first` on and before `end`.
+// The bytes of the packets of a block with the ids from `first` on and before `end`, in a vector that
+// grows only beyond `room` bytes. One that grows from nothing takes the allocator's lock with each packet
+// that is moved, which other threads wait for.
 fn run_bytes(
     alloc: Global,
     encoder: &SourceBlockEncoder,
     first: u32,
     end: u32,
+    room: usize,
 ) -> Result<Vec<u8>, Error>
     requires order { first ≤ end }
     requires ids { end ≤ 2 ^ 24 }
     ensures packets { IfOk result (λ v. AreRunBytes (block_encoded_of encoder.now) first (end - first) v.items) }
     ensures memory { IfErr result (λ e. e ≡ Error.OutOfMemory) }
 {
-    let mut bytes = Vec::new(alloc);
+    let mut bytes = Vec::with_capacity(alloc, room)?;
     for esi in first..end {
         let packet = encoder.packet(esi)?;
         bytes.extend_from_slice(&packet.payload_id().serialize())?;
@@ -80,7 +83,7 @@ fn fill_run(
     requires ids { end ≤ 2 ^ 24 }
     ensures { FillsRun (Ok (block_encoded_of encoder.now)) first (end - first) (number_of result) packets.old packets.new }
 {
-    let bytes = run_bytes(alloc, encoder, first, end)?;
+    let bytes = run_bytes(alloc, encoder, first, end, packets.len())?;
     fill(packets, bytes.as_slice())
 }
 

@@ -7,7 +7,7 @@ use Rattle.raptorq_c.proofs.RunSteps.{run_none, run_more}
 use Rattle.raptorq_c.proofs.runs.run_bytes.Goals as goal
 
 pub loop-esi-init : goal.loop-esi-init
-loop-esi-init c = run_none (block_encoded_of c.args.encoder.now) c.args.first c.new-bytes.result.items c.new-bytes.ensures.items
+loop-esi-init c = run_none (block_encoded_of c.args.encoder.now) c.args.first c.in_ok-bytes.bytes.items c.in_ok-bytes.ensures.items
 
 pub loop-esi-preserved : goal.loop-esi-preserved
 loop-esi-preserved c =
