@@ -31,6 +31,16 @@ def whole_numbers(words, usage):
     return list(map(int, words))
 
 
+def take_seed(words, usage, otherwise):
+    """The seed that two of the words say, which are taken out, and this one where none is said."""
+    if "--seed" not in words:
+        return otherwise
+    at = words.index("--seed")
+    found = whole_numbers(words[at + 1 : at + 2] or ["none"], usage)[0]
+    del words[at : at + 2]
+    return found
+
+
 def run_here(name, folder, processor, crates, **streams):
     """Runs the program NAME.rt.txt over these crates of this repository, which are proved first."""
     shutil.copytree(f"{TOP}/crates", f"{folder}/crates")

@@ -152,13 +152,6 @@ unsafe extern "C" {
         object_length: usize,
         handle: *mut Handle,
     ) -> u8;
-    fn reamertan_write_packet(
-        handle: *mut Handle,
-        block: u8,
-        esi: u32,
-        packet: *mut u8,
-        packet_length: usize,
-    ) -> u8;
     fn reamertan_write_packets(
         handle: *mut Handle,
         block: u8,
@@ -377,14 +370,6 @@ impl Handle {
         answered(number, twin)
     }
 
-    /// Fills a buffer with a packet of a block of an object, a payload id of 4 bytes and a symbol.
-    pub fn write_packet(&mut self, block: u8, id: u32, packet: &mut [u8]) -> Result<(), Refusal> {
-        let (at, length) = (packet.as_mut_ptr(), packet.len());
-        // SAFETY: the pointer goes with its slice's length, and a handle is used by one call at a time.
-        let number = unsafe { reamertan_write_packet(self, block, id, at, length) };
-        answered(number, ())
-    }
-
     /// Fills a buffer with packets of a block of an object, whose encoding symbol ids go from one on. Each is
     /// a payload id of 4 bytes and a symbol.
     pub fn write_packets(
@@ -395,7 +380,7 @@ impl Handle {
         packets: &mut [u8],
     ) -> Result<(), Refusal> {
         let (at, length) = (packets.as_mut_ptr(), packets.len());
-        // SAFETY: as above.
+        // SAFETY: the pointer goes with its slice's length, and a handle is used by one call at a time.
         let number = unsafe { reamertan_write_packets(self, block, first, count, at, length) };
         answered(number, ())
     }

@@ -14,10 +14,6 @@ use std::ops::Range;
 /// and so many that the call itself doesn't count.
 const BYTES_AT_A_TIME: usize = 32 * 1024;
 
-/// From how many bytes on packets of an object are asked for one by one. By then that takes no longer, and threads don't
-/// wait for each other: the library's vector of several packets grows where another thread's memory may be.
-const BYTES_ALONE: usize = 1024;
-
 /// Builds encoders by the memory of a decoder and a size of packets.
 #[derive(Clone, Debug, PartialEq, Eq)]
 pub struct EncoderBuilder {
@@ -214,12 +210,7 @@ impl SourceBlockEncoder {
     // Fills a buffer with so many packets, whose encoding symbol ids go from one on.
     fn write(&self, first: u32, count: u32, packets: &mut [u8]) -> Result<(), Refusal> {
         let number = self.source_block_id;
-        let length = PAYLOAD_ID_LENGTH + usize::from(self.symbol_size);
         match &self.sender {
-            Sender::Object(object) if length >= BYTES_ALONE => object.call(|handle| {
-                let mut alone = (first..).zip(packets.chunks_exact_mut(length));
-                alone.try_for_each(|(id, packet)| handle.write_packet(number, id, packet))
-            }),
             Sender::Object(object) => {
                 object.call(|handle| handle.write_packets(number, first, count, packets))
             }
