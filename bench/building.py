@@ -63,6 +63,8 @@ def build_here(name, folder, processor):
 
 def build_crate(name, folder, crate, feature="std"):
     """The program NAME.rs.txt over the Rust crate in a folder, with one of its features."""
+    if not os.path.exists(f"{crate}/Cargo.toml"):
+        sys.exit(f"there is no crate in {crate}")
     os.makedirs(f"{folder}/src")
     with open(f"{folder}/Cargo.toml", "w") as manifest:
         manifest.write(MANIFEST.format(name, os.path.abspath(crate), feature))

@@ -11,6 +11,7 @@
 #define _POSIX_C_SOURCE 199309L
 #include <stdio.h>
 #include <stdlib.h>
+#include <string.h>
 #include <time.h>
 
 #include "reamertan.h"
@@ -133,10 +134,11 @@ static void measure(uint16_t symbols, uint16_t size, int rounds) {
 }
 
 int main(int count, char **words) {
+    int is_help = count == 2 && (strcmp(words[1], "--help") == 0 || strcmp(words[1], "-h") == 0);
     int rounds = count == 2 ? atoi(words[1]) : 0;
-    if (rounds < 1 || rounds > ROUNDS_MOST) {
-        fputs("usage: rates ROUNDS\n", stderr);
-        return 2;
+    if (is_help || rounds < 1 || rounds > ROUNDS_MOST) {
+        fprintf(is_help ? stdout : stderr, "usage: rates ROUNDS      from 1 to %d\n", ROUNDS_MOST);
+        return is_help ? 0 : 2;
     }
     printf("MB/s, %s\n     T     K   by a plan  plan too   decode\n", reamertan_processor());
     for (int size = 0; size < SIZES; size++)
