@@ -10,6 +10,12 @@ TOP = os.path.dirname(BENCH)
 MANIFEST = '[package]\nname = "{}"\nversion = "0.0.0"\nedition = "2021"\n[dependencies]\nraptorq = {{ path = "{}", version = "=2.0.1", features = ["{}"] }}\n'
 
 
+def misused(usage):
+    """Ends a script that can't be called so."""
+    print(usage, file=sys.stderr)
+    sys.exit(2)
+
+
 def arguments(usage, names=None, least=1):
     """The words that a script was called with. Asked for help it prints its usage, and ends with 0; with too few words, or a first one
     that isn't among the names, with 2."""
@@ -18,26 +24,24 @@ def arguments(usage, names=None, least=1):
         print(usage)
         sys.exit(0)
     if len(words) < least or (names is not None and words[0] not in names):
-        print(usage, file=sys.stderr)
-        sys.exit(2)
+        misused(usage)
     return words
 
 
 def whole_numbers(words, usage):
     """The numbers that words are. Where one is none it ends the script as `arguments` does."""
     if not all(re.fullmatch(r"[0-9]+", word) for word in words):
-        print(usage, file=sys.stderr)
-        sys.exit(2)
+        misused(usage)
     return list(map(int, words))
 
 
-def take_seed(words, usage, otherwise):
-    """The seed that two of the words say, which are taken out, and this one where none is said."""
-    if "--seed" not in words:
+def take_seed(usage, otherwise):
+    """The seed that two of a script's words say, and this one where none is said. `arguments` has the other words then."""
+    if "--seed" not in sys.argv:
         return otherwise
-    at = words.index("--seed")
-    found = whole_numbers(words[at + 1 : at + 2] or ["none"], usage)[0]
-    del words[at : at + 2]
+    at = sys.argv.index("--seed")
+    found = whole_numbers(sys.argv[at + 1 : at + 2] or ["none"], usage)[0]
+    del sys.argv[at : at + 2]
     return found
 
 
