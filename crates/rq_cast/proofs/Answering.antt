@@ -15,15 +15,18 @@ use Rattle.raptorq.specs.Decoder.{state_of}
 use Rattle.rq_cells.specs.Found.{packets_in}
 use Rattle.rq_cast.specs.declared.reading.Found.{Found}
 use Rattle.rq_cast.specs.declared.receiver.Receiver.{Receiver}
+use Rattle.rq_cast.specs.declared.receiver.Seen.{Seen}
 use Rattle.rq_cast.specs.Taken.{known_packets}
 use Rattle.rq_cast.specs.Receiving.{IsNewReceiver, HasTaken}
+use Rattle.rq_cast.specs.Missing.{TellsMissingPackets, NeedsPackets}
 use Rattle.rq_cast.specs.Received.{received_packets, IsAnswered}
+use Rattle.rq_cast.proofs.Needed.{needs_packets}
 
 -- an honest run of no packets, of the object of another run
 pub run_of_none : (table : List TableRow) (c : Configuration) (object : List ℕ) (packets : List Packet) → IsHonestRun table c object packets → IsHonestRun table c object []
 run_of_none table c object packets run = record { long = run.long; nonsingular = run.nonsingular; honest = tt }
 
-module _ (table : List TableRow) (found : Found) (old : Receiver) (new : IsNewReceiver table found old) (now : Receiver) (all : List ℕ) (has : HasTaken old now all) where
+module _ (table : List TableRow) (found : Found) (seen : Seen) (old : Receiver) (new : IsNewReceiver table found seen old) (now : Receiver) (all : List ℕ) (has : HasTaken old now all) where
   abbrev c : Configuration
   c = found.head.configuration
 
@@ -53,6 +56,10 @@ module _ (table : List TableRow) (found : Found) (old : Receiver) (new : IsNewRe
 
   answers : AnswersObject (state_of now.decoder) answer
   answers = answers_object (state_of now.decoder) answer now.decoder.some now.decoder.positive refl
+
+  -- how many packets more it needs
+  pub needs_by : (missing : ℕ) → TellsMissingPackets now.decoder missing → NeedsPackets table c packets missing
+  needs_by missing told = subst (λ k. NeedsPackets table k packets missing) configured (needs_packets table packets now.decoder follows missing told)
 
   pub answered_by : IsAnswered table found.head all (result_of (state_of now.decoder))
   answered_by = record {

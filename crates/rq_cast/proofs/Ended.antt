@@ -1,5 +1,5 @@
 -- How a run ends.
-use Rattle.std.proofs.Common.{◌≡◌, ◌⊎◌, inl, inr, ℕ, List, [], ◌++◌, take, drop, refl, sym, ap, subst, ◌∙◌, Option, Some, None, true, Result, Ok, Err, append-nil, append_assoc, arith, length-append}
+use Rattle.std.proofs.Common.{◌≡◌, ◌⊎◌, inl, inr, ℕ, List, [], ◌++◌, take, drop, refl, sym, ap, subst, ◌∙◌, Option, Some, None, true, Result, Ok, Err, append-nil, append_assoc, arith, length, length-append}
 use Rattle.std.specs.Prelude.{is_ok, unwrap_or, IsSome}
 use Rattle.std.specs.Io.KnownBytes.{Consumes, Appends}
 use Rattle.std.proofs.KnownBytes.{Consumes-trans, Keeps-refl}
@@ -27,32 +27,32 @@ use Rattle.rq_streams.specs.declared.run.Stop.TheVariants.{Fault, Refused}
 use Rattle.rq_cells.specs.declared.head.Head.{Head}
 use Rattle.rq_cells.specs.Cells.{name_of}
 use Rattle.rq_cells.specs.Found.{packets_in, damaged_in, others_in}
-use Rattle.rq_cells.specs.Scans.{IsUnsettled}
 use Rattle.rq_cells.proofs.FirstCell.{wanted_cell, nothing_before_first}
 use Rattle.rq_cast.specs.declared.reading.Found.{Found}
 use Rattle.rq_cast.specs.declared.receiver.Receiver.{Receiver}
 use Rattle.rq_cast.specs.declared.receiver.Seen.{Seen}
 use Rattle.rq_cast.specs.Taken.{known_packets, unknown_count, StopsAmong}
+use Rattle.rq_cast.specs.Missing.{TellsMissingPackets, NeedsPackets}
 use Rattle.rq_cast.specs.Searching.{FindsFirst}
-use Rattle.rq_cast.specs.Receiving.{IsNewReceiver, HasTaken, EndsDetermined, EndsUndetermined, RefusesPackets, StopsReceiving}
+use Rattle.rq_cast.specs.Receiving.{SeesAll, IsNewReceiver, HasTaken, EndsDetermined, EndsUndetermined, RefusesPackets, StopsReceiving}
 use Rattle.rq_cast.specs.Received.{received_packets, IsReceived, IsAnswered, IsSeen, Determines, DoesntDetermine, RefusesReceived, EndsReceiving}
-use Rattle.rq_cast.proofs.Answering.{answered_by, run_of_none}
+use Rattle.rq_cast.proofs.Answering.{answered_by, needs_by, run_of_none}
 
 -- coders take what was found
 accepted : (r : Result (Unit {0}) Error) → is_ok r ≡ true → r ≡ Ok tt
 accepted (Ok u) e = refl
 accepted (Err w) e = absurd (true≢false (sym e))
 
-pub only_memory : (table : List TableRow) (name : List ℕ) (before after : Option (List ℕ)) (found : Found) → FindsFirst (greatest_size table) name before after found.head found.bytes.items
+pub only_memory : (table : List TableRow) (name : List ℕ) (before after : Option (List ℕ)) (found : Found) (seen : Seen) (n : ℕ) → FindsFirst (greatest_size table) name before after n found.head found.bytes.items seen
     → (e : Error) → IsRefusal e (checked_configuration (greatest_size table) found.head.configuration) → e ≡ OutOfMemory
-only_memory table name before after found f e refused =
+only_memory table name before after found seen n f e refused =
     let greatest = greatest_size table in
     let cell = wanted_cell greatest name (drop f.at (f.earlier ++ f.last)) found.head f.first.found in
     let both = and_parts (is_ok (checked_configuration greatest found.head.configuration)) (starts_with nat_eq (found.head.name ++ header_bytes found.head.configuration) name) cell.wanted in
     subst (IsRefusal e) (accepted (checked_configuration greatest found.head.configuration) both.0) refused
 
-module _ (table : List TableRow) (name : List ℕ) (before mid after : Option (List ℕ)) (found : Found) (f : FindsFirst (greatest_size table) name before mid found.head found.bytes.items)
-    (old : Receiver) (made : IsNewReceiver table found old) where
+module _ (table : List TableRow) (name : List ℕ) (before mid after : Option (List ℕ)) (found : Found) (first_seen : Seen) (n : ℕ) (f : FindsFirst (greatest_size table) name before mid n found.head found.bytes.items first_seen)
+    (old : Receiver) (made : IsNewReceiver table found first_seen old) where
   abbrev h : Head
   h = found.head
 
@@ -71,7 +71,7 @@ module _ (table : List TableRow) (name : List ℕ) (before mid after : Option (L
 
   answered : (now : Receiver) (rest : List ℕ) → HasTaken old now (old.bytes.items ++ rest) → (answer : Option (List ℕ)) → result_of (state_of now.decoder) ≡ answer → IsAnswered table h (front ++ rest) answer
   answered now rest has answer is =
-      let one : IsAnswered table h (old.bytes.items ++ rest) answer = subst (IsAnswered table h (old.bytes.items ++ rest)) is (answered_by table found old made now (old.bytes.items ++ rest) has) in
+      let one : IsAnswered table h (old.bytes.items ++ rest) answer = subst (IsAnswered table h (old.bytes.items ++ rest)) is (answered_by table found first_seen old made now (old.bytes.items ++ rest) has) in
       record {
         whoever = subst (λ ps. IsAnswerAfter table h.configuration ps answer) (same_packets rest) one.whoever;
         honest = subst (λ ps. AnswersExactly table h.configuration ps answer) (same_packets rest) one.honest;
@@ -89,31 +89,33 @@ module _ (table : List TableRow) (name : List ℕ) (before mid after : Option (L
     first = f.first;
   }
 
-  -- what was seen beside whole cells
-  seen_beside : (now : Receiver) (more : List ℕ) → HasTaken old now (old.bytes.items ++ more) → IsSeen h (drop f.at front ++ more) now.seen
-  seen_beside now more has =
+  -- what was seen
+  all_of : (now : Receiver) (more : List ℕ) (read : Consumes mid after more) → HasTaken old now (old.bytes.items ++ more) → (s : Seen) → SeesAll now s → IsSeen (received more read) s
+  all_of now more read has s sees =
       let all : old.bytes.items ++ more ≡ drop f.at front ++ more = ap (λ xs. xs ++ more) kept_is in
       let damaged_is : damaged_in old.scanner (old.bytes.items ++ more) ≡ damaged_in h (drop f.at front ++ more) = λ i. damaged_in (made.head i) (all i) in
       let others_is : others_in old.scanner (old.bytes.items ++ more) ≡ others_in h (drop f.at front ++ more) = λ i. others_in (made.head i) (all i) in
-      let unknown_is : unknown_count (state_of old.decoder).configuration (packets_in old.scanner (old.bytes.items ++ more)) ≡ unknown_count h.configuration (packets_in h (drop f.at front ++ more)) =
-      λ i. unknown_count (made.configuration i) (packets_in (made.head i) (all i)) in
-      let left_is : others_in old.scanner now.bytes.items ≡ others_in h now.bytes.items = ap (λ k. others_in k now.bytes.items) made.head in
+      let packets_are : packets_in old.scanner (old.bytes.items ++ more) ≡ packets_in h (front ++ more) =
+      (λ i. packets_in (made.head i) (all i)) ∙ sym (nothing_before_first (greatest_size table) name h made.fits front more f.at f.first) in
+      let unknown_is : unknown_count (state_of old.decoder).configuration (packets_in old.scanner (old.bytes.items ++ more)) ≡ unknown_count h.configuration (packets_in h (front ++ more)) =
+      λ i. unknown_count (made.configuration i) (packets_are i) in
+      let cells_are : length (known_packets (state_of old.decoder).configuration (packets_in old.scanner (old.bytes.items ++ more))) ≡ length (received_packets h (front ++ more)) =
+      λ i. length (known_packets (made.configuration i) (packets_are i)) in
+      let left_is : others_in now.scanner now.bytes.items ≡ others_in old.scanner now.bytes.items = ap (λ k. others_in k now.bytes.items) has.head in
       let flat = ap (others_in old.scanner) (append-nil (old.bytes.items ++ more)) in
       let flat_left = ap (others_in old.scanner) (append-nil now.bytes.items) in
+      let cells_before : old.seen.cells ≡ 0 = ap (λ (x : Seen). x.cells) made.seen_is ∙ f.seen.no_cells in
+      let damaged_before_is = ap (λ (x : Seen). x.damaged) made.seen_is ∙ f.seen.damaged in
+      let others_before = ap (λ (x : Seen). x.others) made.seen_is ∙ f.seen.others in
       record {
-        damaged = omega (arith, has.damaged_seen, made.no_damaged, damaged_is);
-        left = now.bytes.items;
-        settled = has.front;
-        cut = sym all ∙ has.kept;
-        stopped = subst (λ k. IsUnsettled k now.bytes.items) made.head has.stopped;
-        others = has.others;
-        all_others = omega (arith, has.others_found [], flat, flat_left, others_is, left_is);
-        others_seen = omega (arith, has.others_seen, made.no_others, unknown_is);
+        cells = omega (arith, sees.cells, has.cells_seen, cells_before, cells_are);
+        damaged = omega (arith, sees.damaged, has.damaged_seen, damaged_before_is, damaged_is);
+        others = omega (arith, sees.others, has.others_seen, others_before, has.others_found [], flat, flat_left, others_is, unknown_is, left_is);
       }
 
-  pub determined : (now : Receiver) (object : List ℕ) → EndsDetermined old now mid after → result_of (state_of now.decoder) ≡ Some object → Determines table name before after h object now.seen
-  determined now object e is = record {
-    beside = seen_beside now (e.earlier ++ e.last) e.taken;
+  pub determined : (now : Receiver) (object : List ℕ) (s : Seen) (n' : ℕ) → SeesAll now s → EndsDetermined old now mid after n n' → result_of (state_of now.decoder) ≡ Some object → Determines table name before after n' h object s
+  determined now object s n' sees e is = record {
+    seen = all_of now (e.earlier ++ e.last) e.read e.taken s sees;
     past = front ++ (e.earlier ++ e.last);
     received = received (e.earlier ++ e.last) e.read;
     answered = answered now (e.earlier ++ e.last) e.taken (Some object) is;
@@ -121,27 +123,32 @@ module _ (table : List TableRow) (name : List ℕ) (before mid after : Option (L
       | inl none ↦ record {
         earlier = f.earlier;
         last = f.last;
-        cut = ap (λ xs. front ++ xs) none ∙ append-nil front;
-        few = f.few;
+        cut = ap (λ xs. front ++ xs) none.0 ∙ append-nil front;
+        brought = f.brought ∙ sym none.1;
+        some = omega (arith, f.some, none.1);
+        few = omega (arith, f.few, none.1);
         wasnt = inl f.none_earlier;
       }
       | inr was ↦ record {
         earlier = front ++ e.earlier;
         last = e.last;
         cut = sym (append_assoc front e.earlier e.last);
-        few = e.few;
-        wasnt = inr (answered was.0 e.earlier was.1 None was.2);
+        brought = was.brought;
+        some = was.some;
+        few = was.few;
+        wasnt = inr (answered was.mid e.earlier was.taken None was.undetermined);
       }
     ];
   }
 
-  pub undetermined : (now : Receiver) → EndsUndetermined old now mid after → DoesntDetermine table name before after now.seen
-  undetermined now e = record {
-    beside = seen_beside now e.past e.taken;
+  pub undetermined : (now : Receiver) (missing : ℕ) → TellsMissingPackets now.decoder missing → (s : Seen) → SeesAll now s → EndsUndetermined old now mid after → DoesntDetermine table name before after missing s
+  undetermined now missing told s sees e = record {
+    seen = all_of now e.past e.read e.taken s sees;
     past = front ++ e.past;
     head = h;
     received = received e.past e.read;
     answered = answered now e.past e.taken None e.undetermined;
+    needs = subst (λ ps. NeedsPackets table h.configuration ps missing) (same_packets e.past) (needs_by table found first_seen old made now (old.bytes.items ++ e.past) e.taken missing told);
     ended = elim e.ended [
       | inl at_end ↦ inl at_end
       | inr many ↦ inr (omega (arith, many, length-append front e.past))
@@ -164,10 +171,10 @@ module _ (table : List TableRow) (name : List ℕ) (before mid after : Option (L
       }
 
   -- where it stops nothing is written
-  pub not_received : (there : Option (List ℕ)) (stop : Stop) → StopsReceiving old mid after stop → EndsReceiving table name (Err stop) before after there there
-  not_received there Fault stops = inl (Keeps-refl there)
-  not_received there (Refused e) (inl memory) = (inl memory, Keeps-refl there)
-  not_received there (Refused e) (inr r) = (inr (refuses e r), Keeps-refl there)
+  pub not_received : (n' : ℕ) (there : Option (List ℕ)) (stop : Stop) → StopsReceiving old mid after stop → EndsReceiving table name (Err stop) before after n' there there
+  not_received n' there Fault stops = inl (Keeps-refl there)
+  not_received n' there (Refused e) (inl memory) = (inl memory, Keeps-refl there)
+  not_received n' there (Refused e) (inr r) = (inr (refuses e r), Keeps-refl there)
 
 -- ---- the object that is answered, and what is written of it
 
@@ -182,11 +189,11 @@ module _ (answer : Option (List ℕ)) (object : List ℕ) (is : answer ≡ Some 
       subst (Appends there then) (same_Some bytes object (sym same ∙ is)) more
   written Incomplete (wanted, kept) = absurd (cc (wanted, is))
 
-  pub not_written : (table : List TableRow) (name : List ℕ) (before after : Option (List ℕ)) (h : Head) (seen : Seen) → Determines table name before after h object seen → name_of object ≡ h.name
-      → (stop : Stop) → Ends (Err stop) there then (Ok answer) → EndsReceiving table name (Err stop) before after there then
-  not_written table name before after h seen d named (Refused e) (inl memory, kept) = (inl memory, kept)
-  not_written table name before after h seen d named (Refused e) (inr wanted, kept) = absurd (cc wanted)
-  not_written table name before after h seen d named Fault (inl kept) = inl kept
-  not_written table name before after h seen d named Fault (inr (bytes, n, wanted, more)) =
+  pub not_written : (table : List TableRow) (name : List ℕ) (before after : Option (List ℕ)) (n : ℕ) (h : Head) (seen : Seen) → Determines table name before after n h object seen → name_of object ≡ h.name
+      → (stop : Stop) → Ends (Err stop) there then (Ok answer) → EndsReceiving table name (Err stop) before after n there then
+  not_written table name before after n h seen d named (Refused e) (inl memory, kept) = (inl memory, kept)
+  not_written table name before after n h seen d named (Refused e) (inr wanted, kept) = absurd (cc wanted)
+  not_written table name before after n h seen d named Fault (inl kept) = inl kept
+  not_written table name before after n h seen d named Fault (inr (bytes, count, wanted, more)) =
       let same : answer ≡ Some bytes = cc wanted in
-      inr (h, object, seen, d, named, (n, subst (λ xs. Appends there then (take n xs)) (same_Some bytes object (sym same ∙ is)) more))
+      inr (h, object, seen, d, named, (count, subst (λ xs. Appends there then (take count xs)) (same_Some bytes object (sym same ∙ is)) more))

@@ -1,6 +1,7 @@
 pub mod Answering
 pub mod Ended
 pub mod Hashed
+pub mod Needed
 pub mod Receiving
 pub mod Searched
 pub mod TakenPackets

@@ -14,11 +14,11 @@ use Rattle.raptorq.specs.declared.decoder.object.Decoder.{Decoder}
 use Rattle.rq_cells.specs.declared.head.Head.{Head}
 use Rattle.rq_cells.specs.declared.scanner.Scan.{Scan}
 use Rattle.rq_cells.specs.Found.{packets_in, damaged_in, others_in}
-use Rattle.rq_cells.specs.Scans.{Settles, IsUnsettled}
+use Rattle.rq_cells.specs.Scans.{Settles}
 use Rattle.rq_cast.specs.declared.receiver.Receiver.{Receiver}
 use Rattle.rq_cast.specs.Taken.{known_packets, unknown_count, TakesAll, StopsAmong}
 use Rattle.rq_cast.specs.Reading.{chunk_length}
-use Rattle.rq_cast.specs.Receiving.{counted, TakesFrom, TakesCells, HasTaken, EndsDetermined, EndsUndetermined, RefusesPackets, StopsInCells, Receives}
+use Rattle.rq_cast.specs.Receiving.{counted, TakesFrom, TakesCells, HasTaken, IsLast, EndsDetermined, EndsUndetermined, RefusesPackets, StopsInCells, Receives}
 use Rattle.rq_cast.proofs.TakenPackets.{takes_both, stops_behind, known_both, unknown_both}
 
 -- what a scan takes is all that is there
@@ -53,11 +53,9 @@ taken_first old new cells =
     let damaged = all_damaged h old.bytes.items old new t in
     record {
       head = cells.head;
-      front = t.front;
-      kept = t.kept;
-      stopped = t.stopped;
       found = λ rest. t.found rest ∙ ap (λ ps. ps ++ packets_in h (new.bytes.items ++ rest)) (sym all);
       takes = subst (λ ps. TakesAll (state_of old.decoder) (known_packets c ps) (state_of new.decoder)) (sym all) t.takes;
+      cells_seen = t.cells_seen ∙ ap (λ ps. counted (old.seen.cells + length (known_packets c ps))) (sym all);
       damaged_found = λ rest. t.damaged_found rest ∙ ap (λ n. n + damaged_in h (new.bytes.items ++ rest)) (sym damaged);
       damaged_seen = t.damaged_seen ∙ ap (λ n. counted (old.seen.damaged + n)) (sym damaged);
       others = t.others;
@@ -101,18 +99,16 @@ module _ (old now : Receiver) (all : List ℕ) (has : HasTaken old now all) (byt
       subst (λ k. TakesAll (state_of now.decoder) (known_packets k t.packets) (state_of new.decoder)) same t.takes in
       let unknown = ap (unknown_count c) whole ∙ unknown_both c (packets_in h all) t.packets in
       let unknown_here = ap (λ k. unknown_count k t.packets) same in
+      let known = ap length (ap (known_packets c) whole ∙ known_both c (packets_in h all) t.packets) ∙ length-append (known_packets c (packets_in h all)) (known_packets c t.packets) in
+      let known_here = ap (λ k. length (known_packets k t.packets)) same in
       record {
         head = cells.head ∙ has.head;
-        front = has.front ++ t.front;
-        kept =
-            ap (λ xs. xs ++ piece) has.kept ∙ append_assoc has.front now.bytes.items piece
-            ∙ ap (λ xs. has.front ++ xs) (sym behind ∙ t.kept) ∙ sym (append_assoc has.front t.front new.bytes.items);
-        stopped = t.stopped;
         found = λ rest.
             found rest ∙ sym (append_assoc (packets_in h all) t.packets (packets_in h (new.bytes.items ++ rest)))
             ∙ ap (λ ps. ps ++ packets_in h (new.bytes.items ++ rest)) (sym whole);
         takes = subst (λ ps. TakesAll (state_of old.decoder) ps (state_of new.decoder)) (sym (ap (known_packets c) whole ∙ known_both c (packets_in h all) t.packets))
             (takes_both (state_of old.decoder) (state_of now.decoder) (state_of new.decoder) (known_packets c (packets_in h all)) (known_packets c t.packets) has.takes takes);
+        cells_seen = omega (arith, t.cells_seen, has.cells_seen, known, known_here);
         damaged_found = λ rest. let all_of = damaged rest in omega (arith, all_of, damaged_whole);
         damaged_seen = omega (arith, t.damaged_seen, has.damaged_seen, damaged_whole);
         others = has.others + t.others;
@@ -129,11 +125,9 @@ module _ (old now : Receiver) (all : List ℕ) (has : HasTaken old now all) (byt
       let same : bytes.items ≡ now.bytes.items = behind ∙ ap (λ xs. now.bytes.items ++ xs) none ∙ append-nil now.bytes.items in
       record {
         head = has.head;
-        front = has.front;
-        kept = has.kept ∙ ap (λ xs. has.front ++ xs) (sym same);
-        stopped = subst (IsUnsettled h) (sym same) has.stopped;
         found = λ rest. has.found rest ∙ ap (λ xs. packets_in h all ++ packets_in h (xs ++ rest)) (sym same);
         takes = has.takes;
+        cells_seen = has.cells_seen;
         damaged_found = λ rest. has.damaged_found rest ∙ ap (λ xs. damaged_in h all + damaged_in h (xs ++ rest)) (sym same);
         damaged_seen = has.damaged_seen;
         others = has.others;
@@ -155,26 +149,24 @@ module _ (old now : Receiver) (all : List ℕ) (has : HasTaken old now all) (byt
 
 -- ---- read after read
 
--- So many reads were made, and what they brought before the last one doesn't determine the object.
-pub record IsReceiving (old now : Receiver) (before after : Option (List ℕ)) (reads : ℕ) : Type 0 where
+-- So many reads were made, and what they brought before the last one doesn't determine the object. The last read brought so many bytes before them, and so many now.
+pub record IsReceiving (old now : Receiver) (before after : Option (List ℕ)) (n n' : ℕ) (reads : ℕ) : Type 0 where
   pub earlier : List ℕ
   pub last : List ℕ
-  pub few : length last ≤ chunk_length
   pub read : Consumes before after (earlier ++ last)
   pub brought : reads ≤ length (earlier ++ last)
   pub taken : HasTaken old now (old.bytes.items ++ (earlier ++ last))
-  pub not_earlier : (earlier ++ last ≡ []) ⊎ ((mid : Receiver) × HasTaken old mid (old.bytes.items ++ earlier) × (result_of (state_of mid.decoder) ≡ None))
+  pub not_earlier : IsLast old earlier last n n'
 
-module _ (old : Receiver) (before : Option (List ℕ)) where
-  pub receiving_first : (new : Receiver) → TakesCells old new → IsReceiving old new before before 0
+module _ (old : Receiver) (before : Option (List ℕ)) (n : ℕ) where
+  pub receiving_first : (new : Receiver) → TakesCells old new → IsReceiving old new before before n n 0
   receiving_first new cells = record {
     earlier = [];
     last = [];
-    few = omega arith;
     read = Consumes-nil before;
     brought = omega arith;
     taken = subst (HasTaken old new) (sym (append-nil old.bytes.items)) (taken_first old new cells);
-    not_earlier = inl refl;
+    not_earlier = inl (refl, refl);
   }
 
   pub stops_first : (e : Error) → StopsInCells old e → (e ≡ OutOfMemory) ⊎ RefusesPackets old before before e
@@ -185,14 +177,14 @@ module _ (old : Receiver) (before : Option (List ℕ)) where
     stops = subst (λ xs. StopsAmong (state_of old.decoder) (known_packets (state_of old.decoder).configuration (packets_in old.scanner xs)) e) (sym (append-nil old.bytes.items)) stops;
   })
 
-  pub ends_determined : (now : Receiver) (after : Option (List ℕ)) (reads : ℕ) → IsReceiving old now before after reads → IsSome (result_of (state_of now.decoder)) → EndsDetermined old now before after
-  ends_determined now after reads r some = record { earlier = r.earlier; last = r.last; few = r.few; read = r.read; taken = r.taken; determined = some; not_earlier = r.not_earlier }
+  pub ends_determined : (now : Receiver) (after : Option (List ℕ)) (n' reads : ℕ) → IsReceiving old now before after n n' reads → IsSome (result_of (state_of now.decoder)) → EndsDetermined old now before after n n'
+  ends_determined now after n' reads r some = record { earlier = r.earlier; last = r.last; read = r.read; taken = r.taken; determined = some; not_earlier = r.not_earlier }
 
-  pub ends_in_many : (now : Receiver) (after : Option (List ℕ)) (reads : ℕ) → IsReceiving old now before after reads → result_of (state_of now.decoder) ≡ None → 2 ^ 64 - 1 ≤ reads → EndsUndetermined old now before after
-  ends_in_many now after reads r none many =
+  pub ends_in_many : (now : Receiver) (after : Option (List ℕ)) (n' reads : ℕ) → IsReceiving old now before after n n' reads → result_of (state_of now.decoder) ≡ None → 2 ^ 64 - 1 ≤ reads → EndsUndetermined old now before after
+  ends_in_many now after n' reads r none many =
       record { past = r.earlier ++ r.last; read = r.read; taken = r.taken; undetermined = none; ended = inr (omega (arith, many, r.brought)) }
 
-  module _ (now : Receiver) (after after' : Option (List ℕ)) (reads : ℕ) (r : IsReceiving old now before after reads) (none : result_of (state_of now.decoder) ≡ None)
+  module _ (now : Receiver) (after after' : Option (List ℕ)) (n' reads : ℕ) (r : IsReceiving old now before after n n' reads) (none : result_of (state_of now.decoder) ≡ None)
       (bytes : Vec ℕ Global) (piece : List ℕ) (behind : bytes.items ≡ now.bytes.items ++ piece) (more : Consumes after after' piece) (few : length piece ≤ chunk_length) where
     abbrev past : List ℕ
     past = r.earlier ++ r.last
@@ -200,15 +192,14 @@ module _ (old : Receiver) (before : Option (List ℕ)) where
     all_read : Consumes before after' (past ++ piece)
     all_read = Consumes-trans before after after' past piece r.read more
 
-    pub receiving_next : (new : Receiver) → 0 < length piece → TakesCells (longer old now (old.bytes.items ++ past) r.taken bytes piece behind) new → IsReceiving old new before after' (reads + 1)
-    receiving_next new some cells = record {
+    pub receiving_next : (new : Receiver) (m : ℕ) → length piece ≡ m → 0 < m → TakesCells (longer old now (old.bytes.items ++ past) r.taken bytes piece behind) new → IsReceiving old new before after' n m (reads + 1)
+    receiving_next new m is some cells = record {
       earlier = past;
       last = piece;
-      few = few;
       read = all_read;
-      brought = omega (arith, r.brought, some, length-append past piece);
+      brought = omega (arith, r.brought, is, some, length-append past piece);
       taken = subst (HasTaken old new) (append_assoc old.bytes.items past piece) (taken_next old now (old.bytes.items ++ past) r.taken bytes piece behind new cells);
-      not_earlier = inr (now, r.taken, none);
+      not_earlier = inr (record { brought = is; some = some; few = omega (arith, few, is); mid = now; taken = r.taken; undetermined = none });
     }
 
     pub ends_at_end : length piece ≡ 0 → IsAtEnd after' → EndsUndetermined old (longer old now (old.bytes.items ++ past) r.taken bytes piece behind) before after'
@@ -242,7 +233,7 @@ none_incomplete d = by (result_of (state_of d))
     by None e = refl
     by (Some xs) e = absurd (true≢false e)
 
-pub receives_many : (old : Receiver) (before : Option (List ℕ)) (now : Receiver) (after : Option (List ℕ)) (reads : ℕ) → IsReceiving old now before after reads → 2 ^ 64 - 1 ≤ reads
-    → (b : Bool) → is_some (result_of (state_of now.decoder)) ≡ b → Receives old now before after b
-receives_many old before now after reads r many true e = ends_determined old before now after reads r e
-receives_many old before now after reads r many false e = ends_in_many old before now after reads r (none_incomplete now.decoder e) many
+pub receives_many : (old : Receiver) (before : Option (List ℕ)) (n : ℕ) (now : Receiver) (after : Option (List ℕ)) (n' reads : ℕ) → IsReceiving old now before after n n' reads → 2 ^ 64 - 1 ≤ reads
+    → (b : Bool) → is_some (result_of (state_of now.decoder)) ≡ b → Receives old now before after n n' b
+receives_many old before n now after n' reads r many true e = ends_determined old before n now after n' reads r e
+receives_many old before n now after n' reads r many false e = ends_in_many old before n now after n' reads r (none_incomplete now.decoder e) many

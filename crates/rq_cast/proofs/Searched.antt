@@ -1,16 +1,33 @@
 -- No wanted cell is whole yet in what was read.
-use Rattle.std.proofs.Common.{◌≡◌, ℕ, ◌+◌, ◌-◌, ◌^◌, ◌<◌, ◌≤◌, List, [], ◌++◌, length, drop, arith, refl, sym, ap, ◌∙◌, Option, None, ◌⊎◌, inl, inr, length-append, append_assoc, drop-drop}
+use Rattle.std.proofs.Common.{◌≡◌, ℕ, ◌+◌, ◌-◌, ◌^◌, ◌<◌, ◌≤◌, List, [], ◌++◌, length, drop, arith, refl, sym, ap, subst, ◌∙◌, Option, None, ◌⊎◌, inl, inr, length-append, append_assoc, drop-drop}
 use Rattle.std.specs.Io.KnownBytes.{Consumes, IsAtEnd}
 use Rattle.std.proofs.KnownBytes.{Consumes-nil, Consumes-trans}
 use Rattle.std.proofs.lemmas.List.{length-drop, drop-append-le}
 use Rattle.std.proofs.lemmas.Bool.{cases_lt}
 use Rattle.rq_cells.specs.declared.head.Head.{Head}
-use Rattle.rq_cells.specs.Wanted.{wanted_at, IsFirstWanted, HasNoWanted, NoneBefore}
+use Rattle.rq_cells.specs.declared.wanted.Heads.{Heads}
+use Rattle.rq_cells.specs.Wanted.{wanted_at, is_wanted_damaged, is_unwanted, AreHeads, IsFirstWanted, HasNoWanted, NoneBefore}
+use Rattle.rq_cells.proofs.WantedCells.{count_further}
 use Rattle.rq_cast.specs.Reading.{chunk_length}
-use Rattle.rq_cast.specs.Searching.{FindsFirst, FindsNone}
+use Rattle.rq_cast.specs.declared.receiver.Seen.{Seen}
+use Rattle.rq_cast.specs.Receiving.{SeesHeads}
+use Rattle.rq_cast.specs.Searching.{SeesBefore, FindsFirst, FindsNone}
 
--- so many reads were made, and of what they brought the bytes from a place on are kept, before which no wanted cell begins, whatever comes behind
-pub record IsUnfound (greatest : ℕ) (name : List ℕ) (before after : Option (List ℕ)) (reads : ℕ) (kept : List ℕ) : Type 0 where
+-- the heads at the places from one on, behind those before it
+pub sees_more : (greatest : ℕ) (name bytes : List ℕ) (from n : ℕ) (old new : Seen) (heads : Heads)
+    → SeesBefore greatest name bytes from old → AreHeads greatest name (drop from bytes) n heads → SeesHeads old heads new → SeesBefore greatest name bytes (from + n) new
+sees_more greatest name bytes from n old new heads before are sees =
+    let damaged = count_further (is_wanted_damaged greatest name) bytes from n in
+    let others = count_further (is_unwanted greatest name) bytes from n in
+    record {
+      no_cells = sees.cells ∙ before.no_cells;
+      damaged = omega (arith, sees.damaged, before.damaged, are.damaged, damaged);
+      others = omega (arith, sees.others, before.others, are.others, others);
+    }
+
+-- So many reads were made, and of what they brought the bytes from a place on are kept, before which no wanted cell begins, whatever comes behind.
+-- What was seen before that place, and in all.
+pub record IsUnfound (greatest : ℕ) (name : List ℕ) (before after : Option (List ℕ)) (reads : ℕ) (kept : List ℕ) (settled every : Seen) : Type 0 where
   pub past : List ℕ
   pub brought : reads ≤ length past
   pub read : Consumes before after past
@@ -19,10 +36,12 @@ pub record IsUnfound (greatest : ℕ) (name : List ℕ) (before after : Option (
   pub from_there : kept ≡ drop from past
   pub never : (rest : List ℕ) (i : ℕ) → i < from → wanted_at greatest name (drop i past ++ rest) ≡ None
   pub none : NoneBefore greatest name past (length past)
+  pub seen : (rest : List ℕ) → SeesBefore greatest name (past ++ rest) from settled
+  pub all_seen : SeesBefore greatest name past (length past) every
 
 module _ (greatest : ℕ) (name : List ℕ) (before : Option (List ℕ)) where
-  pub unfound_at_first : IsUnfound greatest name before before 0 []
-  unfound_at_first = record {
+  pub unfound_at_first : (s : Seen) → s.cells ≡ 0 → s.damaged ≡ 0 → s.others ≡ 0 → IsUnfound greatest name before before 0 [] s s
+  unfound_at_first s no_cells no_damaged no_others = record {
     past = [];
     brought = omega arith;
     read = Consumes-nil before;
@@ -31,16 +50,18 @@ module _ (greatest : ℕ) (name : List ℕ) (before : Option (List ℕ)) where
     from_there = refl;
     never = λ rest i below. absurd (omega (arith, below));
     none = λ i below. absurd (omega (arith, below));
+    seen = λ rest. record { no_cells = no_cells; damaged = no_damaged; others = no_others };
+    all_seen = record { no_cells = no_cells; damaged = no_damaged; others = no_others };
   }
 
-  pub none_at_end : (after : Option (List ℕ)) (reads : ℕ) (kept : List ℕ) → IsUnfound greatest name before after reads kept → IsAtEnd after → FindsNone greatest name before after
-  none_at_end after reads kept u ended = record { past = u.past; read = u.read; ended = inl ended; none = u.none }
+  pub none_at_end : (after : Option (List ℕ)) (reads : ℕ) (kept : List ℕ) (settled every : Seen) → IsUnfound greatest name before after reads kept settled every → IsAtEnd after → FindsNone greatest name before after every
+  none_at_end after reads kept settled every u ended = record { past = u.past; read = u.read; ended = inl ended; none = u.none; seen = u.all_seen }
 
-  pub none_in_many : (after : Option (List ℕ)) (reads : ℕ) (kept : List ℕ) → IsUnfound greatest name before after reads kept → 2 ^ 64 - 1 ≤ reads → FindsNone greatest name before after
-  none_in_many after reads kept u many = record { past = u.past; read = u.read; ended = inr (omega (arith, many, u.brought)); none = u.none }
+  pub none_in_many : (after : Option (List ℕ)) (reads : ℕ) (kept : List ℕ) (settled every : Seen) → IsUnfound greatest name before after reads kept settled every → 2 ^ 64 - 1 ≤ reads → FindsNone greatest name before after every
+  none_in_many after reads kept settled every u many = record { past = u.past; read = u.read; ended = inr (omega (arith, many, u.brought)); none = u.none; seen = u.all_seen }
 
   -- a piece more was read
-  module _ (after after' : Option (List ℕ)) (reads : ℕ) (kept piece : List ℕ) (u : IsUnfound greatest name before after reads kept) (more : Consumes after after' piece) (few : length piece ≤ chunk_length) where
+  module _ (after after' : Option (List ℕ)) (reads : ℕ) (kept piece : List ℕ) (settled every : Seen) (u : IsUnfound greatest name before after reads kept settled every) (more : Consumes after after' piece) (few : length piece ≤ chunk_length) where
     abbrev past' : List ℕ
     past' = u.past ++ piece
 
@@ -60,8 +81,16 @@ module _ (greatest : ℕ) (name : List ℕ) (before : Option (List ℕ)) where
             ap (wanted_at greatest name) (drop-append-le i u.past piece (omega (arith, less, u.within))) ∙ u.never piece i less
         by (inr at) = ap (wanted_at greatest name) (same_place i at) ∙ none (i - u.from) (omega (arith, at, below))
 
-    pub found_first : (at : ℕ) (h : Head) (left : List ℕ) → IsFirstWanted greatest name (kept ++ piece) at h → left ≡ drop at (kept ++ piece) → FindsFirst greatest name before after' h left
-    found_first at h left first is =
+    -- the heads behind the settled ones
+    heads_behind : (rest : List ℕ) (n : ℕ) (heads : Heads) → AreHeads greatest name (kept ++ piece ++ rest) n heads → AreHeads greatest name (drop u.from (past' ++ rest)) n heads
+    heads_behind rest n heads are =
+        let within : u.from ≤ length past' = omega (arith, u.within, length-append u.past piece) in
+        subst (λ xs. AreHeads greatest name xs n heads) (ap (λ xs. xs ++ rest) kept_is ∙ sym (drop-append-le u.from past' rest within)) are
+
+    pub found_first : (at : ℕ) (h : Head) (left : List ℕ) → IsFirstWanted greatest name (kept ++ piece) at h → left ≡ drop at (kept ++ piece)
+        → (heads : Heads) → AreHeads greatest name (kept ++ piece) at heads → (new : Seen) → SeesHeads settled heads new
+        → (n : ℕ) → length piece ≡ n → 0 < n → FindsFirst greatest name before after' n h left new
+    found_first at h left first is heads are new sees n brought some =
         let place : u.from ≤ u.from + at = omega arith in
         let back : at ≡ u.from + at - u.from = omega arith in
         let there : drop (u.from + at) past' ≡ drop at (kept ++ piece) = same_place (u.from + at) place ∙ ap (λ n. drop n (kept ++ piece)) (sym back) in
@@ -69,7 +98,9 @@ module _ (greatest : ℕ) (name : List ℕ) (before : Option (List ℕ)) where
           earlier = u.past;
           last = piece;
           read = Consumes-trans before after after' u.past piece u.read more;
-          few = few;
+          brought = brought;
+          some = some;
+          few = omega (arith, few, brought);
           none_earlier = u.none;
           at = u.from + at;
           first = record {
@@ -78,10 +109,12 @@ module _ (greatest : ℕ) (name : List ℕ) (before : Option (List ℕ)) where
             first = none_so_far at first.first;
           };
           from_there = is ∙ sym there;
+          seen = sees_more greatest name past' u.from at settled new heads (u.seen piece) (subst (λ xs. AreHeads greatest name xs at heads) kept_is are) sees;
         }
 
-    pub unfound_more : (from : ℕ) (left : List ℕ) → HasNoWanted greatest name (kept ++ piece) from → left ≡ drop from (kept ++ piece) → 0 < length piece → IsUnfound greatest name before after' (reads + 1) left
-    unfound_more from left h is some =
+    pub unfound_more : (from : ℕ) (left : List ℕ) (heads all : Heads) → HasNoWanted greatest name (kept ++ piece) from heads all → left ≡ drop from (kept ++ piece) → 0 < length piece
+        → (settled' every' : Seen) → SeesHeads settled heads settled' → SeesHeads settled all every' → IsUnfound greatest name before after' (reads + 1) left settled' every'
+    unfound_more from left heads all h is some settled' every' sees sees_all =
         let size : length past' ≡ u.from + length (kept ++ piece) =
         omega (arith, u.within, ap length u.from_there, length-drop u.from u.past, length-append kept piece, length-append u.past piece) in
         let place : u.from ≤ u.from + from = omega arith in
@@ -95,6 +128,13 @@ module _ (greatest : ℕ) (name : List ℕ) (before : Option (List ℕ)) where
           from_there = is ∙ ap (λ n. drop n (kept ++ piece)) back ∙ sym (same_place (u.from + from) place);
           never = λ rest i below. never' rest i below (cases_lt i u.from);
           none = λ i below. none_so_far (length (kept ++ piece)) h.none i (omega (arith, below, size));
+          seen = λ rest.
+              sees_more greatest name (past' ++ rest) u.from from settled settled' heads
+              (subst (λ xs. SeesBefore greatest name xs u.from settled) (sym (append_assoc u.past piece rest)) (u.seen (piece ++ rest)))
+              (heads_behind rest from heads (h.before rest)) sees;
+          all_seen =
+              subst (λ n. SeesBefore greatest name past' n every') (sym size)
+              (sees_more greatest name past' u.from (length (kept ++ piece)) settled every' all (u.seen piece) (subst (λ xs. AreHeads greatest name xs (length (kept ++ piece)) all) kept_is h.all) sees_all);
         }
       where
         never' : (rest : List ℕ) (i : ℕ) → i < u.from + from → (i < u.from) ⊎ (u.from ≤ i) → wanted_at greatest name (drop i past' ++ rest) ≡ None

@@ -1,5 +1,5 @@
 -- Packets that a decoder takes one by one.
-use Rattle.std.proofs.Common.{◌≡◌, ℕ, ◌+◌, List, [], ◌∷◌, ◌++◌, Bool, true, false, cond, Result, Ok, Err, refl, sym, ap, subst, ◌∙◌, arith, append_assoc, append-nil, inl, inr, not}
+use Rattle.std.proofs.Common.{◌≡◌, ℕ, ◌+◌, List, [], ◌∷◌, ◌++◌, Bool, true, false, cond, Result, Ok, Err, refl, sym, ap, subst, ◌∙◌, arith, append_assoc, append-nil, inl, inr, not, length}
 use Rattle.std.specs.List.{AllByRecursion}
 use Rattle.std.proofs.lemmas.List.Elements.{filter-append}
 use Rattle.std.proofs.lemmas.List.Sums.{sum_by-append, sum_by-cons}
@@ -118,6 +118,26 @@ module _ (c : Configuration) (packets : List Packet) (p : Packet) where
       let one : Packet → ℕ = λ q. cond (not (is_known c q)) 1 0 in
       let here : one p ≡ cond (not b) 1 0 = ap (λ x. cond (not x) 1 0) e in
       omega (arith, sum_by-append one packets (p ∷ []), sum_by-cons one p [], here)
+
+-- all of them together
+pub known_and_unknown : (c : Configuration) (packets : List Packet) → length (known_packets c packets) + unknown_count c packets ≡ length packets
+known_and_unknown c [] = refl
+known_and_unknown c (p ∷ packets) =
+    let one : Packet → ℕ = λ q. cond (not (is_known c q)) 1 0 in
+    by (is_known c p) refl (sum_by-cons one p packets) (known_and_unknown c packets)
+  where
+    by : (b : Bool) → is_known c p ≡ b → unknown_count c (p ∷ packets) ≡ cond (not (is_known c p)) 1 0 + unknown_count c packets
+        → length (known_packets c packets) + unknown_count c packets ≡ length packets → length (known_packets c (p ∷ packets)) + unknown_count c (p ∷ packets) ≡ length (p ∷ packets)
+    by true e more so =
+        let here : length (known_packets c (p ∷ packets)) ≡ length (p ∷ known_packets c packets) = ap (λ b. length (cond b (p ∷ known_packets c packets) (known_packets c packets))) e in
+        let count : Bool → ℕ = λ b. cond (not b) 1 0 in
+        let none = ap count e in
+        omega (arith, more, so, here, none)
+    by false e more so =
+        let here : length (known_packets c (p ∷ packets)) ≡ length (known_packets c packets) = ap (λ b. length (cond b (p ∷ known_packets c packets) (known_packets c packets))) e in
+        let count : Bool → ℕ = λ b. cond (not b) 1 0 in
+        let one_more = ap count e in
+        omega (arith, more, so, here, one_more)
 
 pub known_both : (c : Configuration) (front behind : List Packet) → known_packets c (front ++ behind) ≡ known_packets c front ++ known_packets c behind
 known_both c front behind = filter-append (is_known c) front behind

@@ -1,3 +1,5 @@
+pub mod Input
+pub mod Missing
 pub mod Reading
 pub mod Received
 pub mod Receiving

@@ -1,5 +1,5 @@
 -- What a run writes of the cells among the bytes that it reads.
-use Rattle.std.specs.Prelude.{◌≡◌, ◌⊎◌, ℕ, ◌+◌, ◌-◌, ◌^◌, ◌≤◌, List, [], ◌++◌, length, take, drop, Option, Some, None, Result, Ok, Err}
+use Rattle.std.specs.Prelude.{◌≡◌, ◌⊎◌, ℕ, ◌+◌, ◌-◌, ◌^◌, ◌<◌, ◌≤◌, List, [], ◌++◌, length, take, drop, Option, Some, None, Result, Ok, Err}
 use Rattle.std.specs.Io.KnownBytes.{Consumes, Keeps, Appends, IsAtEnd}
 use Rattle.rq_bytes.specs.declared.error.Error.{Error}
 use Rattle.rq_bytes.specs.declared.error.Error.TheVariants.{OutOfMemory}
@@ -14,11 +14,11 @@ use Rattle.rq_streams.specs.declared.run.Stop.TheVariants.{Fault, Refused}
 use Rattle.rq_cells.specs.declared.head.Head.{Head}
 use Rattle.rq_cells.specs.Cells.{name_of}
 use Rattle.rq_cells.specs.Found.{packets_in, damaged_in, others_in}
-use Rattle.rq_cells.specs.Scans.{IsUnsettled}
-use Rattle.rq_cells.specs.Wanted.{IsFirstWanted, NoneBefore}
+use Rattle.rq_cells.specs.Wanted.{IsFirstWanted, NoneBefore, damaged_before, unwanted_before}
 use Rattle.rq_cast.specs.declared.run.Ending.{Ending}
 use Rattle.rq_cast.specs.declared.run.Ending.TheVariants.{Written, Incomplete, AnotherObject}
 use Rattle.rq_cast.specs.declared.receiver.Seen.{Seen}
+use Rattle.rq_cast.specs.Missing.{NeedsPackets}
 use Rattle.rq_cast.specs.Searching.{FindsNone}
 use Rattle.rq_cast.specs.Reading.{chunk_length}
 use Rattle.rq_cast.specs.Receiving.{counted}
@@ -27,22 +27,6 @@ use Rattle.rq_cast.specs.Taken.{known_packets, unknown_count}
 -- the packets of an object's cells at all places of bytes, those of the blocks that it has
 abbrev pub received_packets : Head → List ℕ → List Packet
 received_packets h bytes = known_packets h.configuration (packets_in h bytes)
-
--- What was seen beside the whole cells in the bytes from the first of them on. Heads of other objects aren't counted in the last bytes, from the first
--- place on at which a cell may still end.
-pub record IsSeen (h : Head) (bytes : List ℕ) (seen : Seen) : Type 0 where
-  pub damaged : seen.damaged ≡ counted (damaged_in h bytes)
-  pub settled : List ℕ
-  pub left : List ℕ
-  pub cut : bytes ≡ settled ++ left
-  pub stopped : IsUnsettled h left
-  pub others : ℕ
-  pub all_others : others_in h bytes ≡ others + others_in h left
-  pub others_seen : seen.others ≡ counted (others + unknown_count h.configuration (packets_in h bytes))
-
--- nothing was seen
-abbrev pub SeesNothing : Seen → Type 0
-SeesNothing seen = (seen.damaged ≡ 0) × (seen.others ≡ 0)
 
 -- All this was read, and the first wanted cell in a beginning of it, up to the end of a read, says whose cells are received.
 pub record IsReceived (greatest : ℕ) (name : List ℕ) (before after : Option (List ℕ)) (past : List ℕ) (h : Head) : Type 0 where
@@ -57,6 +41,14 @@ pub record IsReceived (greatest : ℕ) (name : List ℕ) (before after : Option 
 abbrev pub from_first : {greatest : ℕ} {name : List ℕ} {before after : Option (List ℕ)} {past : List ℕ} {h : Head} → IsReceived greatest name before after past h → List ℕ
 from_first r = drop r.at r.front ++ r.later
 
+-- What was seen in all that was read. From the first wanted cell on, its head is the object's and each other one another object's. Before it a wanted
+-- head counts as the object's and one that isn't as another's, since nothing said yet what is received.
+pub record IsSeen {greatest : ℕ} {name : List ℕ} {before after : Option (List ℕ)} {past : List ℕ} {h : Head}
+    (r : IsReceived greatest name before after past h) (seen : Seen) : Type 0 where
+  pub cells : seen.cells ≡ counted (length (received_packets h past))
+  pub damaged : seen.damaged ≡ counted (damaged_before greatest name r.front r.at + damaged_in h (from_first r))
+  pub others : seen.others ≡ counted (unwanted_before greatest name r.front r.at + others_in h (from_first r) + unknown_count h.configuration (packets_in h past))
+
 -- what is answered of the object's cells among bytes, whoever sent them; where they are an object's, exactly where they determine it, which is where
 -- no other object makes them
 pub record IsAnswered (table : List TableRow) (h : Head) (bytes : List ℕ) (answer : Option (List ℕ)) : Type 0 where
@@ -64,31 +56,33 @@ pub record IsAnswered (table : List TableRow) (h : Head) (bytes : List ℕ) (ans
   pub honest : AnswersExactly table h.configuration (received_packets h bytes) answer
   pub only_object : AnswersWhereAnyCan table h.configuration (received_packets h bytes) answer
 
--- In a beginning of what was read, which lacks no more than a read brings, no wanted cell was whole, or the cells that were didn't determine the
--- object. So no more is read than that.
-pub record WasntBefore (table : List TableRow) (name : List ℕ) (h : Head) (past : List ℕ) : Type 0 where
+-- The last read brought n bytes. Without them no wanted cell was whole, or the cells that were didn't determine the object.
+pub record WasntBefore (table : List TableRow) (name : List ℕ) (h : Head) (past : List ℕ) (n : ℕ) : Type 0 where
   pub earlier : List ℕ
   pub last : List ℕ
   pub cut : past ≡ earlier ++ last
-  pub few : length last ≤ chunk_length
+  pub brought : length last ≡ n
+  pub some : 0 < n
+  pub few : n ≤ chunk_length
   pub wasnt : NoneBefore (greatest_size table) name earlier (length earlier) ⊎ IsAnswered table h earlier None
 
--- What was read determines an object, and not much less of it did.
-pub record Determines (table : List TableRow) (name : List ℕ) (before after : Option (List ℕ)) (h : Head) (object : List ℕ) (s : Seen) : Type 0 where
+-- What was read determines an object, and didn't before the last read.
+pub record Determines (table : List TableRow) (name : List ℕ) (before after : Option (List ℕ)) (n : ℕ) (h : Head) (object : List ℕ) (s : Seen) : Type 0 where
   pub past : List ℕ
   pub received : IsReceived (greatest_size table) name before after past h
   pub answered : IsAnswered table h past (Some object)
-  pub not_earlier : WasntBefore table name h past
-  pub beside : IsSeen h (from_first received) s
+  pub not_earlier : WasntBefore table name h past n
+  pub seen : IsSeen received s
 
--- All was read, or more bytes than a u64 counts, and the cells that were received don't determine the object.
-pub record DoesntDetermine (table : List TableRow) (name : List ℕ) (before after : Option (List ℕ)) (s : Seen) : Type 0 where
+-- All was read, or more bytes than a u64 counts, and the cells that were received don't determine the object, which needs so many packets more.
+pub record DoesntDetermine (table : List TableRow) (name : List ℕ) (before after : Option (List ℕ)) (missing : ℕ) (s : Seen) : Type 0 where
   pub past : List ℕ
   pub head : Head
   pub received : IsReceived (greatest_size table) name before after past head
   pub answered : IsAnswered table head past None
+  pub needs : NeedsPackets table head.configuration (received_packets head past) missing
   pub ended : IsAtEnd after ⊎ (2 ^ 64 - 1 ≤ length past)
-  pub beside : IsSeen head (from_first received) s
+  pub seen : IsSeen received s
 
 -- The first packet that is refused of those that were received: among an object's there is none.
 pub record RefusesReceived (table : List TableRow) (name : List ℕ) (before after : Option (List ℕ)) (e : Error) : Type 0 where
@@ -98,17 +92,17 @@ pub record RefusesReceived (table : List TableRow) (name : List ℕ) (before aft
   pub refused : (e ≡ OutOfMemory) ⊎ IsRefusalBehind table head.configuration [] (received_packets head past) (Err e)
   pub honest : (object : List ℕ) → IsHonestRun table head.configuration object (received_packets head past) → e ≡ OutOfMemory
 
--- How a run ends that reads this input, and behind whose writer this stood before and after: with the object that the cells determine, whose name
--- is theirs; with nothing written, where they determine another one or none; with the first refusal, and nothing written; or at a failed call,
--- where a beginning of the object may be written.
-abbrev pub EndsReceiving : List TableRow → List ℕ → Result (Ending × Seen) Stop → Option (List ℕ) → Option (List ℕ) → Option (List ℕ) → Option (List ℕ) → Type 0
-EndsReceiving table name (Ok (Written, seen)) before after there then =
-    (h : Head) × (object : List ℕ) × Determines table name before after h object seen × (name_of object ≡ h.name) × Appends there then object
-EndsReceiving table name (Ok (AnotherObject, seen)) before after there then =
-    (h : Head) × (object : List ℕ) × Determines table name before after h object seen × (name_of object ≡ h.name → ⊥) × Keeps there then
-EndsReceiving table name (Ok (Incomplete, seen)) before after there then =
-    ((FindsNone (greatest_size table) name before after × SeesNothing seen) ⊎ DoesntDetermine table name before after seen) × Keeps there then
-EndsReceiving table name (Err (Refused e)) before after there then = ((e ≡ OutOfMemory) ⊎ RefusesReceived table name before after e) × Keeps there then
-EndsReceiving table name (Err Fault) before after there then =
+-- How a run ends that reads this input, whose last read brought n bytes, and behind whose writer this stood before and after: with the object that the
+-- cells determine, whose name is theirs; with nothing written, where they determine another one or none; with the first refusal, and nothing written;
+-- or at a failed call, where a beginning of the object may be written.
+abbrev pub EndsReceiving : List TableRow → List ℕ → Result (Ending × Seen) Stop → Option (List ℕ) → Option (List ℕ) → ℕ → Option (List ℕ) → Option (List ℕ) → Type 0
+EndsReceiving table name (Ok (Written, seen)) before after n there then =
+    (h : Head) × (object : List ℕ) × Determines table name before after n h object seen × (name_of object ≡ h.name) × Appends there then object
+EndsReceiving table name (Ok (AnotherObject, seen)) before after n there then =
+    (h : Head) × (object : List ℕ) × Determines table name before after n h object seen × (name_of object ≡ h.name → ⊥) × Keeps there then
+EndsReceiving table name (Ok (Incomplete None, seen)) before after n there then = FindsNone (greatest_size table) name before after seen × Keeps there then
+EndsReceiving table name (Ok (Incomplete (Some missing), seen)) before after n there then = DoesntDetermine table name before after missing seen × Keeps there then
+EndsReceiving table name (Err (Refused e)) before after n there then = ((e ≡ OutOfMemory) ⊎ RefusesReceived table name before after e) × Keeps there then
+EndsReceiving table name (Err Fault) before after n there then =
     Keeps there then
-    ⊎ ((h : Head) × (object : List ℕ) × (seen : Seen) × Determines table name before after h object seen × (name_of object ≡ h.name) × ((n : ℕ) × Appends there then (take n object)))
+    ⊎ ((h : Head) × (object : List ℕ) × (seen : Seen) × Determines table name before after n h object seen × (name_of object ≡ h.name) × ((count : ℕ) × Appends there then (take count object)))

@@ -1,30 +1,42 @@
 -- What is read until the first wanted cell is whole.
-use Rattle.std.specs.Prelude.{◌≡◌, ◌⊎◌, ℕ, ◌-◌, ◌^◌, ◌≤◌, List, ◌++◌, length, drop, Option, Some, None}
+use Rattle.std.specs.Prelude.{◌≡◌, ◌⊎◌, ℕ, ◌-◌, ◌^◌, ◌<◌, ◌≤◌, List, ◌++◌, length, drop, Option, Some, None}
 use Rattle.std.specs.Io.KnownBytes.{Consumes, IsAtEnd}
 use Rattle.rq_cells.specs.declared.head.Head.{Head}
-use Rattle.rq_cells.specs.Wanted.{IsFirstWanted, NoneBefore}
+use Rattle.rq_cells.specs.Wanted.{IsFirstWanted, NoneBefore, damaged_before, unwanted_before}
 use Rattle.rq_cast.specs.declared.reading.Found.{Found}
+use Rattle.rq_cast.specs.declared.receiver.Seen.{Seen}
 use Rattle.rq_cast.specs.Reading.{chunk_length}
+use Rattle.rq_cast.specs.Receiving.{counted}
 
--- A wanted cell was whole in what was read, and none before the last read brought so many bytes. What is kept are the bytes from that cell on.
-pub record FindsFirst (greatest : ℕ) (name : List ℕ) (before after : Option (List ℕ)) (h : Head) (kept : List ℕ) : Type 0 where
+-- What was seen at the first n places, as long as no wanted cell is whole: wanted heads whose cell isn't, and heads that aren't wanted.
+pub record SeesBefore (greatest : ℕ) (name bytes : List ℕ) (n : ℕ) (seen : Seen) : Type 0 where
+  pub no_cells : seen.cells ≡ 0
+  pub damaged : seen.damaged ≡ counted (damaged_before greatest name bytes n)
+  pub others : seen.others ≡ counted (unwanted_before greatest name bytes n)
+
+-- A wanted cell was whole in what was read, and none before the last read, which brought so many bytes. What is kept are the bytes from that cell on.
+pub record FindsFirst (greatest : ℕ) (name : List ℕ) (before after : Option (List ℕ)) (n : ℕ) (h : Head) (kept : List ℕ) (s : Seen) : Type 0 where
   pub earlier : List ℕ
   pub last : List ℕ
   pub read : Consumes before after (earlier ++ last)
-  pub few : length last ≤ chunk_length
+  pub brought : length last ≡ n
+  pub some : 0 < n
+  pub few : n ≤ chunk_length
   pub none_earlier : NoneBefore greatest name earlier (length earlier)
   pub at : ℕ
   pub first : IsFirstWanted greatest name (earlier ++ last) at h
   pub from_there : kept ≡ drop at (earlier ++ last)
+  pub seen : SeesBefore greatest name (earlier ++ last) at s
 
 -- All was read, or more bytes than a u64 counts, and no wanted cell is whole in them.
-pub record FindsNone (greatest : ℕ) (name : List ℕ) (before after : Option (List ℕ)) : Type 0 where
+pub record FindsNone (greatest : ℕ) (name : List ℕ) (before after : Option (List ℕ)) (s : Seen) : Type 0 where
   pub past : List ℕ
   pub read : Consumes before after past
   pub ended : IsAtEnd after ⊎ (2 ^ 64 - 1 ≤ length past)
   pub none : NoneBefore greatest name past (length past)
+  pub seen : SeesBefore greatest name past (length past) s
 
 -- what a search through all that is read finds
-abbrev pub Searches : ℕ → List ℕ → Option (List ℕ) → Option (List ℕ) → Option Found → Type 0
-Searches greatest name before after (Some found) = FindsFirst greatest name before after found.head found.bytes.items
-Searches greatest name before after None = FindsNone greatest name before after
+abbrev pub Searches : ℕ → List ℕ → Option (List ℕ) → Option (List ℕ) → ℕ → Option Found × Seen → Type 0
+Searches greatest name before after n (Some found, seen) = FindsFirst greatest name before after n found.head found.bytes.items seen
+Searches greatest name before after n (None, seen) = FindsNone greatest name before after seen

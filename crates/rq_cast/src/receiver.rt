@@ -5,26 +5,45 @@ ghost use Rattle.rq_standard.specs.TableRows.{greatest_size};
 ghost use Rattle.rq_base.specs.RefusedInput.{checked_configuration};
 ghost use Rattle.raptorq.specs.Decoder.{state_of};
 ghost use Rattle.rq_cast.specs.Taken.{known_packets, unknown_count, TakesAll, StopsAmong};
-ghost use Rattle.rq_streams.specs.Counted.{failed_count, inner};
+ghost use Rattle.rq_streams.specs.Counted.{failed_count};
 ghost use Rattle.rq_streams.specs.Ends.{failed_calls};
-ghost use Rattle.rq_cast.specs.Receiving.{IsNewReceiver, TakesCells, StopsInCells, Receives, StopsReceiving};
+ghost use Rattle.rq_cast.specs.Input.{counted_of, source, last_length};
+ghost use Rattle.rq_cast.specs.Receiving.{SeesHeads, SeesAll, IsNewReceiver, TakesCells, StopsInCells, Receives, StopsReceiving};
 
-use crate::reading::{CHUNK, Found, read_more};
+use crate::input::{CHUNK, Input};
+use crate::progress::Progress;
+use crate::reading::Found;
 use raptorq::error::Error;
 use raptorq::systematic_constants::SystematicTable;
 use raptorq::{Decoder, EncodingPacket};
-use rq_cells::CellScanner;
-use rq_streams::{Counted, Stop};
+use rq_cells::{CellScanner, Heads};
+use rq_streams::Stop;
 use std::alloc::Global;
 use std::io::Read;
 
-/// What came beside an object's whole cells, from the first of these on. A count stays at `u64::MAX`.
+/// What was seen in all that was read. A count stays at `u64::MAX`. As long as no wanted cell came,
+/// any wanted head counts as the object's, and a head that isn't wanted as another one's.
 #[derive(Clone, Copy, Debug, Default, PartialEq, Eq)]
 pub struct Seen {
+    /// How many whole cells of the object's blocks came.
+    pub cells: u64,
     /// How many of the object's cells were damaged behind their head.
     pub damaged: u64,
     /// How many heads were other objects', and how many cells of no block of the object.
     pub others: u64,
+}
+
+impl Seen {
+    // With heads more.
+    pub(crate) fn with(self, heads: Heads) -> Seen
+        ensures { SeesHeads self heads result }
+    {
+        Seen {
+            cells: self.cells,
+            damaged: self.damaged.saturating_add(heads.damaged as u64),
+            others: self.others.saturating_add(heads.others as u64),
+        }
+    }
 }
 
 /// What is received of an object.
@@ -56,9 +75,15 @@ fn add_packets(decoder: &mut Decoder, packets: Vec<EncodingPacket>) -> Result<us
 }
 
 impl Receiver {
-    /// A receiver of the object that was found, and of what was read from its first cell on.
-    pub fn new(alloc: Global, table: &SystematicTable, found: Found) -> Result<Receiver, Error>
-        ensures made { IfOk result (IsNewReceiver table.now found) }
+    /// A receiver of the object that was found, and of what was read from its first cell on, with what
+    /// was seen before that.
+    pub fn new(
+        alloc: Global,
+        table: &SystematicTable,
+        found: Found,
+        seen: Seen,
+    ) -> Result<Receiver, Error>
+        ensures made { IfOk result (IsNewReceiver table.now found seen) }
         ensures refused { IfErr result (λ e. IsRefusal e (checked_configuration (greatest_size table.now) found.head.configuration)) }
     {
         let Found { head, bytes } = found;
@@ -68,7 +93,7 @@ impl Receiver {
             scanner,
             decoder,
             bytes,
-            seen: Seen::default(),
+            seen,
         })
     }
 
@@ -78,37 +103,51 @@ impl Receiver {
         ensures stops { IfErr result (StopsInCells self.old) }
     {
         let scan = self.scanner.scan(alloc, self.bytes.as_slice())?;
+        let packets = scan.packets.len();
         let unknown = add_packets(&mut self.decoder, scan.packets)?;
         self.bytes = Vec::from_slice(alloc, &self.bytes[scan.places..])?;
+        self.seen.cells = self.seen.cells.saturating_add((packets - unknown) as u64);
         self.seen.damaged = self.seen.damaged.saturating_add(scan.damaged as u64);
         self.seen.others = self.seen.others.saturating_add(scan.others as u64);
         self.seen.others = self.seen.others.saturating_add(unknown as u64);
         Ok(())
     }
+
+    /// What was seen in all that was read, with heads of other objects in what may still become cells.
+    pub fn all_seen(&self) -> Seen
+        ensures { SeesAll self.now result }
+    {
+        let others = self.scanner.count_others(self.bytes.as_slice());
+        self.seen.with(Heads { damaged: 0, others })
+    }
 }
 
 /// Takes cells until they determine the object, or to the end of the input. Answers whether they do.
-pub(crate) fn receive<R: Read>(
+pub(crate) fn receive<R: Read, P: Progress>(
     alloc: Global,
-    reader: &mut Counted<R>,
-    chunk: &mut [u8; CHUNK],
+    input: &mut Input<R>,
     receiver: &mut Receiver,
+    progress: &mut P,
 ) -> Result<bool, Stop>
-    requires { failed_count reader.old < 2 ^ 64 - 1 }
-    ensures receives { IfOk result (Receives receiver.old receiver.new (R.remaining (inner reader.old)) (R.remaining (inner reader.new))) }
-    ensures stops { IfErr result (StopsReceiving receiver.old (R.remaining (inner reader.old)) (R.remaining (inner reader.new))) }
-    ensures counts { failed_count reader.new ≡ failed_count reader.old + failed_calls result }
+    requires { failed_count (counted_of input.old) < 2 ^ 64 - 1 }
+    ensures receives { IfOk result (Receives receiver.old receiver.new (R.remaining (source input.old)) (R.remaining (source input.new))
+        (last_length input.old) (last_length input.new)) }
+    ensures stops { IfErr result (StopsReceiving receiver.old (R.remaining (source input.old)) (R.remaining (source input.new))) }
+    ensures counts { failed_count (counted_of input.new) ≡ failed_count (counted_of input.old) + failed_calls result }
 {
+    let mut chunk = [0u8; CHUNK];
     receiver.take_cells(alloc)?;
     // More reads than these are never made.
     'reading: for _reads in 0..u64::MAX {
         if receiver.decoder.is_complete() {
             return Ok(true);
         }
-        if read_more(reader, chunk, &mut receiver.bytes)? == 0 {
+        let n = input.read_more(&mut chunk, &mut receiver.bytes)?;
+        if n == 0 {
             return Ok(false);
         }
         receiver.take_cells(alloc)?;
+        progress.tell(n, &receiver.seen, Some(&receiver.decoder));
     }
     Ok(receiver.decoder.is_complete())
 }

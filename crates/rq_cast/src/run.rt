@@ -2,10 +2,14 @@
 ghost use Rattle.std.specs.Prelude.{◌-◌, ◌<◌, ◌^◌};
 ghost use Rattle.rq_streams.specs.Counted.{failed_count, inner};
 ghost use Rattle.rq_streams.specs.Ends.{EndsAtFailure};
+ghost use Rattle.rq_cast.specs.Input.{counted_of, source, last_length};
 ghost use Rattle.rq_cast.specs.Received.{EndsReceiving};
 
+use crate::input::Input;
+use crate::missing::missing_packets;
 use crate::naming::answered_name;
-use crate::reading::{CHUNK, find};
+use crate::progress::Progress;
+use crate::reading::find;
 use crate::receiver::{Receiver, Seen, receive};
 use raptorq::systematic_constants::SystematicTable;
 use rq_streams::{Counted, Stop, write_object};
@@ -18,54 +22,62 @@ pub enum Ending {
     /// The object is written.
     Written,
     /// What was read determines no object, and nothing is written.
-    Incomplete,
+    Incomplete {
+        /// How many packets more the object needs at least, of ids that weren't received yet: what
+        /// [`missing_packets`] answers. `None` where no wanted cell came.
+        missing: Option<u64>,
+    },
     /// What was read determines an object whose name isn't that of its cells, and nothing is written.
     AnotherObject,
 }
 
 /// Reads any bytes and writes the object of the cells that stand among them. Answers beside the ending
-/// what was seen beside whole cells.
+/// what was seen.
 ///
 /// The first wanted cell says what is received: one whose configuration coders take over the table,
 /// and whose name and configuration begin with `name`. All cells with its head are taken, at whatever
-/// place they stand. The run ends when they determine the object, with the input still open: it reads
-/// at most 65,536 bytes more than some that don't. The object is written where its name is that of its
-/// cells.
+/// place they stand. The run ends at the first read with which they determine the object, with the
+/// input still open. The object is written where its name is that of its cells. While it reads,
+/// `progress` is told how far it has come.
 ///
 /// Refuses what [`Decoder::add_new_packet`](raptorq::Decoder::add_new_packet) refuses of the cells'
 /// packets, and then nothing is written. [`Error::OutOfMemory`](raptorq::error::Error) may come at any
 /// read.
-pub fn run_receive<R: Read, W: Write>(
+pub fn run_receive<R: Read, W: Write, P: Progress>(
     alloc: Global,
     table: &SystematicTable,
     name: &[u8],
-    reader: &mut Counted<R>,
+    input: &mut Input<R>,
     writer: &mut Counted<W>,
+    progress: &mut P,
 ) -> Result<(Ending, Seen), Stop>
-    requires reads { failed_count reader.old < 2 ^ 64 - 1 }
+    requires reads { failed_count (counted_of input.old) < 2 ^ 64 - 1 }
     requires writes { failed_count writer.old < 2 ^ 64 - 1 }
 
     // The first failed call ends the run, and nothing else is a fault.
-    ensures failures { EndsAtFailure reader.old writer.old result reader.new writer.new
+    ensures failures { EndsAtFailure (counted_of input.old) writer.old result (counted_of input.new) writer.new
         (W.contents (inner writer.old)) (W.contents (inner writer.new)) }
 
-    // The object exactly where the cells determine it, and with little more read than that.
+    // The object exactly where the cells determine it, and not before the last read that was made.
     ensures ends { EndsReceiving table.now name.now result
-        (R.remaining (inner reader.old)) (R.remaining (inner reader.new))
+        (R.remaining (source input.old)) (R.remaining (source input.new)) (last_length input.new)
         (W.contents (inner writer.old)) (W.contents (inner writer.new)) }
 {
-    let mut chunk = [0u8; CHUNK];
-    let Some(found) = find(alloc, table, name, reader, &mut chunk)? else {
-        return Ok((Ending::Incomplete, Seen::default()));
+    let (found, seen) = find(alloc, table, name, input, progress)?;
+    let Some(found) = found else {
+        return Ok((Ending::Incomplete { missing: None }, seen));
     };
     let head = found.head;
-    let mut receiver = Receiver::new(alloc, table, found)?;
-    if !receive(alloc, reader, &mut chunk, &mut receiver)? {
-        return Ok((Ending::Incomplete, receiver.seen));
+    let mut receiver = Receiver::new(alloc, table, found, seen)?;
+    let complete = receive(alloc, input, &mut receiver, progress)?;
+    let seen = receiver.all_seen();
+    if !complete {
+        let missing = Some(missing_packets(&receiver.decoder));
+        return Ok((Ending::Incomplete { missing }, seen));
     }
     if answered_name(&receiver.decoder) != head.name {
-        return Ok((Ending::AnotherObject, receiver.seen));
+        return Ok((Ending::AnotherObject, seen));
     }
     write_object(writer, &receiver.decoder)?;
-    Ok((Ending::Written, receiver.seen))
+    Ok((Ending::Written, seen))
 }

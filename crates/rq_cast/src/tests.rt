@@ -1,4 +1,4 @@
-use crate::{Ending, Seen, run_receive};
+use crate::{Ending, Input, Seen, Silent, run_receive};
 use raptorq::error::Error;
 use raptorq::systematic_constants::SystematicTable;
 use rq_streams::{Counted, Stop};
@@ -60,10 +60,10 @@ type Ended = (Result<(Ending, Seen), Stop>, Vec<u8>);
 // How a run ends, and what it writes.
 fn received<R: Read + Drop>(alloc: Global, name: &[u8], reader: R) -> Result<Ended, Error> {
     let table = SystematicTable::built_in(alloc)?;
-    let mut reader = Counted::new(reader);
+    let mut input = Input::new(Counted::new(reader));
     let mut out: Vec<u8> = Vec::new(alloc);
     let mut writer = Counted::new(&mut out);
-    let ended = run_receive(alloc, &table, name, &mut reader, &mut writer);
+    let ended = run_receive(alloc, &table, name, &mut input, &mut writer, &mut Silent);
     drop(writer);
     Ok((ended, out))
 }
@@ -92,8 +92,9 @@ fn cells_among_other_bytes_are_received(rt: HostRuntime) {
     ];
     let bytes = joined(alloc, &parts).expect(&rt, "bytes");
     let seen = Seen {
+        cells: 2,
         damaged: 1,
-        others: 2,
+        others: 3,
     };
     for most in [1, 7, 50, 65536] {
         let reader = Open {
@@ -110,15 +111,25 @@ fn cells_among_other_bytes_are_received(rt: HostRuntime) {
 fn other_runs_write_nothing(rt: HostRuntime) {
     let alloc = rt.alloc();
     let misnamed = joined(alloc, &[&FIRST_MISNAMED, &SECOND_MISNAMED]).expect(&rt, "bytes");
-    let cases: [(&[u8], &[u8], Ending); 4] = [
-        (b"", b"", Ending::Incomplete),
-        (b"", &FIRST, Ending::Incomplete),
-        (&[1], &FIRST, Ending::Incomplete),
-        (b"", misnamed.as_slice(), Ending::AnotherObject),
+    let mut damaged = FIRST;
+    damaged[45] ^= 1;
+    let nothing = Ending::Incomplete { missing: None };
+    let one = Ending::Incomplete { missing: Some(1) };
+    let cases: [(&[u8], &[u8], Ending, [u64; 3]); 5] = [
+        (b"", b"", nothing, [0, 0, 0]),
+        (b"", &FIRST, one, [1, 0, 0]),
+        (b"", &damaged, nothing, [0, 1, 0]),
+        (&[1], &FIRST, nothing, [0, 0, 1]),
+        (b"", misnamed.as_slice(), Ending::AnotherObject, [2, 0, 0]),
     ];
-    for (name, bytes, ending) in cases {
+    for (name, bytes, ending, [cells, damaged, others]) in cases {
         let (ended, out) = received(alloc, name, bytes).expect(&rt, "memory");
-        assert_eq!(rt; ended, Ok((ending, Seen::default())));
+        let seen = Seen {
+            cells,
+            damaged,
+            others,
+        };
+        assert_eq!(rt; ended, Ok((ending, seen)));
         assert!(rt; out.is_empty());
     }
     let reader = Open {

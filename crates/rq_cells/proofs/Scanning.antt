@@ -120,6 +120,17 @@ next_counted p bytes rest at h same =
     let behind = places (drop (at + 1) bytes ++ rest) in
     ap (count_by p) (places-at bytes rest at h) ∙ sum_by-cons (λ xs. cond (p xs) 1 0) (drop at bytes ++ rest) behind ∙ ap (λ b. cond b 1 0 + count_by p behind) same
 
+pub count_place : (p : List ℕ → Bool) (bytes : List ℕ) (at : ℕ) → at < length bytes
+    → count_by p (places (drop at bytes)) ≡ cond (p (drop at bytes)) 1 0 + count_by p (places (drop (at + 1) bytes))
+count_place p bytes at h =
+    let first = get_or bytes at 0 in
+    let behind = drop (suc at) bytes in
+    let next : suc at ≡ at + 1 = omega arith in
+    let is : drop at bytes ≡ first ∷ behind = drop-cons bytes at 0 h in
+    ap (λ xs. count_by p (places xs)) is
+    ∙ sum_by-cons (λ xs. cond (p xs) 1 0) (first ∷ behind) (places behind)
+    ∙ (λ i. cond (p (sym is i)) 1 0 + count_by p (places (drop (next i) bytes)))
+
 -- ---- what a place is found to be
 
 and_true : (b : Bool) → b && true ≡ b
@@ -182,7 +193,7 @@ append_found : {A : Type 0} (xs : List A) (x : Option A) (ys : List A) → xs ++
 append_found xs None ys = ap (λ zs. zs ++ ys) (sym (append-nil xs))
 append_found xs (Some x) ys = sym (append_assoc xs (x ∷ []) ys)
 
-one_at_most : (b : Bool) → cond b 1 0 ≤ 1
+pub one_at_most : (b : Bool) → cond b 1 0 ≤ 1
 one_at_most true = omega arith
 one_at_most false = omega arith
 

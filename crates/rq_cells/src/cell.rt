@@ -53,11 +53,11 @@ pub(crate) fn read_behind(alloc: Global, head: Head, bytes: &[u8]) -> Result<Opt
     ensures cell { IfOk result (λ cell. cell ≡ cell_behind head bytes.now) }
     ensures memory { IfErr result (λ e. e ≡ Error.OutOfMemory) }
 {
-    let checked = HEAD_LENGTH + head.configuration.frame_size();
-    if bytes.len() < checked + CHECK_LENGTH {
+    let length = head.cell_length();
+    if bytes.len() < length {
         return Ok(None);
     }
-    let (checked, behind) = bytes.split_at(checked);
+    let (checked, behind) = bytes.split_at(length - CHECK_LENGTH);
     if !behind.starts_with(&check_of::<CHECK_LENGTH>(checked)) {
         return Ok(None);
     }

@@ -1,9 +1,10 @@
 //! The head of a cell.
 ghost use Rattle.std.specs.Prelude.{◌≡◌, ◌≤◌, Ok, take};
 ghost use Rattle.rq_bytes.specs.Refusals.{IsAnswer};
-ghost use Rattle.rq_cells.specs.Cells.{name_of, check_of, head_bytes, head_at};
+ghost use Rattle.rq_cells.specs.Cells.{name_of, check_of, head_bytes, head_at, cell_size};
 
-use rq_base::base::{CONFIGURATION_LENGTH, ObjectTransmissionInformation};
+use crate::cell::CHECK_LENGTH;
+use rq_base::base::{CONFIGURATION_LENGTH, ObjectTransmissionInformation, PAYLOAD_ID_LENGTH};
 use rq_bytes::error::Error;
 use sha2::{Digest, Sha512};
 use std::alloc::Global;
@@ -60,6 +61,14 @@ impl Head {
         let check: [u8; 4] = check_of(bytes.as_slice());
         bytes.extend_from_slice(&check)?;
         Ok(bytes)
+    }
+
+    /// How many bytes a cell with this head has: 48 and a symbol.
+    pub fn cell_length(&self) -> usize
+        ensures { result ≡ cell_size self.now.configuration }
+    {
+        let symbol_size = usize::from(self.configuration.symbol_size());
+        HEAD_LENGTH + PAYLOAD_ID_LENGTH + symbol_size + CHECK_LENGTH
     }
 
     /// The head whose bytes these begin with, if they begin with one.

@@ -10,7 +10,7 @@ mod wanted;
 pub use cell::Cell;
 pub use head::{HEAD_LENGTH, Head, NAME_LENGTH, name_of};
 pub use scanner::{CellScanner, Scan};
-pub use wanted::{Search, first_wanted};
+pub use wanted::{Heads, Search, first_wanted};
 
 #[cfg(test)]
 mod tests;

@@ -2,9 +2,10 @@
 ghost use Rattle.std.specs.Prelude.{◌≡◌, Ok, IfOk, IfErr};
 ghost use Rattle.rq_bytes.specs.Refusals.{IsAnswer};
 ghost use Rattle.rq_cells.specs.Cells.{IsHead};
+ghost use Rattle.rq_cells.specs.Found.{others_in};
 ghost use Rattle.rq_cells.specs.Scans.{Settles, IsPlace};
 
-use crate::cell::{CHECK_LENGTH, read_behind};
+use crate::cell::read_behind;
 use crate::head::{HEAD_LENGTH, Head, MARK};
 use rq_base::base::EncodingPacket;
 use rq_bytes::error::Error;
@@ -67,7 +68,7 @@ impl CellScanner {
         Ok(CellScanner {
             head,
             bytes: head.serialize(alloc)?,
-            cell_length: HEAD_LENGTH + head.configuration.frame_size() + CHECK_LENGTH,
+            cell_length: head.cell_length(),
         })
     }
 
@@ -130,5 +131,18 @@ impl CellScanner {
             scan.places += 1;
         }
         Ok(scan)
+    }
+    /// How many heads in some bytes are those of other objects, at whatever places.
+    pub fn count_others(&self, bytes: &[u8]) -> usize
+        ensures { result ≡ others_in self.now bytes.now }
+    {
+        let mut others = 0;
+        for at in 0..bytes.len() {
+            let here = &bytes[at..];
+            if !here.starts_with(self.bytes.as_slice()) && Head::read(here).is_some() {
+                others += 1;
+            }
+        }
+        others
     }
 }

@@ -1,4 +1,4 @@
-use crate::{Cell, CellScanner, Head, Search, first_wanted, name_of};
+use crate::{Cell, CellScanner, Head, Heads, Search, first_wanted, name_of};
 use rq_base::base::{EncodingPacket, ObjectTransmissionInformation, PayloadId};
 use rq_bytes::error::Error;
 use rq_tables::systematic_constants::SystematicTable;
@@ -68,6 +68,7 @@ fn cells_are_found_among_other_bytes(rt: HostRuntime) {
     let second = cell(alloc, 1, &[9, 0]).expect(&rt, "a cell");
     assert_eq!(rt; scan.packets.as_slice(), [second.packet].as_slice());
     assert_eq!(rt; (scan.places, scan.damaged, scan.others), (138, 1, 1));
+    assert_eq!(rt; scanner.count_others(bytes.as_slice()), 1);
 }
 
 #[test]
@@ -75,14 +76,25 @@ fn first_wanted_cell_is_found(rt: HostRuntime) {
     let alloc = rt.alloc();
     let table = SystematicTable::built_in(alloc).expect(&rt, "a table");
     let bytes = stream(alloc).expect(&rt, "bytes");
-    let wanted = Search::Found {
+    let head = head().expect(&rt, "a head");
+    let found = |damaged, others| Search::Found {
         at: 88,
-        head: head().expect(&rt, "a head"),
+        head,
+        before: Heads { damaged, others },
     };
     let any = first_wanted(alloc, &table, &[], bytes.as_slice()).expect(&rt, "a search");
-    assert_eq!(rt; any, wanted);
+    assert_eq!(rt; any, found(2, 0));
     let begun = first_wanted(alloc, &table, &[187, 194], bytes.as_slice()).expect(&rt, "a search");
-    assert_eq!(rt; begun, wanted);
+    assert_eq!(rt; begun, found(1, 1));
     let missed = first_wanted(alloc, &table, &[1], bytes.as_slice()).expect(&rt, "a search");
-    assert_eq!(rt; missed, Search::NotYet { from: 143 });
+    let heads = Heads {
+        damaged: 0,
+        others: 4,
+    };
+    let not_yet = Search::NotYet {
+        from: 143,
+        before: heads,
+        all: heads,
+    };
+    assert_eq!(rt; missed, not_yet);
 }

@@ -4,7 +4,7 @@ ghost use Rattle.rq_standard.specs.TableRows.{greatest_size};
 ghost use Rattle.rq_cells.specs.Found.{has_head};
 ghost use Rattle.rq_cells.specs.Wanted.{is_wanted, IsCandidate, IsSearch};
 
-use crate::cell::{CHECK_LENGTH, read_behind};
+use crate::cell::read_behind;
 use crate::head::{HEAD_LENGTH, Head};
 use rq_bytes::error::Error;
 use rq_tables::systematic_constants::SystematicTable;
@@ -15,19 +15,41 @@ use std::alloc::Global;
 pub(crate) enum Candidate {
     /// The bytes don't say it yet: they are too few.
     Open,
-    /// No wanted cell.
+    /// Neither a wanted cell nor a head.
     Nothing,
+    /// A wanted cell that is damaged behind its head.
+    Damaged,
+    /// A head that isn't wanted.
+    Other,
     /// A wanted cell, with this head.
     Found(Head),
+}
+
+/// The heads at places where no wanted cell is whole.
+#[derive(Clone, Copy, Debug, Default, PartialEq, Eq)]
+pub struct Heads {
+    /// How many are wanted ones, whose cells are damaged behind them.
+    pub damaged: usize,
+    /// How many aren't wanted.
+    pub others: usize,
 }
 
 /// What a search for the first wanted cell finds.
 #[derive(Clone, Copy, Debug, PartialEq, Eq)]
 pub enum Search {
-    /// The first wanted cell begins at this place, with this head.
-    Found { at: usize, head: Head },
-    /// No wanted cell is whole, and none begins before this place.
-    NotYet { from: usize },
+    /// The first wanted cell begins at this place, with this head. Before it stand these heads.
+    Found {
+        at: usize,
+        head: Head,
+        before: Heads,
+    },
+    /// No wanted cell is whole, and none begins before this place. Before it stand these heads, and
+    /// those at all places.
+    NotYet {
+        from: usize,
+        before: Heads,
+        all: Heads,
+    },
 }
 
 // Whether coders take the head's configuration over a table, and its name and configuration begin
@@ -56,14 +78,14 @@ fn look(
         return Ok(Candidate::Nothing);
     };
     if !is_wanted(table, name, &head, bytes) {
-        return Ok(Candidate::Nothing);
+        return Ok(Candidate::Other);
     }
-    if bytes.len() < HEAD_LENGTH + head.configuration.frame_size() + CHECK_LENGTH {
+    if bytes.len() < head.cell_length() {
         return Ok(Candidate::Open);
     }
     Ok(match read_behind(alloc, head, bytes)? {
         Some(cell) => Candidate::Found(cell.head),
-        None => Candidate::Nothing,
+        None => Candidate::Damaged,
     })
 }
 
@@ -79,15 +101,27 @@ pub fn first_wanted(
     ensures search { IfOk result (IsSearch (greatest_size table.now) name.now bytes.now) }
     ensures memory { IfErr result (λ e. e ≡ Error.OutOfMemory) }
 {
+    let mut heads = Heads::default();
     let mut pending = None;
     for at in 0..bytes.len() {
         match look(alloc, table, name, &bytes[at..])? {
-            Candidate::Open => pending = pending.or(Some(at)),
+            Candidate::Open => pending = pending.or(Some((at, heads))),
             Candidate::Nothing => {}
-            Candidate::Found(head) => return Ok(Search::Found { at, head }),
+            Candidate::Damaged => heads.damaged += 1,
+            Candidate::Other => heads.others += 1,
+            Candidate::Found(head) => {
+                return Ok(Search::Found {
+                    at,
+                    head,
+                    before: heads,
+                });
+            }
         }
     }
+    let (from, before) = pending.unwrap_or((bytes.len(), heads));
     Ok(Search::NotYet {
-        from: pending.unwrap_or(bytes.len()),
+        from,
+        before,
+        all: heads,
     })
 }

@@ -1,4 +1,4 @@
-use Rattle.std.proofs.Common.{◌≡◌, ◌≤◌, ◌+◌, ◌-◌, sym, ap, ◌∙◌, take, drop, length, arith, rules, Some, Ok, Err, if◌then◌else◌, length-take}
+use Rattle.std.proofs.Common.{◌≡◌, ◌≤◌, ◌-◌, sym, ap, ◌∙◌, take, drop, length, arith, rules, Some, Ok, Err, if◌then◌else◌, length-take}
 use Rattle.std.specs.Io.{StartsWith}
 use Rattle.std.specs.List.{starts_with}
 use Rattle.std.specs.Prelude.{nat_eq}
@@ -14,18 +14,18 @@ use Rattle.rq_cells.proofs.Beginnings.{begins, refuted}
 use Rattle.rq_cells.proofs.CellBytes.{checked_size, none_behind_in_short, none_without_right_check, packet_read, cell_read}
 use Rattle.rq_cells.proofs.cell.read_behind.Goals as goal
 
-pub returns-then-bytes-checked-clause-cell : goal.returns-then-bytes-checked-clause-cell
-returns-then-bytes-checked-clause-cell c =
+pub returns-then-bytes-length-clause-cell : goal.returns-then-bytes-length-clause-cell
+returns-then-bytes-length-clause-cell c =
     let named : length c.args.head.name ≡ 16 = search rules in
-    sym (none_behind_in_short c.args.head c.args.bytes.now named (omega (arith, c.if-bytes-checked.true, c.frame_size-checked.ensures)))
+    sym (none_behind_in_short c.args.head c.args.bytes.now named (omega (arith, c.if-bytes-length.true, c.cell_length-length.ensures)))
 
 pub returns-then-not-starts_with-clause-cell : goal.returns-then-not-starts_with-clause-cell
 returns-then-not-starts_with-clause-cell c =
     let h = c.args.head in
     let bytes = c.args.bytes.now in
     let named : length h.name ≡ 16 = search rules in
-    let long : cell_size h.configuration ≤ length bytes = omega (arith, c.if-bytes-checked.false, c.frame_size-checked.ensures) in
-    let size : head_size + c.frame_size-checked.result ≡ checked_size h = ap (λ n. head_size + n) c.frame_size-checked.ensures in
+    let long : cell_size h.configuration ≤ length bytes = omega (arith, c.if-bytes-length.false, c.cell_length-length.ensures) in
+    let size : c.cell_length-length.result - 8 ≡ checked_size h = omega (arith, c.cell_length-length.ensures) in
     let front = c.split_at.ensures.front ∙ ap (λ n. take n bytes) size in
     let back = c.split_at.ensures.back ∙ ap (λ n. drop n bytes) size in
     let test : c.starts_with.result ≡ starts_with nat_eq (drop (checked_size h) bytes) (check_of 8 (take (checked_size h) bytes)) =
@@ -37,8 +37,8 @@ returns-clause-cell c =
     let h = c.args.head in
     let bytes = c.args.bytes.now in
     let named : length h.name ≡ 16 = search rules in
-    let long : cell_size h.configuration ≤ length bytes = omega (arith, c.if-bytes-checked.false, c.frame_size-checked.ensures) in
-    let size : head_size + c.frame_size-checked.result ≡ checked_size h = ap (λ n. head_size + n) c.frame_size-checked.ensures in
+    let long : cell_size h.configuration ≤ length bytes = omega (arith, c.if-bytes-length.false, c.cell_length-length.ensures) in
+    let size : c.cell_length-length.result - 8 ≡ checked_size h = omega (arith, c.cell_length-length.ensures) in
     let front = c.split_at.ensures.front ∙ ap (λ n. take n bytes) size in
     let back = c.split_at.ensures.back ∙ ap (λ n. drop n bytes) size in
     let test : c.starts_with.result ≡ starts_with nat_eq (drop (checked_size h) bytes) (check_of 8 (take (checked_size h) bytes)) =

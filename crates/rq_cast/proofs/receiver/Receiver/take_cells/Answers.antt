@@ -1,11 +1,12 @@
-use Rattle.std.proofs.Common.{◌≡◌, ◌+◌, ◌++◌, sym, ap, subst, ◌∙◌, take, drop, arith, refl, inr}
-use Rattle.std.proofs.lemmas.List.{take_rest, take-append-drop}
+use Rattle.std.proofs.Common.{◌≡◌, ◌+◌, ◌++◌, sym, ap, subst, ◌∙◌, drop, arith, refl, inr}
+use Rattle.std.proofs.lemmas.List.{take_rest}
 use Rattle.std.proofs.lemmas.Result.{err_from_is_err_and}
 use Rattle.raptorq.specs.Decoder.{state_of}
 use Rattle.rq_cells.specs.Found.{packets_in, damaged_in, others_in}
-use Rattle.rq_cells.specs.Scans.{Settles, IsUnsettled}
+use Rattle.rq_cells.specs.Scans.{Settles}
 use Rattle.rq_cast.specs.Taken.{known_packets, StopsAmong}
 use Rattle.rq_cast.proofs.Receiving.{all_settled}
+use Rattle.rq_cast.proofs.TakenPackets.{known_and_unknown}
 use Rattle.rq_cast.proofs.receiver.Receiver.take_cells.Goals as goal
 
 pub returns-clause-takes : goal.returns-clause-takes
@@ -22,17 +23,17 @@ returns-clause-takes c =
         packets = s.packets.items;
         found = λ rest. settles.packets rest ∙ ap (λ k. s.packets.items ++ packets_in h (k ++ rest)) (sym kept);
         none = ap (packets_in h) kept ∙ settles.none;
-        front = take s.places bytes;
-        kept = sym (take-append-drop s.places bytes) ∙ ap (λ xs. take s.places bytes ++ xs) (sym kept);
-        stopped = subst (IsUnsettled h) (sym kept) settles.stopped;
         takes = c.in_ok-unknown.ensures.takes;
+        cells_seen =
+            let both = known_and_unknown (state_of c.args.self.now.decoder).configuration s.packets.items in
+            omega (arith, c.saturating_add-self.ensures, c.in_ok-unknown.ensures.unknown, both);
         damaged = s.damaged;
         damaged_found = λ rest. settles.damaged rest ∙ ap (λ k. s.damaged + damaged_in h (k ++ rest)) (sym kept);
         no_damaged = ap (damaged_in h) kept ∙ settles.no_damaged;
-        damaged_seen = c.saturating_add-self.ensures;
+        damaged_seen = c.saturating_add-self-2.ensures;
         others = s.others;
         others_found = λ rest. settles.others rest ∙ ap (λ k. s.others + others_in h (k ++ rest)) (sym kept);
-        others_seen = omega (arith, c.saturating_add-self-2.ensures, c.saturating_add-self-3.ensures, c.in_ok-unknown.ensures.unknown);
+        others_seen = omega (arith, c.saturating_add-self-3.ensures, c.saturating_add-self-4.ensures, c.in_ok-unknown.ensures.unknown);
       };
     }
 

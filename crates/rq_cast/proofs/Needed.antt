@@ -1,0 +1,59 @@
+-- How many packets an object needs behind those that a decoder has taken.
+use Rattle.std.proofs.Common.{◌≡◌, ℕ, ◌<◌, List, Option, Some, None, refl, sym, ap, subst, inr}
+use Rattle.std.specs.Prelude.{IsSome, IfSome, unwrap_or}
+use Rattle.rq_standard.specs.declared.row.TableRow.{TableRow}
+use Rattle.rq_standard.specs.Packet.{Packet}
+use Rattle.rq_standard.specs.ReceivedBlock.{ReceivedBlock, CanAnswer}
+use Rattle.rq_standard.specs.DecoderSteps.{received_after}
+use Rattle.rq_standard.specs.Following.{FollowsRun}
+use Rattle.rq_block.specs.MissingPackets.{NeedsMore, IsMissing, TellsMissing}
+use Rattle.raptorq.specs.declared.decoder.object.Decoder.{Decoder}
+use Rattle.raptorq.specs.Decoder.{state_of, missing_of}
+use Rattle.raptorq.specs.Unanswered.{TellsMissingOf}
+use Rattle.rq_cast.specs.Missing.{told_of, TellsMissingPackets, NeedsPackets}
+
+-- what is told of a block that can't be answered: its packets don't contradict each other, since those that do determine it
+told_open : (h : ReceivedBlock) → ¬ CanAnswer h → (missing : Option ℕ) → TellsMissing h missing → IsMissing h (unwrap_or missing 0)
+told_open h cannot None contradictory = absurd (cannot (inr contradictory.determined))
+told_open h cannot (Some n) told = told
+
+needed_open : (h : ReceivedBlock) → ¬ CanAnswer h → (missing : Option ℕ) → TellsMissing h missing → IfSome missing (NeedsMore h) → NeedsMore h (unwrap_or missing 0)
+needed_open h cannot None contradictory needed = absurd (cannot (inr contradictory.determined))
+needed_open h cannot (Some n) told needed = needed
+
+module _ (table : List TableRow) (packets : List Packet) (d : Decoder) (follows : FollowsRun table packets (state_of d)) (missing : ℕ) (t : TellsMissingPackets d missing) where
+  module _ (b : ℕ) (below : b < (state_of d).configuration.source_blocks) where
+    abbrev h : ReceivedBlock
+    h = received_after table (state_of d).configuration b packets
+
+    zero_of : CanAnswer h → (answer : Option (List ℕ)) → (state_of d).answer b ≡ answer → TellsMissingOf ((state_of d).received b) answer (missing_of d b) → told_of d b ≡ 0
+    zero_of can (Some block) is told = ap (λ o. unwrap_or o 0) told
+    zero_of can None is told = let some : IsSome {T = List ℕ} None = subst IsSome is ((follows.answers b below).1 can) in absurd (cc some)
+
+    none_of : ¬ CanAnswer h → (answer : Option (List ℕ)) → (state_of d).answer b ≡ answer → answer ≡ None
+    none_of cannot None is = refl
+    none_of cannot (Some block) is = absurd (cannot ((follows.answers b below).0 (subst IsSome (sym is) refl)))
+
+    module _ (cannot : ¬ CanAnswer h) where
+      unanswered : (state_of d).answer b ≡ None
+      unanswered = none_of cannot ((state_of d).answer b) refl
+
+      same : (state_of d).received b ≡ h
+      same = follows.received b below unanswered
+
+      told : TellsMissing h (missing_of d b)
+      told =
+          subst (λ k. TellsMissing k (missing_of d b)) same
+          (subst (λ o. TellsMissingOf ((state_of d).received b) o (missing_of d b)) unanswered (t.told b below))
+
+      more : IfSome (missing_of d b) (NeedsMore h)
+      more = subst (λ k. IfSome (missing_of d b) (NeedsMore k)) same (t.needed b below)
+
+  pub needs_packets : NeedsPackets table (state_of d).configuration packets missing
+  needs_packets = record {
+    of_block = told_of d;
+    sum = t.sum;
+    answered = λ b below can. zero_of b below can ((state_of d).answer b) refl (t.told b below);
+    misses = λ b below cannot. told_open (h b below) cannot (missing_of d b) (told b below cannot);
+    needed = λ b below cannot. needed_open (h b below) cannot (missing_of d b) (told b below cannot) (more b below cannot);
+  }

@@ -1,0 +1,20 @@
+//! What is told of a run while it goes on.
+
+use crate::receiver::Seen;
+use raptorq::Decoder;
+
+/// Is told how far a run has come. Nothing is promised of what is told, nor of how often: the run does
+/// the same whoever is told.
+pub trait Progress {
+    /// Called after each read: with how many bytes it brought, what was seen so far, and the decoder,
+    /// once a cell said whose cells are received.
+    fn tell(&mut self, bytes: usize, seen: &Seen, decoder: Option<&Decoder>);
+}
+
+/// Tells nobody.
+#[derive(Clone, Copy, Debug, Default)]
+pub struct Silent;
+
+impl Progress for Silent {
+    fn tell(&mut self, _bytes: usize, _seen: &Seen, _decoder: Option<&Decoder>) {}
+}
