@@ -1,5 +1,5 @@
 -- What is found in bytes is there whatever stands behind them.
-use Rattle.std.proofs.Common.{◌≡◌, ℕ, suc, ◌+◌, ◌<◌, ◌≤◌, List, [], ◌∷◌, ◌++◌, length, take, drop, arith, refl, sym, ap, ◌∙◌, Some, None, Option, Bool, true, false, cond, ◌&&◌, not, nat_le, nat_lt, nat_eq, get_or, length-append, append_assoc, if◌then◌else◌, drop-cons, ◌⊎◌, inl, inr}
+use Rattle.std.proofs.Common.{◌≡◌, ℕ, suc, ◌+◌, ◌-◌, ◌<◌, ◌≤◌, List, [], ◌∷◌, ◌++◌, length, take, drop, arith, refl, sym, ap, ◌∙◌, Some, None, Option, Bool, true, false, cond, ◌&&◌, not, nat_le, nat_lt, nat_eq, get_or, length-append, append_assoc, if◌then◌else◌, drop-cons, ◌⊎◌, inl, inr}
 use Rattle.std.specs.List.{starts_with, cons_option}
 use Rattle.std.specs.Prelude.{option_and_then, option_map, filter_map, count_by, is_some, is_none}
 use Rattle.std.proofs.lemmas.List.{take-append-le, drop-append-le, length-drop, append-nil}
@@ -10,12 +10,13 @@ use Rattle.rq_standard.specs.Packet.{Packet, packet_of_bytes}
 use Rattle.rq_standard.specs.Streams.{frame_size}
 use Rattle.rq_cells.specs.declared.head.Head.{Head}
 use Rattle.rq_cells.specs.declared.cell.Cell.{Cell}
-use Rattle.rq_cells.specs.Cells.{head_bytes, head_size, cell_size, head_spelled, head_at, cell_bytes, cell_spelled, cell_behind, cell_at, IsHead}
+use Rattle.rq_cells.specs.Cells.{mark, check_of, head_bytes, head_size, cell_size, head_spelled, head_at, cell_bytes, cell_spelled, cell_behind, cell_at, IsHead}
 use Rattle.rq_cells.specs.Found.{places, has_head, packet_at, is_damaged, is_other}
 use Rattle.rq_cells.specs.Scans.{is_open, Begins}
 use Rattle.rq_cells.specs.Found.{packets_in, damaged_in, others_in}
-use Rattle.rq_cells.proofs.Beginnings.{begins, test_more}
-use Rattle.rq_cells.proofs.HeadBytes.{length-head_bytes, length-name_spelled, head_at-begins}
+use Rattle.std.specs.Io.{StartsWith}
+use Rattle.rq_cells.proofs.Beginnings.{begins, begins_first, test_false, test_more}
+use Rattle.rq_cells.proofs.HeadBytes.{checked_head, begins_with_mark, none_without_mark, length-head_bytes, length-name_spelled, head_at-begins}
 use Rattle.rq_cells.proofs.CellBytes.{length-cell_bytes, length-payload_spelled}
 
 -- bytes that hold a head, and others behind them
@@ -167,6 +168,20 @@ module _ (h : Head) (bytes : List ℕ) (fits : IsHead h) where
           damaged = λ i. e i && le-leb (cell_size h.configuration) (length bytes) long i && is_none (cell i);
           other = and_right (is_some (head_at bytes)) (not (has_head h bytes)) (ap not e);
         }
+
+-- where the first byte isn't the mark's, no head begins
+pub unmarked : (bytes : List ℕ) (at : ℕ) → at < length bytes → (get_or bytes at 0 ≡ 82 → ⊥) → StartsWith (drop at bytes) mark → ⊥
+unmarked bytes at below other starts =
+    let is : drop at bytes ≡ get_or bytes at 0 ∷ drop (suc at) bytes = drop-cons bytes at 0 below in
+    let front : take 4 (get_or bytes at 0 ∷ drop (suc at) bytes) ≡ mark = ap (take 4) (sym is) ∙ starts in
+    other (ap (λ xs. get_or xs 0 0) front)
+
+pub nothing_unmarked : (h : Head) (bytes : List ℕ) (at : ℕ) → IsHead h → at < length bytes → (get_or bytes at 0 ≡ 82 → ⊥) → head_size ≤ length bytes - at → Begins h (drop at bytes) None false false
+nothing_unmarked h bytes at fits below other long =
+    let here = drop at bytes in
+    let enough : head_size ≤ length here = omega (arith, long, length-drop at bytes) in
+    without_head h here fits enough (test_false here (head_bytes h) (λ starts. unmarked bytes at below other (begins_with_mark here h fits.name (begins_first here (checked_head h) (check_of 4 (checked_head h)) starts))))
+    None (none_without_mark here enough (unmarked bytes at below other))
 
 -- open bytes are shorter than a cell
 pub open_is_short : (h : Head) (bytes : List ℕ) → is_open h bytes ≡ true → length bytes < cell_size h.configuration

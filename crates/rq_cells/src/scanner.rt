@@ -121,6 +121,11 @@ impl CellScanner {
             others: 0,
         };
         'places: while scan.places < bytes.len() {
+            // Most places are quickly told not to be a head's.
+            if bytes[scan.places] != MARK[0] && bytes.len() - scan.places >= HEAD_LENGTH {
+                scan.places += 1;
+                continue;
+            }
             match self.look(alloc, &bytes[scan.places..])? {
                 Place::Open => break,
                 Place::Nothing => {}
@@ -132,6 +137,7 @@ impl CellScanner {
         }
         Ok(scan)
     }
+
     /// How many heads in some bytes are those of other objects, at whatever places.
     pub fn count_others(&self, bytes: &[u8]) -> usize
         ensures { result ≡ others_in self.now bytes.now }

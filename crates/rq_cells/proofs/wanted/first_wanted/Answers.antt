@@ -1,9 +1,12 @@
-use Rattle.std.proofs.Common.{◌≡◌, ℕ, Option, ◌+◌, ◌<◌, sym, subst, ◌∙◌, length, drop, arith, refl, true, false}
-use Rattle.std.proofs.lemmas.List.{take_rest}
+use Rattle.std.proofs.Common.{◌≡◌, ℕ, Option, ◌+◌, ◌<◌, ◌≤◌, sym, subst, ◌∙◌, length, drop, arith, refl, true, false}
+use Rattle.std.proofs.lemmas.List.{take_rest, length-drop}
 use Rattle.rq_standard.specs.TableRows.{greatest_size}
 use Rattle.rq_cells.specs.declared.wanted.Heads.{Heads}
 use Rattle.rq_cells.specs.Wanted.{IsCandidate}
-use Rattle.rq_cells.proofs.WantedCells.{SearchedTo, searched_more, searched_open}
+use Rattle.rq_cells.proofs.WantedCells.{SearchedTo, nothing_without_head, searched_more, searched_open}
+use Rattle.rq_cells.specs.Cells.{head_size}
+use Rattle.rq_cells.proofs.HeadBytes.{none_without_mark}
+use Rattle.rq_cells.proofs.Scanning.{unmarked}
 use Rattle.rq_cells.proofs.wanted.first_wanted.Goals as goal
 use Rattle.rq_cells.proofs.wanted.first_wanted.Goals.{in-Open, in-Nothing, in-Damaged, in-Other}
 
@@ -51,3 +54,17 @@ loop-at-preserved c =
             (searched_more greatest name bytes at heads (record { damaged = heads.damaged; others = heads.others + 1 }) false false true here below same refl pending refl before)
       ];
     }
+
+pub loop-at-preserved-then-bytes-at-ge-HEAD_LENGTH : goal.loop-at-preserved-then-bytes-at-ge-HEAD_LENGTH
+loop-at-preserved-then-bytes-at-ge-HEAD_LENGTH c =
+    let greatest = greatest_size c.args.table.now in
+    let name = c.args.name.now in
+    let bytes = c.args.bytes.now in
+    let at = c.loop-at.at in
+    let heads = c.loop-at.heads in
+    let below : at < length bytes = omega (arith, c.loop-at-test.true, c.loop-at.auto.at-end) in
+    let long : head_size ≤ length (drop at bytes) = omega (arith, c.if-bytes-at-ge-HEAD_LENGTH.true, length-drop at bytes) in
+    let here = nothing_without_head greatest name (drop at bytes) long (none_without_mark (drop at bytes) long (unmarked bytes at below c.if-bytes-at.true)) in
+    let same : heads.damaged ≡ heads.damaged + 0 = omega arith in
+    let same_others : heads.others ≡ heads.others + 0 = omega arith in
+    record { searched = searched_more greatest name bytes at heads heads false false false here below same same_others c.loop-at.pending refl c.loop-at.invariant.searched }
