@@ -4,4 +4,5 @@ pub mod Hashed
 pub mod Needed
 pub mod Receiving
 pub mod Searched
+pub mod SentCells
 pub mod TakenPackets

@@ -1,7 +1,10 @@
+pub mod Ids
 pub mod Input
 pub mod Missing
 pub mod Reading
 pub mod Received
 pub mod Receiving
 pub mod Searching
+pub mod Sent
 pub mod Taken
+pub mod Writing

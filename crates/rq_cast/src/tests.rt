@@ -6,6 +6,8 @@ use std::alloc::Global;
 use std::io;
 use std::io::{ErrorKind, Read};
 
+mod sending;
+
 const OBJECT: [u8; 3] = [7, 8, 9];
 
 // The cells of that object in symbols of two bytes, as Python's hashlib has them, one of a block that

@@ -1,7 +1,8 @@
 //! A cell, and its bytes.
-ghost use Rattle.std.specs.Prelude.{◌≡◌, Ok, IfOk, IfErr, true};
+ghost use Rattle.std.specs.Prelude.{◌≡◌, ◌++◌, Ok, OnOk, IfOk, IfErr, true};
 ghost use Rattle.rq_bytes.specs.Refusals.{IsAnswer};
-ghost use Rattle.rq_cells.specs.Cells.{cell_bytes, cell_at, cell_behind};
+ghost use Rattle.rq_standard.specs.Packet.{packet_bytes};
+ghost use Rattle.rq_cells.specs.Cells.{with_check, cell_bytes, cell_at, cell_behind};
 ghost use Rattle.rq_cells.specs.Found.{has_head};
 
 use crate::head::{HEAD_LENGTH, Head, check_of};
@@ -27,10 +28,12 @@ impl Cell {
     pub fn serialize(&self, alloc: Global) -> Result<Vec<u8>, Error>
         ensures { IsAnswer (λ v. v.items) result (Ok (cell_bytes self.now)) }
     {
-        let mut bytes = self.head.serialize(alloc)?;
-        bytes.extend_from_slice(self.packet.serialize(alloc)?.as_slice())?;
-        let check: [u8; CHECK_LENGTH] = check_of(bytes.as_slice());
-        bytes.extend_from_slice(&check)?;
+        let mut bytes = Vec::new(alloc);
+        fill_cell(
+            self.head.serialize(alloc)?.as_slice(),
+            &self.packet,
+            &mut bytes,
+        )?;
         Ok(bytes)
     }
 
@@ -45,6 +48,22 @@ impl Cell {
             None => Ok(None),
         }
     }
+}
+
+/// Puts a cell into a buffer, in place of what it holds: the one of a packet behind the bytes of its
+/// object's head ([`Head::serialize`]). One buffer does for many cells, and the head is hashed once.
+/// Refuses [`Error::OutOfMemory`] alone.
+pub fn fill_cell(head: &[u8], packet: &EncodingPacket, bytes: &mut Vec<u8>) -> Result<(), Error>
+    ensures value { OnOk result (bytes.new.items ≡ with_check 8 (head.now ++ packet_bytes packet.now)) }
+    ensures memory { IfErr result (λ e. e ≡ Error.OutOfMemory) }
+{
+    bytes.clear();
+    bytes.extend_from_slice(head)?;
+    bytes.extend_from_slice(&packet.payload_id().serialize())?;
+    bytes.extend_from_slice(packet.data())?;
+    let check: [u8; CHECK_LENGTH] = check_of(bytes.as_slice());
+    bytes.extend_from_slice(&check)?;
+    Ok(())
 }
 
 /// The cell whose bytes these begin with, if they do, where they begin with its head.

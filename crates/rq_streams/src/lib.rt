@@ -14,6 +14,6 @@ pub use counted::Counted;
 pub use ending::report;
 pub use jobs::Job;
 pub use receive::{run_receive, write_object};
-pub use run::{Outcome, Stop};
+pub use run::{Outcome, Stop, flush, read_all, write_bytes};
 pub use send::run_send;
 pub use words::job;

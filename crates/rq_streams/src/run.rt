@@ -48,8 +48,9 @@ impl From<AllocError> for Stop {
 // How many bytes are read at once, as many as a pipe holds.
 const CHUNK: usize = 65536;
 
-/// All that is left to read. The first failed call ends it with a fault.
-pub(crate) fn read_all<R: Read>(alloc: Global, reader: &mut Counted<R>) -> Result<Vec<u8>, Stop>
+/// All that is left to read. The first failed call ends it with [`Stop::Fault`]. Refuses
+/// [`Error::OutOfMemory`] alone.
+pub fn read_all<R: Read>(alloc: Global, reader: &mut Counted<R>) -> Result<Vec<u8>, Stop>
     requires { failed_count reader.old < 2 ^ 64 - 1 }
     ensures bytes { IfOk result (λ v. IfSome (R.remaining (inner reader.old)) (λ input. v.items ≡ input)) }
     ensures counts { failed_count reader.new ≡ failed_count reader.old + failed_calls result }
@@ -68,8 +69,9 @@ pub(crate) fn read_all<R: Read>(alloc: Global, reader: &mut Counted<R>) -> Resul
     }
 }
 
-/// Writes the bytes. The first failed call ends it with a fault.
-pub(crate) fn write_bytes<W: Write>(writer: &mut Counted<W>, bytes: &[u8]) -> Result<(), Stop>
+/// Writes the bytes, by as many calls as it takes. The first failed call ends it with
+/// [`Stop::Fault`], and a beginning of the bytes may be written.
+pub fn write_bytes<W: Write>(writer: &mut Counted<W>, bytes: &[u8]) -> Result<(), Stop>
     requires { failed_count writer.old < 2 ^ 64 - 1 }
     ensures bytes { OnOk result (Appends (W.contents (inner writer.old)) (W.contents (inner writer.new)) bytes.now) }
     ensures counts { failed_count writer.new ≡ failed_count writer.old + failed_calls result }
@@ -90,8 +92,8 @@ pub(crate) fn write_bytes<W: Write>(writer: &mut Counted<W>, bytes: &[u8]) -> Re
     Ok(())
 }
 
-/// Flushes once, behind all that is written. A failed call is a fault.
-pub(crate) fn flush<W: Write>(writer: &mut Counted<W>) -> Result<(), Stop>
+/// Flushes once, behind all that is written. A failed call is [`Stop::Fault`].
+pub fn flush<W: Write>(writer: &mut Counted<W>) -> Result<(), Stop>
     requires { failed_count writer.old < 2 ^ 64 - 1 }
     ensures bytes { Keeps (W.contents (inner writer.old)) (W.contents (inner writer.new)) }
     ensures counts { failed_count writer.new ≡ failed_count writer.old + failed_calls result }

@@ -1,0 +1,88 @@
+-- Which cells a sender sends, and what is written of them.
+use Rattle.std.specs.Prelude.{◌≡◌, ◌↔◌, ◌⊎◌, ℕ, zero, suc, ◌+◌, ◌*◌, ◌/◌, ◌%◌, ◌<◌, ◌≤◌, List, [], ◌++◌, take, Option, Err}
+use Rattle.std.specs.Io.KnownBytes.{Appends}
+use Rattle.rq_bytes.specs.declared.error.Error.TheVariants.{OutOfMemory}
+use Rattle.rq_standard.specs.Configuration.{Configuration}
+use Rattle.rq_standard.specs.Packet.{SymbolId, Packet}
+use Rattle.raptorq.specs.Encoder.{Encoded, encoded_of, IsPacketIn}
+use Rattle.rq_streams.specs.Ends.{failed_calls}
+use Rattle.rq_streams.specs.declared.run.Stop.{Stop}
+use Rattle.rq_streams.specs.declared.run.Stop.TheVariants.{Fault, Refused}
+use Rattle.rq_cells.specs.declared.head.Head.{Head}
+use Rattle.rq_cells.specs.Cells.{name_of, cell_bytes}
+use Rattle.rq_cast.specs.declared.series.Series.{Series}
+use Rattle.rq_cast.specs.declared.sending.Sender.{Sender}
+
+-- ---- which cells
+
+-- those of the ids first, first + step, .. that are below an end
+pub record IsSeries (first step end : ℕ) (s : Series) : Type 0 where
+  pub begins : s.first ≡ first
+  pub by : s.step ≡ step
+  pub below : (k : ℕ) → (k < s.count) ↔ (first + step * k < end)
+
+-- what a sender sends: packets of an object's encoder, under the head of its cells, with these ids
+pub record Sending : Type 0 where
+  pub encoded : Encoded
+  pub head : Head
+  pub series : Series
+
+abbrev pub sending_of : Sender → Sending
+sending_of s = record { encoded = encoded_of s.encoder; head = s.head; series = s.series }
+
+-- the head of an object's cells
+abbrev pub object_head : List ℕ → Configuration → Head
+object_head object c = record { name = name_of object; configuration = c }
+
+-- how many cells are sent: one of each block for each id
+abbrev pub cell_count : Sending → ℕ
+cell_count s = s.series.count * s.encoded.configuration.source_blocks
+
+-- which symbol the cell of a number carries: those of all blocks in turn, id by id
+abbrev pub sent_id : Sending → ℕ → SymbolId
+sent_id s i = let z = s.encoded.configuration.source_blocks in record { block = i % z; esi = s.series.first + s.series.step * (i / z) }
+
+-- the bytes of the cell of a number, with a packet of the object whose encoder it is
+pub record IsSentCell (s : Sending) (i : ℕ) (bytes : List ℕ) : Type 0 where
+  pub packet : Packet
+  pub id : packet.id ≡ sent_id s i
+  pub of_object : IsPacketIn s.encoded packet
+  pub spelled : bytes ≡ cell_bytes (record { head = s.head; packet = packet })
+
+-- ---- what is written
+
+-- the first n cells one behind another, but for those that were lost
+abbrev pub AreSent : Sending → ℕ → List ℕ → ℕ → Type 0
+AreSent s zero written lost = (written ≡ []) × (lost ≡ 0)
+AreSent s (suc n) written lost =
+    ((before : ℕ) × AreSent s n written before × (lost ≡ before + 1))
+    ⊎ ((front : List ℕ) × (bytes : List ℕ) × AreSent s n front lost × IsSentCell s n bytes × (written ≡ front ++ bytes))
+
+-- the first n cells are written but for so many that were lost, and then these bytes
+pub record SendsFirst (s : Sending) (n lost : ℕ) (behind : List ℕ) (there then : Option (List ℕ)) : Type 0 where
+  pub written : List ℕ
+  pub sent : AreSent s n written lost
+  pub appended : Appends there then (written ++ behind)
+
+-- a beginning of the cell of a number, where there is one
+pub record IsBegun (s : Sending) (n : ℕ) (bytes : List ℕ) : Type 0 where
+  pub within : n < cell_count s
+  pub cell : List ℕ
+  pub sent : IsSentCell s n cell
+  pub taken : ℕ
+  pub begun : bytes ≡ take taken cell
+
+-- a failed call may leave a beginning of the next cell, and want of memory leaves none
+abbrev pub StopsBehind : Sending → ℕ → List ℕ → Stop → Type 0
+StopsBehind s n bytes Fault = (bytes ≡ []) ⊎ IsBegun s n bytes
+StopsBehind s n bytes (Refused e) = (e ≡ OutOfMemory) × (bytes ≡ [])
+
+-- Some of the first cells are written or lost, where so many calls had failed before and after: one for each that was lost, and the one that ended it.
+pub record StopsSending (s : Sending) (before after : ℕ) (there then : Option (List ℕ)) (stop : Stop) : Type 0 where
+  pub number : ℕ
+  pub within : number ≤ cell_count s
+  pub lost : ℕ
+  pub behind : List ℕ
+  pub sends : SendsFirst s number lost behind there then
+  pub stopped : StopsBehind s number behind stop
+  pub counts : after ≡ before + lost + failed_calls {X = ℕ} (Err stop)

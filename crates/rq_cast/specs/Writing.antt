@@ -1,0 +1,15 @@
+-- What is written of one cell.
+use Rattle.std.specs.Prelude.{ℕ, Bool, true, false, List, Option, Result, Ok, Err}
+use Rattle.std.specs.Io.KnownBytes.{Keeps, Appends}
+use Rattle.rq_streams.specs.declared.run.Stop.{Stop}
+
+-- a cell is written, or lost
+abbrev pub WritesCell : Option (List ℕ) → Option (List ℕ) → List ℕ → Bool → Type 0
+WritesCell there then bytes true = Appends there then bytes
+WritesCell there then bytes false = Keeps there then
+
+-- how many calls failed: one where a cell is lost, or where writing stops
+abbrev pub failed_writes : Result Bool Stop → ℕ
+failed_writes (Ok true) = 0
+failed_writes (Ok false) = 1
+failed_writes (Err stop) = 1

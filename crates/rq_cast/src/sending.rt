@@ -1,0 +1,161 @@
+//! How an object's cells are sent.
+ghost use Rattle.std.specs.Prelude.{◌≡◌, ℕ, ◌+◌, ◌-◌, ◌^◌, ◌<◌, OnOk, OnErr, IfOk, IfErr, Ok, [], take, length};
+ghost use Rattle.std.specs.Io.KnownBytes.{Appends};
+ghost use Rattle.rq_streams.specs.Counted.{failed_count, inner};
+ghost use Rattle.rq_cast.specs.Writing.{WritesCell, failed_writes};
+
+use crate::series::{Repair, Series};
+use raptorq::base::PayloadId;
+use raptorq::error::Error;
+use raptorq::systematic_constants::SystematicTable;
+use raptorq::{Encoder, ObjectTransmissionInformation};
+use rq_cells::{Head, fill_cell, name_of};
+use rq_streams::{Counted, Stop, flush, write_bytes};
+use std::alloc::Global;
+use std::io::{ErrorKind, Write};
+
+/// What waits before each cell, so that no more are sent in a time than are wanted.
+pub trait Pace {
+    /// Waits until so many bytes may be sent.
+    fn wait(&mut self, bytes: usize);
+}
+
+// Writes a cell, by one call so that a datagram is one, and of a short write the rest behind it.
+// Answers whether it is written: a datagram that nobody listens for is lost.
+fn write_cell<W: Write>(writer: &mut Counted<W>, cell: &[u8]) -> Result<bool, Stop>
+    requires some { 0 < length cell.now }
+    requires room { failed_count writer.old < 2 ^ 64 - 1 }
+    ensures writes { IfOk result (WritesCell (W.contents (inner writer.old)) (W.contents (inner writer.new)) cell.now) }
+    ensures counts { failed_count writer.new ≡ failed_count writer.old + failed_writes result }
+    ensures stops { IfErr result (λ stop. stop ≡ Stop.Fault) }
+    ensures beginning { OnErr result ((n : ℕ)
+        × Appends (W.contents (inner writer.old)) (W.contents (inner writer.new)) (take n cell.now)) }
+{
+    match writer.write(cell) {
+        Ok(0) => Err(Stop::Fault),
+        Ok(n) => {
+            write_bytes(writer, &cell[n..])?;
+            Ok(true)
+        }
+        Err(error) if error.kind() == ErrorKind::ConnectionRefused => Ok(false),
+        Err(_) => Err(Stop::Fault),
+    }
+}
+
+/// Sends an object's cells: those of all its blocks in turn, id by id.
+#[derive(Debug, PartialEq, Eq, Drop)]
+pub struct Sender {
+    encoder: Encoder,
+    head: Head,
+    series: Series,
+}
+
+impl Sender {
+    ghost use Rattle.rq_standard.specs.Configuration.{largest_block};
+    ghost use Rattle.rq_standard.specs.Headline.{HasNonsingularRows};
+    ghost use Rattle.rq_standard.specs.TableRows.{greatest_size};
+    ghost use Rattle.raptorq.specs.Encoder.{IsEncoderOf};
+    ghost use Rattle.raptorq.specs.Refused.{new_encoder, RefusesEncoder};
+    ghost use Rattle.rq_cells.specs.Cells.{head_bytes};
+    ghost use Rattle.rq_cast.specs.Ids.{id_end};
+    ghost use Rattle.rq_cast.specs.Sent.{IsSeries, sending_of, object_head, cell_count, IsSentCell, SendsFirst, StopsSending};
+
+    /// The sender of an object, in bytes. It sends the symbols whose ids are `first`, `first + step`,
+    /// .. up to the last source symbol of the largest block, and to so many repair symbols behind it.
+    /// Where the first is none of these it sends nothing.
+    ///
+    /// Refuses what [`Encoder::new`] refuses.
+    pub fn new(
+        alloc: Global,
+        table: &SystematicTable,
+        configuration: ObjectTransmissionInformation,
+        object: &[u8],
+        repair: Repair,
+        first: u32,
+        step: u32,
+    ) -> Result<Sender, Error>
+        requires { 0 < step }
+        ensures refused { IfErr result (RefusesEncoder table.now configuration (length object.now)) }
+        ensures taken { OnOk result (new_encoder (greatest_size table.now) configuration (length object.now) ≡ Ok tt) }
+        ensures nonsingular { OnOk result (HasNonsingularRows table.now configuration) }
+        ensures encoder { IfOk result (λ s. IsEncoderOf table.now object.now (sending_of s).encoded) }
+        ensures configuration { IfOk result (λ s. (sending_of s).encoded.configuration ≡ configuration) }
+        ensures head { IfOk result (λ s. (sending_of s).head ≡ object_head object.now configuration) }
+        ensures series { IfOk result (λ s. IsSeries first step (id_end (largest_block configuration) repair) (sending_of s).series) }
+    {
+        let encoder = Encoder::new(alloc, table, object, configuration)?;
+        let end = repair.end(configuration.largest_block());
+        Ok(Sender {
+            encoder,
+            head: Head {
+                name: name_of(object),
+                configuration,
+            },
+            series: Series::new(first, step, end),
+        })
+    }
+
+    /// What all its cells begin with.
+    pub fn head(&self) -> Head
+        ensures { result ≡ (sending_of self.now).head }
+    {
+        self.head
+    }
+
+    /// How many cells it sends.
+    pub fn cells(&self) -> u64
+        ensures value { result ≡ cell_count (sending_of self.now) }
+        ensures few { result < 2 ^ 32 }
+    {
+        u64::from(self.series.count) * u64::from(self.encoder.get_config().source_blocks())
+    }
+
+    // Puts the cell of a number into a buffer, behind the bytes of the head.
+    fn fill(&self, head: &[u8], number: u64, cell: &mut Vec<u8>) -> Result<(), Error>
+        requires number { number < cell_count (sending_of self.now) }
+        requires head { head.now ≡ head_bytes (sending_of self.now).head }
+        ensures cell { OnOk result (IsSentCell (sending_of self.now) number cell.new.items) }
+        ensures memory { IfErr result (λ e. e ≡ Error.OutOfMemory) }
+    {
+        let blocks = u64::from(self.encoder.get_config().source_blocks());
+        let id = self.series.first + self.series.step * (number / blocks) as u32;
+        let packet = self
+            .encoder
+            .packet(PayloadId::new((number % blocks) as u8, id)?)?;
+        fill_cell(head, &packet, cell)
+    }
+
+    /// Writes its cells, one of each block for each id, and flushes then. Answers how many were lost.
+    ///
+    /// It waits before each cell, which is one call: on a socket of datagrams a cell is one. Of a
+    /// short write the rest follows. A cell is lost where its call fails with
+    /// [`ErrorKind::ConnectionRefused`], as datagrams do that nobody listens for, and the next one
+    /// is written then. Each other failed call ends it with [`Stop::Fault`], and a beginning of a cell
+    /// may be written. Refuses [`Error::OutOfMemory`] alone, at any cell.
+    pub fn send<W: Write, P: Pace>(
+        &self,
+        alloc: Global,
+        writer: &mut Counted<W>,
+        pace: &mut P,
+    ) -> Result<u64, Stop>
+        requires { failed_count writer.old < 2 ^ 64 - 2 ^ 32 }
+        ensures sends { IfOk result (λ lost. SendsFirst (sending_of self.now) (cell_count (sending_of self.now)) lost []
+            (W.contents (inner writer.old)) (W.contents (inner writer.new))) }
+        ensures counts { IfOk result (λ lost. failed_count writer.new ≡ failed_count writer.old + lost) }
+        ensures stops { IfErr result (StopsSending (sending_of self.now) (failed_count writer.old) (failed_count writer.new)
+            (W.contents (inner writer.old)) (W.contents (inner writer.new))) }
+    {
+        let head = self.head.serialize(alloc)?;
+        let mut cell = Vec::new(alloc);
+        let mut lost = 0;
+        for number in 0..self.cells() {
+            self.fill(head.as_slice(), number, &mut cell)?;
+            pace.wait(cell.len());
+            if !write_cell(writer, cell.as_slice())? {
+                lost += 1;
+            }
+        }
+        flush(writer)?;
+        Ok(lost)
+    }
+}

@@ -1,0 +1,65 @@
+//! Which encoding symbol ids are sent.
+ghost use Rattle.std.specs.Prelude.{◌≡◌, ℕ, ◌+◌, ◌*◌, ◌^◌, ◌<◌, ◌≤◌};
+ghost use Rattle.rq_cast.specs.Ids.{AreIds};
+
+use raptorq::base::ENCODING_SYMBOL_IDS;
+
+/// How many repair packets a block has.
+#[derive(Clone, Copy, Debug, PartialEq, Eq)]
+pub enum Repair {
+    /// So many.
+    Packets(u32),
+    /// So many for each hundred source symbols of the largest block, rounded up.
+    Percent(u32),
+    /// All that there are ids for.
+    All,
+}
+
+impl Repair {
+    ghost use Rattle.rq_cast.specs.Ids.{id_end};
+
+    /// The first encoding symbol id that isn't sent any more, one for all blocks, where the largest
+    /// has so many source symbols. There are 2^24 ids.
+    pub fn end(self, largest_block: u64) -> u32
+        requires { largest_block < 65536 }
+        ensures { result ≡ id_end largest_block self }
+    {
+        let all = u64::from(ENCODING_SYMBOL_IDS);
+        let repair = match self {
+            Repair::Packets(number) => u64::from(number),
+            Repair::Percent(percent) => (largest_block * u64::from(percent)).div_ceil(100),
+            Repair::All => all,
+        };
+        all.min(largest_block + repair) as u32
+    }
+}
+
+/// Encoding symbol ids: the first one, and others `step` apart. None has more than 24 bits.
+#[derive(Clone, Copy, Debug, PartialEq, Eq)]
+pub struct Series {
+    /// The first.
+    pub first: u32,
+    /// How far the next one is.
+    pub step: u32,
+    /// How many there are.
+    pub count: u32,
+    pub ghost few: { count ≤ 2 ^ 24 },
+    pub ghost ids: { AreIds first step count },
+}
+
+impl Series {
+    ghost use Rattle.rq_cast.specs.Sent.{IsSeries};
+
+    /// Those of the ids `first`, `first + step`, .. that are below an end.
+    pub fn new(first: u32, step: u32, end: u32) -> Series
+        requires step { 0 < step }
+        requires end { end ≤ 2 ^ 24 }
+        ensures { IsSeries first step end result }
+    {
+        Series {
+            first,
+            step,
+            count: end.saturating_sub(first).div_ceil(step),
+        }
+    }
+}
