@@ -85,9 +85,9 @@ def further_rows(crate):
     return [number for row in rows if int(row[0]) > 497 for number in row]
 
 
-def numbers(name, constant):
-    """The numbers of a constant of rq_standard."""
-    with open(f"{TOP}/crates/rq_standard/src/{name}.rt") as source:
+def numbers(name, constant, crate="rq_standard"):
+    """The numbers of a constant of a crate."""
+    with open(f"{TOP}/crates/{crate}/src/{name}.rt") as source:
         return list(map(int, re.findall(r"\d+", source.read().split(f"const {constant}:", 1)[1].split("=", 1)[1].split("];", 1)[0])))
 
 
@@ -98,9 +98,8 @@ def is_prime(number):
 def all_rows():
     """All rows of the table, as K', J, S, H, W and P1."""
     built_in, sizes = numbers("systematic_indices", "SYSTEMATIC_INDICES_AND_PARAMETERS"), numbers("p1_table", "P1_TABLE")
-    rows = [built_in[at : at + 5] for at in range(0, len(built_in), 5)]
-    with open(f"{TOP}/crates/example_tables/data/rows.txt") as further:
-        rows += [list(map(int, line.split())) for line in further]
+    all_numbers = built_in + numbers("further_rows", "FURTHER_ROWS", "rq_rows")
+    rows = [all_numbers[at : at + 5] for at in range(0, len(all_numbers), 5)]
     p1 = dict(zip(sizes[::2], sizes[1::2]))
     rows = [[*row, p1[row[0]]] for row in rows]
     assert all(is_prime(row[place]) for row in rows for place in (2, 4, 5)), "S, W and P1 are primes"

@@ -1,50 +1,23 @@
-//! Blocks of more than 497 symbols: the further rows of RFC 6330's table stand in a file, whose name
-//! is the program's argument (`rt run -- data/rows.txt`), and a table that has them is handed to the
+//! Blocks of more than 497 symbols: a table that has the further rows of RFC 6330, too, is handed to the
 //! encoder and the decoder.
 #![tactic(auto)]
 
-use anyhow::{Context, Result, bail};
+use anyhow::Result;
 use raptorq::systematic_constants::SystematicTable;
 use raptorq::{Decoder, Encoder, ObjectTransmissionInformation};
-use std::alloc::Global;
-use std::{env, fs};
-
-/// A row: K', J, S, H and W.
-type Row = (u32, u32, u32, u32, u32);
+use rq_rows::{FURTHER_ROWS, full_table};
 
 fn main(rt: HostRuntime) -> Result<()> {
-    let rows = read_rows(&rt)?;
-    let table = SystematicTable::with_rows(rt.alloc(), &rows)?;
-    let (count, greatest) = (rows.len(), table.greatest());
+    let table = full_table(rt.alloc())?;
+    let (count, greatest) = (FURTHER_ROWS.len(), table.greatest());
     println!(rt; "{count} further rows, for blocks of up to {greatest} symbols")?;
     send(&rt, &table)?;
-    damage(&rt, rows)
-}
-
-// The rows in the file that the program's argument names.
-fn read_rows(rt: &HostRuntime) -> Result<Vec<Row>> {
-    let alloc = rt.alloc();
-    let path = env::args(rt)?.nth(1).context("which file has the rows?")?;
-    let text = fs::read_to_string(rt, path.as_str()).context("reading the rows")?;
-    text.lines()
-        .map(|line| row_of(alloc, line))
-        .try_collect(alloc)
-}
-
-// The row that a line of five numbers is.
-fn row_of(alloc: Global, line: &str) -> Result<Row> {
-    let numbers: Vec<u32> = line
-        .split_whitespace()
-        .map(|word| word.parse().context(format_args!("reading {word:?}")))
-        .try_collect(alloc)?;
-    match numbers.as_slice() {
-        [size, index, ldpc, hdpc, lt] => Ok((*size, *index, *ldpc, *hdpc, *lt)),
-        _ => bail!("{line:?} is no row"),
-    }
+    damage(&rt)
 }
 
 // Gives the first row an even number of LDPC symbols: no table has it.
-fn damage(rt: &HostRuntime, mut rows: Vec<Row>) -> Result<()> {
+fn damage(rt: &HostRuntime) -> Result<()> {
+    let mut rows = Vec::from_slice(rt.alloc(), &FURTHER_ROWS)?;
     if let Some(row) = rows.first_mut() {
         row.2 = 36;
     }
