@@ -1,6 +1,7 @@
 /* Block after block of one size by one plan, which is closed before their packets are written. The plan is made once,
  * and each block's source and repair packets are written by one call. Two threads write the packets of an object by
- * handles that share its encoder. A decoder takes all that isn't lost. */
+ * handles that share its encoder. A decoder takes all of a block that isn't lost in one call, and a copy that was made of
+ * it before has none of it. */
 #include <pthread.h>
 #include <stdio.h>
 #include <stdlib.h>
@@ -36,9 +37,9 @@ static void write_by_plan(const uint8_t *configuration)
     struct reamertan_handle plan = REAMERTAN_HANDLE_INIT, encoders[BLOCKS] = {REAMERTAN_HANDLE_INIT};
     check("open_plan", reamertan_open_plan(NULL, 0, SOURCE_SYMBOLS, &plan));
     for (unsigned block = 0; block < BLOCKS; block++)
-        check("open_block_encoder",
-              reamertan_open_block_encoder(NULL, 0, configuration, (uint8_t)block, object + block * BLOCK_BYTES,
-                                           BLOCK_BYTES, &plan, &encoders[block]));
+        check("open_planned_encoder",
+              reamertan_open_planned_encoder(configuration, (uint8_t)block, object + block * BLOCK_BYTES, BLOCK_BYTES,
+                                             &plan, &encoders[block]));
     reamertan_close(&plan);
     for (unsigned block = 0; block < BLOCKS; block++) {
         check("write_block_packets",
@@ -88,16 +89,18 @@ int main(void)
     write_by_plan(configuration);
     write_by_threads(configuration);
 
-    struct reamertan_handle decoder = REAMERTAN_HANDLE_INIT;
+    struct reamertan_handle decoder = REAMERTAN_HANDLE_INIT, copy = REAMERTAN_HANDLE_INIT;
     check("open_decoder", reamertan_open_decoder(NULL, 0, configuration, &decoder));
+    check("copy_decoder", reamertan_copy_decoder(&decoder, &copy));
     for (unsigned block = 0; block < BLOCKS; block++)
-        for (unsigned packet = LOST; packet < PACKETS; packet++)
-            check("add_packet",
-                  reamertan_add_packet(&decoder, by_plan[block] + packet * PACKET_BYTES, PACKET_BYTES));
+        check("add_packets",
+              reamertan_add_packets(&decoder, by_plan[block] + LOST * PACKET_BYTES, (PACKETS - LOST) * PACKET_BYTES));
     check("is_complete", reamertan_is_complete(&decoder));
     check("write_object", reamertan_write_object(&decoder, back, sizeof back));
     reamertan_close(&decoder);
-    int same = memcmp(by_plan, by_threads, sizeof by_plan) == 0 && memcmp(object, back, sizeof object) == 0;
+    int none = reamertan_is_complete(&copy) == REAMERTAN_INCOMPLETE;
+    reamertan_close(&copy);
+    int same = none && memcmp(by_plan, by_threads, sizeof by_plan) == 0 && memcmp(object, back, sizeof object) == 0;
     printf("%zu bytes in %d blocks by one plan, and by two threads: %s\n", sizeof object, BLOCKS,
            same ? "the same" : "others");
     return !same;

@@ -85,6 +85,9 @@ static void handles(void)
     expect("an id of 25 bits", 11, reamertan_write_packet(&sender, 1, 1 << 24, buffer, 6));
     expect("of no block", 14, reamertan_write_packet(&sender, 1, 0, buffer, 6));
     expect("room for 5", 24, reamertan_write_packet(&sender, 0, 0, buffer, 5));
+    expect("a copy of none", 26, reamertan_copy_decoder(&none, &receiver));
+    expect("a copy of a sender", 26, reamertan_copy_decoder(&sender, &receiver));
+    expect("many packets for a sender", 26, reamertan_add_packets(&sender, PACKETS, 12));
     expect("opened", 0, reamertan_open_decoder(NULL, 0, HEADER, &receiver));
     expect("symbols of 0 bytes", 5, reamertan_open_decoder(NULL, 0, over, &receiver));
     expect("packets of a receiver", 26, reamertan_write_packet(&receiver, 0, 0, buffer, 6));
@@ -93,6 +96,9 @@ static void handles(void)
     expect("a cut id", 12, reamertan_add_packet(&receiver, PACKETS, 3));
     expect("a foreign block", 14, reamertan_add_packet(&receiver, (const uint8_t[]){1, 0, 0, 0}, 4));
     expect("a cut symbol", 13, reamertan_add_packet(&receiver, PACKETS, 5));
+    expect("a packet and a half", 13, reamertan_add_packets(&receiver, PACKETS, 9));
+    expect("a foreign block of two", 14, reamertan_add_packets(&receiver, (const uint8_t[]){1, 0, 0, 0, 7, 8, 0, 0, 0, 0, 7, 8}, 12));
+    expect("no packets", 0, reamertan_add_packets(&receiver, PACKETS, 0));
     expect("no packet yet", 25, reamertan_write_object(&receiver, buffer, 3));
     expect("one", 0, reamertan_add_packet(&receiver, PACKETS, 6));
     expect("one of two", 25, reamertan_write_object(&receiver, buffer, 3));
@@ -128,7 +134,7 @@ static void plans(void)
 {
     struct reamertan_handle none = REAMERTAN_HANDLE_INIT, plan = REAMERTAN_HANDLE_INIT, block = REAMERTAN_HANDLE_INIT,
                             twin = REAMERTAN_HANDLE_INIT;
-    const uint8_t bytes[] = {7, 8, 9, 0};
+    const uint8_t bytes[] = {7, 8, 9, 0}, zeros[REAMERTAN_CONFIGURATION_BYTES] = {0};
     expect("complete of none", 26, reamertan_is_complete(&none));
     expect("a further handle on none", 26, reamertan_share(&none, &twin));
     expect("by no plan", 26, reamertan_open_block_encoder(NULL, 0, HEADER, 0, bytes, 4, &none, &block));
@@ -141,6 +147,11 @@ static void plans(void)
     expect("half a symbol", 8, reamertan_open_block_encoder(NULL, 0, HEADER, 0, bytes, 3, &twin, &block));
     expect("one symbol of two", 10, reamertan_open_block_encoder(NULL, 0, HEADER, 0, bytes, 2, &twin, &block));
     expect("two symbols", 0, reamertan_open_block_encoder(NULL, 0, HEADER, 0, bytes, 4, &twin, &block));
+    expect("by a closed plan alone", 26, reamertan_open_planned_encoder(HEADER, 0, bytes, 4, &plan, &block));
+    expect("symbols of 0 bytes", 5, reamertan_open_planned_encoder(zeros, 0, bytes, 3, &twin, &block));
+    expect("half a symbol by it", 8, reamertan_open_planned_encoder(HEADER, 0, bytes, 3, &twin, &block));
+    expect("one symbol by it", 10, reamertan_open_planned_encoder(HEADER, 0, bytes, 2, &twin, &block));
+    expect("two symbols by it", 0, reamertan_open_planned_encoder(HEADER, 0, bytes, 4, &twin, &block));
     expect("packets of a plan", 26, reamertan_write_block_packets(&twin, 0, 2, buffer, 12));
     expect("of an object's encoder", 26, reamertan_write_packets(&block, 0, 0, 2, buffer, 12));
     expect("an id of 25 bits", 11, reamertan_write_block_packets(&block, (1 << 24) - 1, 2, buffer, 12));

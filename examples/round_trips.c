@@ -48,10 +48,11 @@ struct came {
     int answer;
 };
 
-/* Whether handles make the same packets, and answer those that came in the same way. */
+/* Whether handles make the same packets, and answer those that came in the same way: the first half one by one, and the
+ * others in one call, by a copy of the decoder. */
 static int by_handles(const struct object *object, const struct came *came)
 {
-    struct reamertan_handle handle = REAMERTAN_HANDLE_INIT;
+    struct reamertan_handle handle = REAMERTAN_HANDLE_INIT, copy = REAMERTAN_HANDLE_INIT;
     size_t size = object->size, length = object->length;
     uint8_t *made = bytes_of(size), *again = bytes_of(length);
     int good = reamertan_open_encoder(NULL, 0, object->configuration, object->bytes, length, &handle) == REAMERTAN_DONE;
@@ -62,11 +63,15 @@ static int by_handles(const struct object *object, const struct came *came)
                 && memcmp(made, id, size) == 0;
     }
     good &= reamertan_open_decoder(NULL, 0, object->configuration, &handle) == REAMERTAN_DONE;
-    for (size_t i = 0; i < came->count; i++)
+    size_t half = came->count / 2;
+    for (size_t i = 0; i < half; i++)
         good &= reamertan_add_packet(&handle, came->packets + size * i, size) == REAMERTAN_DONE;
-    good &= reamertan_write_object(&handle, again, length) == came->answer;
-    good &= came->answer != REAMERTAN_DONE || memcmp(again, came->back, length) == 0;
+    good &= reamertan_copy_decoder(&handle, &copy) == REAMERTAN_DONE;
     reamertan_close(&handle);
+    good &= reamertan_add_packets(&copy, came->packets + size * half, size * (came->count - half)) == REAMERTAN_DONE;
+    good &= reamertan_write_object(&copy, again, length) == came->answer;
+    good &= came->answer != REAMERTAN_DONE || memcmp(again, came->back, length) == 0;
+    reamertan_close(&copy);
     free(made), free(again);
     return good;
 }
@@ -123,7 +128,7 @@ static int find_plan(size_t symbols, struct reamertan_handle *plan)
     return good;
 }
 
-/* Opens the encoder of a block in both writers, by a plan which is then closed. */
+/* Opens the encoder of a block in both writers, by a plan which is then closed; of each second block by that alone. */
 static int open_block(const struct object *object, uint8_t block, struct writer writers[2])
 {
     struct reamertan_handle plan = REAMERTAN_HANDLE_INIT, encoder = REAMERTAN_HANDLE_INIT;
@@ -135,8 +140,10 @@ static int open_block(const struct object *object, uint8_t block, struct writer 
     if (range.start < end)
         memcpy(bytes, object->bytes + range.start, end - range.start);
     good &= find_plan(symbols, &plan);
-    good &= reamertan_open_block_encoder(NULL, 0, object->configuration, block, bytes, length, &plan, &encoder)
-            == REAMERTAN_DONE;
+    uint8_t answer = block % 2 == 0
+        ? reamertan_open_block_encoder(NULL, 0, object->configuration, block, bytes, length, &plan, &encoder)
+        : reamertan_open_planned_encoder(object->configuration, block, bytes, length, &plan, &encoder);
+    good &= answer == REAMERTAN_DONE;
     reamertan_close(&plan);
     free(bytes);
     writers[0].counts[block] = writers[1].counts[block] = (uint32_t)symbols + object->repair;

@@ -317,6 +317,16 @@ uint8_t reamertan_open_block_encoder(const struct reamertan_row *rows, size_t ro
                                      uint8_t block, const uint8_t *bytes, size_t length,
                                      struct reamertan_handle *plan, struct reamertan_handle *handle);
 
+/* Does the same by the plan alone, for blocks of one size one after another: with the rows that the plan was made of it
+ * is the same encoder, and no table is made of them.
+ *
+ * Refuses, in this order: NO_CODER where `plan` holds no plan, SYMBOL_SIZE_ZERO, ALIGNMENT_ZERO, MISALIGNED,
+ * WRONG_DATA_LENGTH where the bytes aren't whole symbols, PLAN_MISMATCH where the plan is for another number of them.
+ * OUT_OF_MEMORY may come before any but the first. Where it refuses, `handle` holds what it held. */
+uint8_t reamertan_open_planned_encoder(const uint8_t configuration[REAMERTAN_CONFIGURATION_BYTES], uint8_t block,
+                                       const uint8_t *bytes, size_t length, struct reamertan_handle *plan,
+                                       struct reamertan_handle *handle);
+
 /* Fills `packets` with `count` packets of the block whose encoder the handle holds, as `reamertan_write_packets` does.
  *
  * Refuses, in this order: NO_CODER where the handle holds no encoder of a block, ESI_TOO_LARGE, OUT_OF_MEMORY,
@@ -352,6 +362,20 @@ uint8_t reamertan_open_decoder(const struct reamertan_row *rows, size_t row_coun
  * one to be refused by the first four; hand it in again. */
 uint8_t reamertan_add_packet(struct reamertan_handle *handle, const uint8_t *packet,
                              size_t packet_length);
+
+/* Takes packets that lie one behind another, each of 4 + T bytes, in their order, as `reamertan_add_packet` takes each.
+ *
+ * Refuses, in this order: NO_CODER where the handle holds no decoder; WRONG_PAYLOAD_SIZE, before a packet is taken,
+ * where `length` isn't that of whole packets; and of the first packet that is refused UNKNOWN_BLOCK or CONTRADICTION, as
+ * `reamertan_add_packet` does. OUT_OF_MEMORY may come of any packet. Those before it are taken then, and those behind it
+ * aren't: after OUT_OF_MEMORY hand in all of them again. */
+uint8_t reamertan_add_packets(struct reamertan_handle *handle, const uint8_t *packets, size_t length);
+
+/* Makes `twin`, which isn't `handle`, a further decoder, with the packets and answers of the decoder that `handle` holds.
+ * A coder that it held is freed. From then on each takes packets by itself.
+ *
+ * Refuses NO_CODER where `handle` holds no decoder, and OUT_OF_MEMORY. Where it refuses, `twin` holds what it held. */
+uint8_t reamertan_copy_decoder(struct reamertan_handle *handle, struct reamertan_handle *twin);
 
 /* Tells whether the object is complete, which each of its blocks then is.
  *

@@ -128,6 +128,14 @@ uint8_t reamertan_open_block_encoder(const struct reamertan_row *rows, size_t ro
     return CHOSEN(reamertan_open_block_encoder)(rows, row_count, configuration, block, bytes, length, plan, handle);
 }
 
+extern __typeof__(reamertan_open_planned_encoder) v2_reamertan_open_planned_encoder, v3_reamertan_open_planned_encoder;
+uint8_t reamertan_open_planned_encoder(const uint8_t configuration[REAMERTAN_CONFIGURATION_BYTES], uint8_t block,
+                                       const uint8_t *bytes, size_t length, struct reamertan_handle *plan,
+                                       struct reamertan_handle *handle)
+{
+    return CHOSEN(reamertan_open_planned_encoder)(configuration, block, bytes, length, plan, handle);
+}
+
 extern __typeof__(reamertan_write_block_packets) v2_reamertan_write_block_packets, v3_reamertan_write_block_packets;
 uint8_t reamertan_write_block_packets(struct reamertan_handle *handle, uint32_t first, uint32_t count, uint8_t *packets,
                                       size_t packets_length)
@@ -153,6 +161,18 @@ extern __typeof__(reamertan_add_packet) v2_reamertan_add_packet, v3_reamertan_ad
 uint8_t reamertan_add_packet(struct reamertan_handle *handle, const uint8_t *packet, size_t packet_length)
 {
     return CHOSEN(reamertan_add_packet)(handle, packet, packet_length);
+}
+
+extern __typeof__(reamertan_add_packets) v2_reamertan_add_packets, v3_reamertan_add_packets;
+uint8_t reamertan_add_packets(struct reamertan_handle *handle, const uint8_t *packets, size_t length)
+{
+    return CHOSEN(reamertan_add_packets)(handle, packets, length);
+}
+
+extern __typeof__(reamertan_copy_decoder) v2_reamertan_copy_decoder, v3_reamertan_copy_decoder;
+uint8_t reamertan_copy_decoder(struct reamertan_handle *handle, struct reamertan_handle *twin)
+{
+    return CHOSEN(reamertan_copy_decoder)(handle, twin);
 }
 
 extern __typeof__(reamertan_is_complete) v2_reamertan_is_complete, v3_reamertan_is_complete;

@@ -56,7 +56,7 @@ CALLS: dict[str, tuple[Any, ...]] = {
     "open_encoder": (c_uint8, *ROWS, c_char_p, *BYTES, HANDLE),
     "write_packets": (c_uint8, HANDLE, c_uint8, c_uint32, c_uint32, *BYTES),
     "open_plan": (c_uint8, *ROWS, c_uint16, HANDLE),
-    "open_block_encoder": (c_uint8, *ROWS, c_char_p, c_uint8, *BYTES, HANDLE, HANDLE),
+    "open_planned_encoder": (c_uint8, c_char_p, c_uint8, *BYTES, HANDLE, HANDLE),
     "write_block_packets": (c_uint8, HANDLE, c_uint32, c_uint32, *BYTES),
     "open_decoder": (c_uint8, *ROWS, c_char_p, HANDLE),
     "add_packet": (c_uint8, HANDLE, *BYTES),

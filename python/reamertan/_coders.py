@@ -202,7 +202,7 @@ class SourceBlockEncoder(Coder):
         data, words = exact(data), (configured(config), number(source_block_id, 8, "a source block"))
         made = SourceBlockEncoder()
         made._size = PAYLOAD_ID_BYTES + config.symbol_size
-        must(plan._ask(lambda handle: calls.open_block_encoder(*ROWS, *words, data, len(data), handle, made._handle)))
+        must(plan._ask(lambda handle: calls.open_planned_encoder(*words, data, len(data), handle, made._handle)))
         return made
 
     def packets(self, first: int, count: int) -> list[bytes]:

@@ -20,6 +20,10 @@ pub const ENCODING_SYMBOL_IDS: u32 = 1 << 24;
 /// The memory in bytes that each sub-block is to fit, where nobody says another number.
 pub const DEFAULT_DECODER_MEMORY: u64 = 10 * 1024 * 1024;
 
+/// About how many bytes of packets cross in one call: few enough to stay in the processor's caches, and so many that the
+/// call itself doesn't count.
+pub const BYTES_AT_A_TIME: usize = 32 * 1024;
+
 /// A configuration as RFC 6330 writes it.
 pub type Configuration = [u8; CONFIGURATION_LENGTH];
 
@@ -166,9 +170,7 @@ unsafe extern "C" {
         source_symbols: u16,
         handle: *mut Handle,
     ) -> u8;
-    fn reamertan_open_block_encoder(
-        rows: *const Row,
-        row_count: usize,
+    fn reamertan_open_planned_encoder(
         configuration: *const Configuration,
         block: u8,
         bytes: *const u8,
@@ -190,7 +192,7 @@ unsafe extern "C" {
         configuration: *const Configuration,
         handle: *mut Handle,
     ) -> u8;
-    fn reamertan_add_packet(handle: *mut Handle, packet: *const u8, packet_length: usize) -> u8;
+    fn reamertan_add_packets(handle: *mut Handle, packets: *const u8, length: usize) -> u8;
     fn reamertan_is_complete(handle: *mut Handle) -> u8;
     fn reamertan_write_block(handle: *mut Handle, block: u8, bytes: *mut u8, length: usize) -> u8;
     fn reamertan_close(handle: *mut Handle);
@@ -337,27 +339,18 @@ impl Handle {
         answered(number, made)
     }
 
-    /// The encoder of a block alone, which is what the configuration is of, by a plan.
+    /// The encoder of a block by this plan.
     pub fn block_encoder(
+        &mut self,
         configuration: &Configuration,
         block: u8,
         bytes: &[u8],
-        plan: &mut Handle,
     ) -> Result<Handle, Refusal> {
-        let rows = rows_of(configuration);
         let mut made = Handle::empty();
+        let (at, length) = (bytes.as_ptr(), bytes.len());
         // SAFETY: as for encoders, and the handles are two.
         let number = unsafe {
-            reamertan_open_block_encoder(
-                rows.as_ptr(),
-                rows.len(),
-                configuration,
-                block,
-                bytes.as_ptr(),
-                bytes.len(),
-                plan,
-                &mut made,
-            )
+            reamertan_open_planned_encoder(configuration, block, at, length, self, &mut made)
         };
         answered(number, made)
     }
@@ -408,10 +401,10 @@ impl Handle {
         answered(number, made)
     }
 
-    /// Takes a packet, a payload id of 4 bytes and a symbol.
-    pub fn add_packet(&mut self, packet: &[u8]) -> Result<(), Refusal> {
+    /// Takes packets, each a payload id of 4 bytes and a symbol, up to the first that is refused.
+    pub fn add_packets(&mut self, packets: &[u8]) -> Result<(), Refusal> {
         // SAFETY: as above.
-        let number = unsafe { reamertan_add_packet(self, packet.as_ptr(), packet.len()) };
+        let number = unsafe { reamertan_add_packets(self, packets.as_ptr(), packets.len()) };
         answered(number, ())
     }
 

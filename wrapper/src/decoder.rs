@@ -3,7 +3,8 @@
 use crate::base::{EncodingPacket, ObjectTransmissionInformation, PayloadId};
 use crate::blocks::{GREATEST_BLOCK, calculate_block_offsets};
 use crate::calls::{
-    self, CONTRADICTION, Configuration, Handle, PAYLOAD_ID_LENGTH, Refusal, accepted,
+    self, BYTES_AT_A_TIME, CONTRADICTION, Configuration, Handle, PAYLOAD_ID_LENGTH, Refusal,
+    accepted,
 };
 use std::collections::BTreeMap;
 use std::fmt;
@@ -205,14 +206,18 @@ impl SourceBlockDecoder {
             Some(begun) => begun,
             None => (Handle::decoder(&self.configuration)?, 0),
         };
-        let mut bytes = Vec::with_capacity(PAYLOAD_ID_LENGTH + self.symbol_size);
-        for packet in &self.packets[taken..] {
-            // As an object of its own the block is number 0.
-            let id = PayloadId::new(0, packet.payload_id().encoding_symbol_id());
+        let length = PAYLOAD_ID_LENGTH + self.symbol_size;
+        let (new, most) = (&self.packets[taken..], BYTES_AT_A_TIME.div_ceil(length));
+        let mut bytes = Vec::with_capacity(most.min(new.len()) * length);
+        for packets in new.chunks(most) {
             bytes.clear();
-            bytes.extend(id.serialize());
-            bytes.extend_from_slice(packet.data());
-            handle.add_packet(&bytes)?;
+            for packet in packets {
+                // As an object of its own the block is number 0.
+                let id = PayloadId::new(0, packet.payload_id().encoding_symbol_id());
+                bytes.extend(id.serialize());
+                bytes.extend_from_slice(packet.data());
+            }
+            handle.add_packets(&bytes)?;
         }
         if handle.is_complete()? {
             let mut bytes = vec![0; self.source_symbols as usize * self.symbol_size];

@@ -3,16 +3,13 @@
 use crate::base::{EncodingPacket, ObjectTransmissionInformation};
 use crate::blocks::calculate_block_offsets;
 use crate::calls::{
-    DEFAULT_DECODER_MEMORY, ENCODING_SYMBOL_IDS, Handle, PAYLOAD_ID_LENGTH, Refusal, accepted,
+    BYTES_AT_A_TIME, DEFAULT_DECODER_MEMORY, ENCODING_SYMBOL_IDS, Handle, PAYLOAD_ID_LENGTH,
+    Refusal, accepted,
 };
 use crate::plans::{SourceBlockEncodingPlan, kept_plan};
 use crate::shared::SharedHandle;
 use std::fmt;
 use std::ops::Range;
-
-/// About how many bytes of packets the library is asked for at a time: few enough to stay in the processor's caches,
-/// and so many that the call itself doesn't count.
-const BYTES_AT_A_TIME: usize = 32 * 1024;
 
 /// Builds encoders by the memory of a decoder and a size of packets.
 #[derive(Clone, Debug, PartialEq, Eq)]
@@ -155,7 +152,7 @@ impl SourceBlockEncoder {
         plan: &mut Handle,
     ) -> SourceBlockEncoder {
         let configuration = config.of_block(data.len() as u64);
-        let handle = Handle::block_encoder(&configuration, source_block_id, data, plan);
+        let handle = plan.block_encoder(&configuration, source_block_id, data);
         let sender = Sender::Block(SharedHandle::new(accepted(handle)));
         SourceBlockEncoder {
             source_block_id,

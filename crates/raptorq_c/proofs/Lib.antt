@@ -1,8 +1,10 @@
 pub mod Boxes
 pub mod Ending
+pub mod FrameSteps
 pub mod HandleAnswers
 pub mod PacketFrames
 pub mod PacketLengths
+pub mod PlannedBlocks
 pub mod Pointers
 pub mod RunSteps
 pub mod Sized

@@ -34,28 +34,20 @@ abbrev pub coder_of : Handle → Option Coder
 coder_of h = h.owned.value
 
 abbrev pub decoder_in : Coder → Option State
-decoder_in (Sender a) = None
 decoder_in (Receiver d) = Some (state_of d)
-decoder_in (Planner a) = None
-decoder_in (BlockSender a) = None
+decoder_in _ = None
 
 abbrev pub encoder_in : Coder → Option Encoded
 encoder_in (Sender a) = Some (encoded_of (arc_value a))
-encoder_in (Receiver d) = None
-encoder_in (Planner a) = None
-encoder_in (BlockSender a) = None
+encoder_in _ = None
 
 abbrev pub plan_in : Coder → Option Plan
-plan_in (Sender a) = None
-plan_in (Receiver d) = None
 plan_in (Planner a) = Some (plan_of (arc_value a))
-plan_in (BlockSender a) = None
+plan_in _ = None
 
 abbrev pub block_encoder_in : Coder → Option BlockEncoded
-block_encoder_in (Sender a) = None
-block_encoder_in (Receiver d) = None
-block_encoder_in (Planner a) = None
 block_encoder_in (BlockSender a) = Some (block_encoded_of (arc_value a))
+block_encoder_in _ = None
 
 -- the decoder that a handle holds, if it holds one
 abbrev pub decoder_of : Handle → Option State

@@ -6,6 +6,7 @@ pub mod ObjectBuffers
 pub mod Sizes
 pub mod Owned
 pub mod Handles
+pub mod Frames
 pub mod Plans
 pub mod Runs
 pub mod Sharing

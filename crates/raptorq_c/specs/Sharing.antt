@@ -1,16 +1,16 @@
 -- Further handles on one encoder or plan.
 use Rattle.std.specs.Prelude.{◌≡◌, ◌≢◌, ◌⊎◌, ◌↔◌, ℕ, Bool, true, false, Option, Some, None}
-use Rattle.raptorq_c.specs.Handles.{coder_of, encoder_of, block_encoder_of, plan_of_handle}
+use Rattle.raptorq_c.specs.Handles.{coder_of, decoder_of, encoder_of, block_encoder_of, plan_of_handle}
 use Rattle.raptorq_c.specs.declared.handle.Handle.{Handle}
 use Rattle.raptorq_c.specs.declared.owned.Coder.{Coder}
-use Rattle.raptorq_c.specs.declared.owned.Coder.TheVariants.{Sender, Receiver, Planner, BlockSender}
+use Rattle.raptorq_c.specs.declared.owned.Coder.TheVariants.{Sender, Planner, BlockSender}
 
 -- whether several handles may hold it: encoders and plans, which no call changes
 abbrev pub is_shared : Coder → Bool
 is_shared (Sender a) = true
-is_shared (Receiver d) = false
 is_shared (Planner a) = true
 is_shared (BlockSender a) = true
+is_shared _ = false
 
 abbrev pub holds_shared : Option Coder → Bool
 holds_shared None = false
@@ -23,4 +23,12 @@ pub record Shares (answer : ℕ) (held before after : Handle) : Type 0 where
   pub encoder : answer ≡ 0 → encoder_of after ≡ encoder_of held
   pub block_encoder : answer ≡ 0 → block_encoder_of after ≡ block_encoder_of held
   pub plan : answer ≡ 0 → plan_of_handle after ≡ plan_of_handle held
+  pub kept : answer ≢ 0 → coder_of after ≡ coder_of before
+
+-- What a call answers and does to a further handle: it holds a decoder that stands where that of the first one does (0), or what it held.
+-- 26 says that no decoder is held.
+pub record CopiesDecoder (answer : ℕ) (held before after : Handle) : Type 0 where
+  pub none : (answer ≡ 26) ↔ (decoder_of held ≡ None)
+  pub number : (answer ≡ 0) ⊎ (answer ≡ 21) ⊎ (answer ≡ 26)
+  pub decoder : answer ≡ 0 → decoder_of after ≡ decoder_of held
   pub kept : answer ≢ 0 → coder_of after ≡ coder_of before

@@ -16,12 +16,12 @@ use std::alloc::Global;
 use std::ops::Deref;
 use std::sync::Arc;
 
-// A block that is to be encoded.
+/// A block that is to be encoded.
 #[derive(Clone, Copy)]
-struct Block<'a> {
-    configuration: &'a [u8; CONFIGURATION_LENGTH],
-    number: u8,
-    bytes: &'a [u8],
+pub(crate) struct Block<'a> {
+    pub(crate) configuration: &'a [u8; CONFIGURATION_LENGTH],
+    pub(crate) number: u8,
+    pub(crate) bytes: &'a [u8],
 }
 
 // The encoder of a block by a plan.

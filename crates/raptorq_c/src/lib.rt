@@ -15,10 +15,13 @@ mod buffers;
 mod call_end;
 mod closing;
 mod configurations;
+mod copying;
 mod decoding;
 mod encoding;
+mod frames;
 mod handle;
 mod owned;
+mod planned_sending;
 mod planning;
 mod receiving;
 mod rows;
@@ -36,9 +39,12 @@ pub use configurations::{
     Parameters, reamertan_check_configuration, reamertan_derive_configuration,
     reamertan_read_configuration, reamertan_write_configuration,
 };
+pub use copying::reamertan_copy_decoder;
 pub use decoding::reamertan_decode;
 pub use encoding::reamertan_encode;
+pub use frames::reamertan_add_packets;
 pub use handle::{Handle, crosses_threads};
+pub use planned_sending::reamertan_open_planned_encoder;
 pub use planning::reamertan_open_plan;
 pub use receiving::{
     reamertan_add_packet, reamertan_is_complete, reamertan_missing_packets, reamertan_open_decoder,

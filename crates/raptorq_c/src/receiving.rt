@@ -61,8 +61,8 @@ pub extern "C" fn reamertan_open_decoder(
     number(open(alloc, rows, configuration, handle))
 }
 
-// Takes the packet that bytes spell.
-fn add_bytes(alloc: Global, decoder: &mut Decoder, packet: &[u8]) -> Result<(), Error>
+/// Takes the packet that bytes spell.
+pub(crate) fn add_bytes(alloc: Global, decoder: &mut Decoder, packet: &[u8]) -> Result<(), Error>
     ensures { IsAdded (state_of decoder.old) packet.now (refusal_number result) (state_of decoder.new) }
 {
     decoder.add_new_packet(EncodingPacket::deserialize(alloc, packet)?)

@@ -77,7 +77,7 @@ fn twin_of(alloc: Global, coder: &Coder) -> Result<Box<Coder>, CallEnd>
         Coder::Sender(encoder) => twin_encoder(alloc, encoder),
         Coder::Planner(plan) => twin_plan(alloc, plan),
         Coder::BlockSender(encoder) => twin_block(alloc, encoder),
-        Coder::Receiver(_) => return Err(CallEnd::NoCoder),
+        _ => return Err(CallEnd::NoCoder),
     };
     match twin {
         Ok(boxed) => Ok(boxed),

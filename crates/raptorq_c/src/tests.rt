@@ -1,13 +1,13 @@
 //! Each call once: three bytes there and back, in the stream that the program `rq` writes of them.
 use crate::{
-    Handle, Parameters, Range, Row, reamertan_add_packet, reamertan_block_range,
-    reamertan_check_configuration, reamertan_close, reamertan_decode,
-    reamertan_derive_configuration, reamertan_encode, reamertan_is_complete,
+    Handle, Parameters, Range, Row, reamertan_add_packet, reamertan_add_packets,
+    reamertan_block_range, reamertan_check_configuration, reamertan_close, reamertan_copy_decoder,
+    reamertan_decode, reamertan_derive_configuration, reamertan_encode, reamertan_is_complete,
     reamertan_missing_packets, reamertan_open_block_encoder, reamertan_open_decoder,
-    reamertan_open_encoder, reamertan_open_plan, reamertan_packets_length,
-    reamertan_read_configuration, reamertan_share, reamertan_version, reamertan_write_block,
-    reamertan_write_block_packets, reamertan_write_configuration, reamertan_write_object,
-    reamertan_write_packet, reamertan_write_packets,
+    reamertan_open_encoder, reamertan_open_plan, reamertan_open_planned_encoder,
+    reamertan_packets_length, reamertan_read_configuration, reamertan_share, reamertan_version,
+    reamertan_write_block, reamertan_write_block_packets, reamertan_write_configuration,
+    reamertan_write_object, reamertan_write_packet, reamertan_write_packets,
 };
 use std::alloc::Global;
 use std::test::Fail;
@@ -249,6 +249,33 @@ fn plans(rt: HostRuntime) -> Result<(), Fail> {
     Ok(())
 }
 
+// What calls answer that make a plan and, by it alone, the encoder of the three bytes' block.
+fn open_planned(alloc: Global, plan: &mut Handle, block: &mut Handle) -> [u8; 5] {
+    let bytes = [7, 8, 9, 0];
+    let none = reamertan_open_planned_encoder(alloc, &HEADER, 0, &bytes, plan, block);
+    let planned = reamertan_open_plan(alloc, &[], 2, plan);
+    let broken = reamertan_open_planned_encoder(alloc, &HEADER, 0, &bytes[..3], plan, block);
+    let other = reamertan_open_planned_encoder(alloc, &HEADER, 0, &bytes[..2], plan, block);
+    let opened = reamertan_open_planned_encoder(alloc, &HEADER, 0, &bytes, plan, block);
+    [none, planned, broken, other, opened]
+}
+
+#[test]
+fn blocks_by_plans_alone(rt: HostRuntime) -> Result<(), Fail> {
+    let mut plan = Handle::empty();
+    let mut block = Handle::empty();
+    let mut packets = [0; 12];
+    let opened = open_planned(rt.alloc(), &mut plan, &mut block);
+    reamertan_close(rt.alloc(), &mut plan);
+    let written = reamertan_write_block_packets(rt.alloc(), &mut block, 0, 2, &mut packets);
+    reamertan_close(rt.alloc(), &mut block);
+    block.let_go();
+    plan.let_go();
+    assert!(rt; opened == [26, 0, 8, 10, 0] && written == 0);
+    assert!(rt; packets == [0, 0, 0, 0, 7, 8, 0, 0, 0, 1, 9, 0]);
+    Ok(())
+}
+
 // An encoder that is closed before the further handle on it, and a decoder that isn't shared.
 #[test]
 fn shares(rt: HostRuntime) -> Result<(), Fail> {
@@ -285,5 +312,49 @@ fn completeness(rt: HostRuntime) -> Result<(), Fail> {
     handle.let_go();
     assert!(rt; [none, opened, first, before] == [26, 0, 0, 25]);
     assert!(rt; [second, after] == [0, 0]);
+    Ok(())
+}
+
+// Three packets, of which the second is forged: it names block 1, so that it isn't taken, nor the third.
+#[test]
+fn many_packets(rt: HostRuntime) -> Result<(), Fail> {
+    let mut handle = Handle::empty();
+    let forged = [0, 0, 0, 0, 7, 8, 1, 0, 0, 1, 9, 0, 0, 0, 0, 1, 9, 0];
+    let none = reamertan_add_packets(rt.alloc(), &mut handle, &forged);
+    let opened = reamertan_open_decoder(rt.alloc(), &[], &HEADER, &mut handle);
+    let broken = reamertan_add_packets(rt.alloc(), &mut handle, &forged[..17]);
+    let before = missing(rt.alloc(), &mut handle);
+    let refused = reamertan_add_packets(rt.alloc(), &mut handle, &forged);
+    let after = missing(rt.alloc(), &mut handle);
+    let taken = reamertan_add_packets(rt.alloc(), &mut handle, &forged[12..]);
+    let complete = reamertan_is_complete(rt.alloc(), &mut handle);
+    reamertan_close(rt.alloc(), &mut handle);
+    handle.let_go();
+    assert!(rt; [none, opened, broken, refused] == [26, 0, 13, 14]);
+    assert!(rt; (before, after) == ((0, 2), (0, 1)));
+    assert!(rt; [taken, complete] == [0, 0]);
+    Ok(())
+}
+
+// A decoder, and one that began where it stood.
+#[test]
+fn copies(rt: HostRuntime) -> Result<(), Fail> {
+    let mut handle = Handle::empty();
+    let mut twin = Handle::empty();
+    let none = reamertan_copy_decoder(rt.alloc(), &mut handle, &mut twin);
+    let opened = reamertan_open_decoder(rt.alloc(), &[], &HEADER, &mut handle);
+    let first = reamertan_add_packet(rt.alloc(), &mut handle, &[0, 0, 0, 0, 7, 8]);
+    let copied = reamertan_copy_decoder(rt.alloc(), &mut handle, &mut twin);
+    let second = reamertan_add_packet(rt.alloc(), &mut twin, &[0, 0, 0, 1, 9, 0]);
+    let complete = [
+        reamertan_is_complete(rt.alloc(), &mut handle),
+        reamertan_is_complete(rt.alloc(), &mut twin),
+    ];
+    reamertan_close(rt.alloc(), &mut handle);
+    reamertan_close(rt.alloc(), &mut twin);
+    handle.let_go();
+    twin.let_go();
+    assert!(rt; [none, opened, first, copied, second] == [26, 0, 0, 0, 0]);
+    assert!(rt; complete == [25, 0]);
     Ok(())
 }

@@ -1,0 +1,64 @@
+-- The encoder of a block by a plan alone is the one over the rows that the plan was made of.
+use Rattle.std.proofs.Common.{◌≡◌, ℕ, ◌/◌, ◌%◌, false, cond, eqb, ltb, List, length, map, Result, Ok, Err, IsOkAnd, sym, ap, ◌∙◌, subst}
+use Rattle.std.specs.List.{range_with_len}
+use Rattle.std.specs.Prelude.{not}
+use Rattle.std.proofs.lemmas.Bool.{eqb-true, not-false}
+use Rattle.rq_bytes.specs.declared.error.Error.{Error}
+use Rattle.rq_bytes.specs.declared.error.Error.TheVariants.{WrongDataLength, BlockOverTable, PlanMismatch}
+use Rattle.rq_bytes.specs.Refusals.{and_then}
+use Rattle.rq_standard.specs.declared.row.TableRow.{TableRow}
+use Rattle.rq_standard.specs.Configuration.{Configuration, configuration_of_bytes}
+use Rattle.rq_standard.specs.Cutting.{symbol_of_block}
+use Rattle.rq_standard.specs.TableRows.{greatest_size, row_of}
+use Rattle.rq_base.specs.RefusedInput.{checked_symbols}
+use Rattle.rq_base.proofs.Accepted.{both_ok, ok_of, passed}
+use Rattle.rq_block.specs.BlockData.{block_by_plan, block_of}
+use Rattle.rq_block.specs.RefusedBlocks.{AreWholeSymbols}
+use Rattle.rq_block.specs.SourceBlockEncoder.{BlockEncoded}
+use Rattle.rq_block.specs.SourceBlockEncodingPlan.{Plan, plan_refusal}
+use Rattle.raptorq_c.specs.declared.rows.Row.{Row}
+use Rattle.raptorq_c.specs.FurtherRows.{table_of}
+use Rattle.raptorq_c.specs.Plans.{planned_refusal, IsBlockEncoderIn, IsPlanIn}
+use Rattle.raptorq_c.proofs.Tables.{table_in}
+
+module _ (header bytes : List ℕ) (plan : Plan) (taken : planned_refusal (configuration_of_bytes header) (length bytes) plan ≡ Ok tt) where
+  abbrev c : Configuration
+  c = configuration_of_bytes header
+
+  abbrev count : ℕ
+  count = length bytes / c.symbol_size
+
+  -- the tests behind those of the configuration
+  abbrev many_tests : Result (Unit {0}) Error
+  many_tests = cond (not (eqb count plan.count)) (Err PlanMismatch) (Ok tt)
+
+  symbols : (x : Unit {0}) × (checked_symbols c ≡ ok_of x) × (cond (not (eqb (length bytes % c.symbol_size) 0)) (Err WrongDataLength) many_tests ≡ ok_of tt)
+  symbols = both_ok (checked_symbols c) _ tt taken
+
+  whole : (not (eqb (length bytes % c.symbol_size) 0) ≡ false) × (many_tests ≡ ok_of tt)
+  whole = passed (not (eqb (length bytes % c.symbol_size) 0)) WrongDataLength many_tests tt symbols.2
+
+  as_many : count ≡ plan.count
+  as_many = eqb-true count plan.count (not-false (eqb count plan.count) (passed (not (eqb count plan.count)) PlanMismatch (Ok tt) tt whole.1).0)
+
+  whole_symbols : (table : List TableRow) → plan_refusal table plan.count ≡ Ok tt → AreWholeSymbols (greatest_size table) c (length bytes)
+  whole_symbols table enough =
+      let in_table = ap (ltb (greatest_size table)) as_many ∙ (passed (ltb (greatest_size table) plan.count) BlockOverTable (Ok tt) tt enough).0 in
+      let size_tests : Result ℕ Error = cond (ltb (greatest_size table) count) (Err BlockOverTable) (Ok count) in
+      ap (λ (r : Result (Unit {0}) Error). and_then r (λ _. cond (not (eqb (length bytes % c.symbol_size) 0)) (Err WrongDataLength) size_tests)) symbols.1
+      ∙ ap (λ b. cond b (Err WrongDataLength) size_tests) whole.0 ∙ ap (λ b. cond b (Err BlockOverTable) (ok_of count)) in_table
+
+  same_block : (table : List TableRow) (number : ℕ) → plan.row ≡ row_of table plan.count → block_by_plan plan c number bytes ≡ block_of table c number bytes
+  same_block table number row =
+      let of : ℕ → TableRow → BlockEncoded = λ n r. record { number = number; row = r; size = c.symbol_size; source = map (symbol_of_block c n bytes) (range_with_len 0 n) } in
+      ap (of plan.count) row ∙ ap (λ n. of n (row_of table n)) (sym as_many)
+
+  pub planned_over : (number : ℕ) (b : BlockEncoded) → b ≡ block_by_plan plan c number bytes → (rows : List Row) → IsPlanIn rows plan.count plan → IsBlockEncoderIn rows header number bytes b
+  planned_over number b is rows made =
+      let found = table_in (λ t. plan_refusal t plan.count ≡ Ok tt) (table_of rows) made.taken in
+      let over : (P : List TableRow → Type 0) → P found.0 → IsOkAnd (table_of rows) P = λ P. subst (λ (r : Result (List TableRow) Error). IsOkAnd r P) (sym found.1) in
+      let row = subst (λ (r : Result (List TableRow) Error). IsOkAnd r (λ t. plan.row ≡ row_of t plan.count)) found.1 made.row in
+      record {
+        taken = over (λ t. AreWholeSymbols (greatest_size t) c (length bytes)) (whole_symbols found.0 found.2);
+        encoder = over (λ t. b ≡ block_of t c number bytes) (is ∙ same_block found.0 number row);
+      }

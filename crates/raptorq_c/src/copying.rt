@@ -1,0 +1,69 @@
+//! A further decoder that stands where another does.
+ghost use Rattle.std.specs.Prelude.{◌≡◌, ◌⊎◌, Some, None, IsSome, IfOk, IfErr, OnErr, OnOk};
+ghost use Rattle.raptorq.specs.Decoder.{state_of};
+ghost use Rattle.raptorq_c.specs.Handles.{coder_of, decoder_in, decoder_of};
+ghost use Rattle.raptorq_c.specs.Sharing.{CopiesDecoder};
+
+use crate::call_end::{CallEnd, number};
+use crate::handle::Handle;
+use crate::owned::Coder;
+use raptorq::Decoder;
+use raptorq::error::Error;
+use std::alloc::{AllocError, Global};
+
+// A clone of a decoder.
+fn copied(alloc: Global, decoder: &Decoder) -> Result<Box<Coder>, AllocError>
+    ensures { IfOk result (λ b. decoder_in b.value ≡ Some (state_of decoder.now)) }
+{
+    Coder::Receiver(decoder.clone()?).boxed(alloc)
+}
+
+// A clone of the decoder that a coder is, if it is one.
+fn copy_of(alloc: Global, coder: &Coder) -> Result<Box<Coder>, CallEnd>
+    ensures decoder { IfOk result (λ b. decoder_in b.value ≡ decoder_in coder.now) }
+    ensures held { OnOk result (IsSome (decoder_in coder.now)) }
+    ensures refused { IfErr result (λ end. ((end ≡ CallEnd.NoCoder) × (decoder_in coder.now ≡ None))
+        ⊎ ((end ≡ CallEnd.Refused Error.OutOfMemory) × IsSome (decoder_in coder.now))) }
+{
+    let Coder::Receiver(decoder) = coder else {
+        return Err(CallEnd::NoCoder);
+    };
+    match copied(alloc, decoder) {
+        Ok(boxed) => Ok(boxed),
+        Err(_) => Err(CallEnd::Refused(Error::OutOfMemory)),
+    }
+}
+
+// Puts a clone of a decoder into a handle.
+fn copy(alloc: Global, coder: &Coder, twin: &mut Handle) -> Result<(), CallEnd>
+    ensures decoder { OnOk result (decoder_of twin.new ≡ decoder_in coder.now) }
+    ensures held { OnOk result (IsSome (decoder_in coder.now)) }
+    ensures refused { IfErr result (λ end. ((end ≡ CallEnd.NoCoder) × (decoder_in coder.now ≡ None))
+        ⊎ ((end ≡ CallEnd.Refused Error.OutOfMemory) × IsSome (decoder_in coder.now))) }
+    ensures kept { OnErr result (coder_of twin.new ≡ coder_of twin.old) }
+{
+    twin.replace(alloc, copy_of(alloc, coder)?);
+    Ok(())
+}
+
+/// Makes a further decoder that stands where the one does that a handle holds, which the further handle
+/// then holds. What that one held before is freed. From then on each takes packets by itself.
+///
+/// Answers 26 where the first handle holds no decoder. Else the one refusal is want of memory. Where it
+/// refuses, the further handle holds what it held.
+#[unsafe(no_mangle)]
+pub extern "C" fn reamertan_copy_decoder(
+    alloc: Global,
+    handle: &mut Handle,
+    twin: &mut Handle,
+) -> u8
+    ensures copies { CopiesDecoder result handle.old twin.old twin.new }
+    ensures same { coder_of handle.new ≡ coder_of handle.old }
+{
+    let Some(coder) = handle.take(alloc) else {
+        return number(Err(CallEnd::NoCoder));
+    };
+    let ended = copy(alloc, coder.as_ref(), twin);
+    handle.put(coder);
+    number(ended)
+}

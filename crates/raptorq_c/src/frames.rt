@@ -1,0 +1,71 @@
+//! Many packets taken in one call.
+ghost use Rattle.std.specs.Prelude.{◌≡◌, ◌<◌};
+ghost use Rattle.rq_standard.specs.Streams.{frames_in};
+ghost use Rattle.raptorq.specs.Decoder.{state_of};
+ghost use Rattle.raptorq_c.specs.Frames.{AddsFrames, AreAdded, TakesFrames};
+ghost use Rattle.raptorq_c.specs.Handles.{decoder_in, decoder_of, encoder_in, encoder_of};
+ghost use Rattle.raptorq_c.specs.Numbers.{number_of, refusal_number};
+
+use crate::call_end::{CallEnd, number};
+use crate::handle::Handle;
+use crate::owned::Coder;
+use crate::receiving::add_bytes;
+use raptorq::Decoder;
+use raptorq::error::Error;
+use std::alloc::Global;
+
+// Takes the packets that frames of `size` bytes spell, until one is refused.
+fn add_frames(
+    alloc: Global,
+    decoder: &mut Decoder,
+    size: usize,
+    packets: &[u8],
+) -> Result<(), Error>
+    requires { 0 < size }
+    ensures { AddsFrames (frames_in size packets.now) (refusal_number result) (state_of decoder.old) (state_of decoder.new) }
+{
+    for frame in packets.chunks(size) {
+        add_bytes(alloc, decoder, frame)?;
+    }
+    Ok(())
+}
+
+// Takes them where the bytes are whole frames.
+fn add_whole(alloc: Global, decoder: &mut Decoder, packets: &[u8]) -> Result<(), Error>
+    ensures { AreAdded (state_of decoder.old) packets.now (refusal_number result) (state_of decoder.new) }
+{
+    let size = decoder.get_config().frame_size();
+    if packets.len() % size != 0 {
+        return Err(Error::WrongPayloadSize);
+    }
+    add_frames(alloc, decoder, size, packets)
+}
+
+// Takes them where the coder is a decoder.
+fn add_all(alloc: Global, coder: &mut Coder, packets: &[u8]) -> Result<(), CallEnd>
+    ensures takes { TakesFrames packets.now (number_of result) (decoder_in coder.old) (decoder_in coder.new) }
+    ensures other { encoder_in coder.new ≡ encoder_in coder.old }
+{
+    match coder {
+        Coder::Receiver(decoder) => Ok(add_whole(alloc, decoder, packets)?),
+        _ => Err(CallEnd::NoCoder),
+    }
+}
+
+/// Takes packets that lie one behind another, each a payload id of 4 bytes and a symbol, in their order.
+///
+/// Answers 26 where the handle holds no decoder. Refuses `WrongPayloadSize`, before any packet is taken,
+/// where the bytes are no whole number of packets, and then as `reamertan_add_packet` refuses the first
+/// packet that it refuses. Those before it are taken, and those behind it aren't.
+#[unsafe(no_mangle)]
+pub extern "C" fn reamertan_add_packets(alloc: Global, handle: &mut Handle, packets: &[u8]) -> u8
+    ensures takes { TakesFrames packets.now result (decoder_of handle.old) (decoder_of handle.new) }
+    ensures other { encoder_of handle.new ≡ encoder_of handle.old }
+{
+    let Some(mut coder) = handle.take(alloc) else {
+        return number(Err(CallEnd::NoCoder));
+    };
+    let ended = add_all(alloc, coder.as_mut(), packets);
+    handle.put(coder);
+    number(ended)
+}
