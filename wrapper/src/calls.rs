@@ -20,8 +20,8 @@ pub const ENCODING_SYMBOL_IDS: u32 = 1 << 24;
 /// The memory in bytes that each sub-block is to fit, where nobody says another number.
 pub const DEFAULT_DECODER_MEMORY: u64 = 10 * 1024 * 1024;
 
-/// About how many bytes of packets cross in one call: few enough to stay in the processor's caches, and so many that the
-/// call itself doesn't count.
+/// About how many bytes cross in one call, where they needn't all: few enough to stay in the processor's caches, and so
+/// many that the call itself doesn't count.
 pub const BYTES_AT_A_TIME: usize = 32 * 1024;
 
 /// A configuration as RFC 6330 writes it.

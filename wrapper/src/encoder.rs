@@ -132,7 +132,9 @@ impl SourceBlockEncoder {
         // Symbols of no bytes are refused below, and too many of them here.
         let symbols = data.len().checked_div(config.symbol_size().into());
         let symbols = u16::try_from(symbols.unwrap_or(0)).unwrap_or(u16::MAX);
-        SourceBlockEncoder::by_plan(source_block_id, config, data, &mut kept_plan(symbols))
+        let mut plan = kept_plan(symbols);
+        let handle = plan.block_encoder(&config.of_block(data.len() as u64), source_block_id, data);
+        SourceBlockEncoder::of_handle(source_block_id, config, data, accepted(handle))
     }
 
     /// The same by a plan. Panics also where the plan is one for another number of symbols.
@@ -142,23 +144,21 @@ impl SourceBlockEncoder {
         data: &[u8],
         plan: &SourceBlockEncodingPlan,
     ) -> SourceBlockEncoder {
-        SourceBlockEncoder::by_plan(source_block_id, config, data, &mut plan.handle())
+        let handle = plan.block_encoder(&config.of_block(data.len() as u64), source_block_id, data);
+        SourceBlockEncoder::of_handle(source_block_id, config, data, accepted(handle))
     }
 
-    fn by_plan(
+    fn of_handle(
         source_block_id: u8,
         config: &ObjectTransmissionInformation,
         data: &[u8],
-        plan: &mut Handle,
+        handle: Handle,
     ) -> SourceBlockEncoder {
-        let configuration = config.of_block(data.len() as u64);
-        let handle = plan.block_encoder(&configuration, source_block_id, data);
-        let sender = Sender::Block(SharedHandle::new(accepted(handle)));
         SourceBlockEncoder {
             source_block_id,
             source_symbols: (data.len() / usize::from(config.symbol_size())) as u32,
             symbol_size: config.symbol_size(),
-            sender,
+            sender: Sender::Block(SharedHandle::new(handle)),
         }
     }
 

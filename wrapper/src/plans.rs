@@ -1,6 +1,6 @@
 //! Plans of source blocks, and those that are kept.
 
-use crate::calls::{Handle, accepted};
+use crate::calls::{BYTES_AT_A_TIME, Configuration, Handle, Refusal, accepted};
 use crate::shared::SharedHandle;
 use std::collections::VecDeque;
 use std::fmt;
@@ -23,9 +23,19 @@ impl SourceBlockEncodingPlan {
         }
     }
 
-    /// A handle on the plan.
-    pub(crate) fn handle(&self) -> Handle {
-        self.plan.further()
+    /// The encoder of a block by the plan. For a large one the thread takes a further handle, so that no other waits
+    /// for it.
+    pub(crate) fn block_encoder(
+        &self,
+        configuration: &Configuration,
+        block: u8,
+        bytes: &[u8],
+    ) -> Result<Handle, Refusal> {
+        let open = |plan: &mut Handle| plan.block_encoder(configuration, block, bytes);
+        if bytes.len() > BYTES_AT_A_TIME {
+            return open(&mut self.plan.further());
+        }
+        self.plan.call(open)
     }
 }
 

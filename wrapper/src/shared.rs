@@ -27,10 +27,10 @@ impl SharedHandle {
 
     /// What a short call answers. While one thread alone calls, it does so by the handle itself, which takes less
     /// time. A second one waits for it once.
-    pub fn call(
+    pub fn call<T>(
         &self,
-        short: impl FnOnce(&mut Handle) -> Result<(), Refusal>,
-    ) -> Result<(), Refusal> {
+        short: impl FnOnce(&mut Handle) -> Result<T, Refusal>,
+    ) -> Result<T, Refusal> {
         if !self.is_wanted.load(Ordering::Relaxed) {
             if let Ok(mut handle) = self.handle.try_lock() {
                 return short(&mut handle);
