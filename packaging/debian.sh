@@ -126,7 +126,7 @@ make_program_deb() {
         stage 644 "$work/$program.1.gz" "usr/share/man/man1/reamertan-$program.1.gz"
     done
     finish utils "$(needed_glibc "${programs[@]/#/$work/x86/}")" "sends files over links that lose data (RaptorQ, RFC 6330)" \
-        "This is the program rq of Reamertan, as reamertan-rq. It makes packets of a file, and the file of any packets that determine it."
+        "These are the programs rq and rqcast of Reamertan, as reamertan-rq and reamertan-rqcast. They make packets or cells of a file, and the file of any that determine it."
 }
 
 make_debs() {

@@ -5,9 +5,9 @@
 # Those that are built for, the least one first.
 declare -a processors
 # The programs, each with words to try it with.
-readonly PROGRAMS=("rq send 2 0")
+readonly PROGRAMS=("rq send 2 0" "rqcast send 50 0")
 # The crates of the toolchain that are linked in, of which it has the licences.
-readonly LINKED="arrayvec smallvec serde thiserror"
+readonly LINKED="arrayvec hex sha2 smallvec serde thiserror"
 
 fail() {
     echo "${0##*/}: $1" >&2

@@ -29,7 +29,7 @@ version() {
 make_toolchain() {
     local crate
     mkdir -p "$scratch/bin" "$KIT/c"
-    for crate in arrayvec smallvec serde thiserror; do
+    for crate in $(sed -n 's/^readonly LINKED="\(.*\)"$/\1/p' "$top/packaging/objects.sh"); do
         install -D -m 644 "$top/LICENSE" "$KIT/rattle/$crate/LICENSE"
     done
     ar rcs "$KIT/c/liblibc_c.a"

@@ -1,6 +1,9 @@
+pub mod Asked
+pub mod Endings
 pub mod Ids
 pub mod Input
 pub mod Missing
+pub mod Preparing
 pub mod Reading
 pub mod Received
 pub mod Receiving

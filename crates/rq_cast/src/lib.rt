@@ -2,23 +2,32 @@
 //! of the cells among them out.
 #![tactic(auto)]
 
+mod ending;
 mod input;
+mod jobs;
 mod missing;
 mod naming;
+mod numbers;
+mod preparing;
 mod progress;
 mod reading;
 mod receiver;
 mod run;
 mod sending;
 mod series;
+mod words;
 
+pub use ending::{ProgramEnd, announce, report};
 pub use input::Input;
+pub use jobs::{Ids, Job, Order};
 pub use missing::missing_packets;
+pub use preparing::read_sender;
 pub use progress::{Progress, Silent};
 pub use receiver::Seen;
 pub use run::{Ending, run_receive};
 pub use sending::{Pace, Sender};
 pub use series::{Repair, Series};
+pub use words::job;
 
 #[cfg(test)]
 mod tests;

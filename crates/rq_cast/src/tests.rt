@@ -7,6 +7,7 @@ use std::io;
 use std::io::{ErrorKind, Read};
 
 mod sending;
+mod words;
 
 const OBJECT: [u8; 3] = [7, 8, 9];
 
