@@ -5,15 +5,24 @@ use denote.Memory.{lone}
 use denote.RawPtr.{Ptr}
 use denote.Struct.Struct.{exits_of}
 use denote.Struct.Owning.{shape, fields, to}
-use denote.Param.Send.{IsSend, AllSend, owning_send, struct_send, sendable}
+use denote.Enum.Declared.{shape as declared}
+use denote.Param.Send.{IsSend, AllSend, enum_send, owning_send, recorded_send, struct_send, sendable}
 use Rattle.std.specs.Prelude.{Option, Some, None}
 use Rattle.std.proofs.Crossing as crossing
 use Rattle.std_alloc.proofs.SendSync.{quiet, lies}
+use Rattle.raptorq.proofs.encoder.Encoder.TheSendSync as encoder
+use Rattle.raptorq.proofs.decoder.object.Decoder.TheSendSync as decoder
+use Rattle.rq_block.proofs.encoder.plan.SourceBlockEncodingPlan.TheSendSync as plan
+use Rattle.rq_block.proofs.encoder.block.SourceBlockEncoder.TheSendSync as block
 use Rattle.raptorq_c.specs.Owned.{owned_at}
 use Rattle.raptorq_c.specs.declared.owned.Coder.{Coder}
 use Rattle.raptorq_c.specs.contracts.owned.Coder as coder
-use Rattle.raptorq_c.proofs.owned.Coder.TheSendSync.{the_send as coder_send}
 use Rattle.raptorq_c.specs.contracts.owned.Owned.{the_row, the_type}
+
+-- each variant's, by those of what it holds
+coder_send : IsSend coder.the_row
+coder_send = recorded_send (coder.the_field).row _ _ (coder.the_type).to_one (enum_send (declared coder.the_type)
+    (search (sendable, crossing.crosses, encoder.the_send, encoder.the_sync, decoder.the_field_send, plan.the_send, plan.the_sync, block.the_send, block.the_sync)))
 
 keyless : (p : Ptr) (value : Option Coder) → Keyless (owned_at p value)
 keyless p None = tt
