@@ -28,6 +28,13 @@ loss_demo() {
     cmp LICENSE back
 }
 
+# Sends the licence as cells, cuts some of them out and receives it: RQCAST..
+cell_demo() {
+    "$@" send 300 20% <LICENSE >cells 2>/dev/null
+    (head -c 5000 cells && tail -c +5500 cells) | "$@" receive >back
+    cmp LICENSE back
+}
+
 # Compiles an example in C and runs it: COMPILER.. -- FLAGS..
 hello() {
     local compiler=()
@@ -59,16 +66,19 @@ emulator() {
     command -v "qemu-$1-static" || command -v "qemu-$1"
 }
 
-# Each processor makes the same streams, and what is less than the least is refused: RQ.
+# Each processor makes the same streams, and what is less than the least is refused: PROGRAM..
 on_processors() {
-    local processor status=0
-    "$1" send 1280 13 <LICENSE >stream
-    for processor in Nehalem Haswell; do
-        # It warns of features that it lacks.
-        "$(emulator x86_64)" -cpu "$processor" "$1" send 1280 13 <LICENSE 2>/dev/null | cmp - stream
+    local program processor status
+    for program in "$@"; do
+        "$program" send 1280 13 <LICENSE >stream 2>/dev/null
+        for processor in Nehalem Haswell; do
+            # It warns of features that it lacks.
+            "$(emulator x86_64)" -cpu "$processor" "$program" send 1280 13 <LICENSE 2>/dev/null | cmp - stream
+        done
+        status=0
+        "$(emulator x86_64)" -cpu core2duo "$program" send 1280 13 <LICENSE >/dev/null 2>printed || status=$?
+        [ "$status" -eq 127 ] && [ -s printed ] || failed "on a core2duo $program ends with $status"
     done
-    "$(emulator x86_64)" -cpu core2duo "$1" send 1280 13 <LICENSE >/dev/null 2>printed || status=$?
-    [ "$status" -eq 127 ] && [ -s printed ] || failed "on a core2duo the program ends with $status"
     status=0
     # shellcheck disable=SC2046 # flags of pkg-config
     gcc there_and_back.c -o hello $(pkg-config --cflags --libs reamertan)
@@ -80,10 +90,12 @@ on_processors() {
 by_apt() {
     apt-get install --yes --quiet=2 ./out/reamertan_*.deb ./out/libreamertan*_amd64.deb >/dev/null
     loss_demo reamertan-rq
+    cell_demo reamertan-rqcast
     zcat /usr/share/man/man1/reamertan-rq.1.gz | grep -q '^reamertan.-rq ' || failed "the man page has another name"
-    say "installed by apt, and a stream without each tenth frame was received"
+    zcat /usr/share/man/man1/reamertan-rqcast.1.gz | grep -q '^reamertan.-rqcast ' || failed "the man page has another name"
+    say "installed by apt, a stream without each tenth frame was received, and cells with a hole"
     in_c /usr/lib/x86_64-linux-gnu
-    on_processors /usr/bin/reamertan-rq
+    on_processors /usr/bin/reamertan-rq /usr/bin/reamertan-rqcast
 }
 
 on_arm() {
@@ -105,6 +117,7 @@ unpacked() {
     mkdir -p /opt/reamertan
     tar -C /opt/reamertan --strip-components=1 -xzf out/reamertan-*-linux.tar.gz
     loss_demo /opt/reamertan/bin/rq
+    cell_demo /opt/reamertan/bin/rqcast
     PKG_CONFIG_PATH=/opt/reamertan/lib/pkgconfig in_c /opt/reamertan/lib -Wl,-rpath,/opt/reamertan/lib
     rm -r /opt/reamertan
     say "unpacked, and removed"

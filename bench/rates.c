@@ -2,12 +2,15 @@
 //
 //     cc -O2 -IPREFIX/include bench/rates.c PREFIX/lib/libreamertan.a -o rates
 //     taskset -c 1 ./rates ROUNDS
+//     ./rates WORK K T TIMES
 //
 // Prints for each K and T the MB of the block a second of encoding it with one repair packet for each ten source symbols by a plan that is
 // there, of encoding it with its plan, and of decoding it from K packets, each tenth source packet lost. In a round each work is done as often
 // as takes SAMPLE seconds; of large blocks there are fewer rounds. Since a machine's speed may change from moment to moment, it is the rate
 // that a tenth of the rounds is above. Of large blocks much of the time may be that of pages that malloc gives back and takes again; in glibc's
 // MALLOC_TRIM_THRESHOLD_=4000000000 MALLOC_MMAP_THRESHOLD_=4000000000 before the program keep them.
+//
+// With four words it does one of these works, 0, 1 or 2, so many times on one block, and prints nothing: bench/instructions counts what that takes.
 #define _POSIX_C_SOURCE 199309L
 #include <stdio.h>
 #include <stdlib.h>
@@ -118,8 +121,16 @@ static int ascending(const void *a, const void *b) {
     return (first > second) - (first < second);
 }
 
+static void (*const works[WORKS])(struct block *) = {encode, make_plan_and_encode, decode};
+
+static void repeat(int work, uint16_t symbols, uint16_t size, int times) {
+    struct block block = make_block(symbols, size);
+    make_plan_and_encode(&block);
+    for (int at = 0; at < times; at++) works[work](&block);
+    free_block(&block);
+}
+
 static void measure(uint16_t symbols, uint16_t size, int rounds) {
-    static void (*const works[WORKS])(struct block *) = {encode, make_plan_and_encode, decode};
     struct block block = make_block(symbols, size);
     double seconds[WORKS][ROUNDS_MOST];
     make_plan_and_encode(&block);
@@ -136,8 +147,14 @@ static void measure(uint16_t symbols, uint16_t size, int rounds) {
 int main(int count, char **words) {
     int is_help = count == 2 && (strcmp(words[1], "--help") == 0 || strcmp(words[1], "-h") == 0);
     int rounds = count == 2 ? atoi(words[1]) : 0;
+    if (count == 5) {
+        int work = atoi(words[1]), symbols = atoi(words[2]), size = atoi(words[3]);
+        if (work < 0 || work >= WORKS || symbols < 10 || symbols > 56403 || size < 1 || size > UINT16_MAX) return 2;
+        repeat(work, (uint16_t)symbols, (uint16_t)size, atoi(words[4]));
+        return 0;
+    }
     if (is_help || rounds < 1 || rounds > ROUNDS_MOST) {
-        fprintf(is_help ? stdout : stderr, "usage: rates ROUNDS      from 1 to %d\n", ROUNDS_MOST);
+        fprintf(is_help ? stdout : stderr, "usage: rates ROUNDS      from 1 to %d\n       rates WORK K T TIMES\n", ROUNDS_MOST);
         return is_help ? 0 : 2;
     }
     printf("MB/s, %s\n     T     K   by a plan  plan too   decode\n", reamertan_processor());
