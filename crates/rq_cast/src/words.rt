@@ -59,8 +59,8 @@ fn name_of(alloc: Global, words: &[String]) -> Result<Option<Vec<u8>>, AllocErro
 /// STEP [RATE]]` or `receive [NAME]`.
 ///
 /// SIZE is the most bytes that a cell may have, up to 65583. REPAIR is a number of repair packets for
-/// each source block, a percentage of its source symbols as `15%`, or `all`. FIRST and STEP are
-/// encoding symbol ids of 24 bits, STEP not 0. RATE is a number of bits a second, not 0, with k, M or G
+/// each source block, a percentage of the largest block's source symbols as `15%`, or `all`. FIRST and
+/// STEP are encoding symbol ids of 24 bits, STEP not 0. RATE is a number of bits a second, not 0, with k, M or G
 /// behind it for thousands. NAME is 2 to 56 hexadecimal digits, an even number.
 pub fn job(alloc: Global, words: &[String]) -> Result<Option<Job>, AllocError>
     ensures job { IfOk result (λ job. IsJobOf job (map string_bytes words.now)) }

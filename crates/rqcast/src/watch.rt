@@ -9,6 +9,9 @@ use std::time::{Clock, Instant};
 // How long a line stands before it is written anew, in milliseconds.
 const PERIOD: u128 = 1000;
 
+// What clears a line of a terminal from here on.
+const CLEAR: &str = "\x1b[K";
+
 /// Writes a line at the first read past each second, over the one before: how many cells came, how many
 /// packets are missing, and how many bytes came a second.
 #[derive(Drop)]
@@ -42,7 +45,7 @@ impl<'a, C: Clock, W: Write> Watch<'a, C, W> {
         }
     }
 
-    // Where a second has passed, how many bytes came in it.
+    // Where a second has passed, how many bytes came a second in it.
     fn past_second(&mut self) -> io::Result<Option<u64>> {
         let now = Instant::now(self.clock)?;
         let Some(told) = self.told else {
@@ -66,17 +69,21 @@ impl<C: Clock, W: Write> Progress for Watch<'_, C, W> {
         let Ok(Some(rate)) = self.past_second() else {
             return;
         };
-        let missing = match decoder {
-            Some(decoder) => missing_packets(decoder),
-            None => 0,
+        let Some(out) = &mut self.out else {
+            return;
         };
-        if let Some(out) = &mut self.out {
-            let cells = seen.cells;
-            self.is_told = write!(
-                out,
-                "\r{cells} cells, {missing} packets missing, {rate} bytes a second "
-            )
-            .is_ok();
-        }
+        self.is_told = true;
+        let cells = seen.cells;
+        // The line before may have been longer: what it leaves is cleared.
+        let _ = match decoder {
+            Some(decoder) => {
+                let missing = missing_packets(decoder);
+                write!(
+                    out,
+                    "\r{cells} cells, {missing} packets missing, {rate} bytes a second{CLEAR}"
+                )
+            }
+            None => write!(out, "\r{cells} cells, {rate} bytes a second{CLEAR}"),
+        };
     }
 }
