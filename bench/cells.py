@@ -1,0 +1,301 @@
+"""A model of cells and of their receivers, from docs/CELLS.md and RFC 6330 alone. It shares no code with the codec but the tables."""
+import functools
+from hashlib import sha512
+from typing import NamedTuple
+
+from building import all_rows, numbers
+
+MARK, HEAD, AROUND = b"RQC\1", 36, 48
+PRODUCTS = [bytes(256)]
+
+
+def make_products():
+    """The products of octets (5.7), a table for each octet."""
+    doubled = bytes((octet << 1 ^ (octet >> 7) * 0x11D) & 255 for octet in range(256))
+    for octet in range(1, 256):
+        half = PRODUCTS[octet >> 1].translate(doubled)
+        PRODUCTS.append(bytes(product ^ (other if octet & 1 else 0) for other, product in enumerate(half)))
+
+
+make_products()
+V = [numbers("random_numbers", f"V{place}") for place in range(4)]
+DEGREES = numbers("degrees", "DEGREE_STARTS")
+ROWS = all_rows()
+
+
+def random_number(y, i, m):
+    """Rand (5.3.5.1)."""
+    return (V[0][(y + i) & 255] ^ V[1][((y >> 8) + i) & 255] ^ V[2][((y >> 16) + i) & 255] ^ V[3][((y >> 24) + i) & 255]) % m
+
+
+class Rows:
+    """The equations of blocks of so many symbols, as sums of the L intermediate ones, a number of L octets each."""
+
+    def __init__(self, symbols):
+        row = next(row for row in ROWS if row[0] >= symbols)
+        self.extended, self.index, self.s, self.h, self.w, self.p1 = row
+        self.symbols, self.length = symbols, self.extended + self.s + self.h
+        self.p = self.length - self.w
+        self.fixed = self.ldpc() + self.hdpc()
+
+    def octet(self, column):
+        return 1 << 8 * (self.length - 1 - column)
+
+    def ldpc(self):
+        """5.3.3.3, the LDPC symbols: three ones a column, two neighbours among the PI symbols, and the symbol itself."""
+        sums = [self.octet(self.w - self.s + i) ^ self.octet(self.w + i % self.p) ^ self.octet(self.w + (i + 1) % self.p) for i in range(self.s)]
+        for i in range(self.w - self.s):
+            for times in range(3):
+                sums[(i + times * (1 + i // self.s)) % self.s] ^= self.octet(i)
+        return sums
+
+    def hdpc(self):
+        """5.3.3.3, the HDPC symbols: MT * GAMMA, and the symbol itself."""
+        columns, last = [], self.extended + self.s - 1
+        for j in range(last, -1, -1):
+            column = [PRODUCTS[2][octet] for octet in columns[-1]] if columns else []
+            if not columns:
+                column = [1]
+                while len(column) < self.h:
+                    column.append(PRODUCTS[2][column[-1]])
+            else:
+                first = random_number(j + 1, 6, self.h)
+                column[first] ^= 1
+                column[(first + random_number(j + 1, 7, self.h - 1) + 1) % self.h] ^= 1
+            columns.append(column)
+        columns.reverse()
+        return [sum(columns[j][i] * self.octet(j) for j in range(last + 1)) ^ self.octet(last + 1 + i) for i in range(self.h)]
+
+    def places(self, internal):
+        """Which intermediate symbols the encoding symbol of an internal id is the sum of: Tuple and Enc (5.3.5.3, 5.3.5.4)."""
+        a = (53591 + self.index * 997) | 1
+        y = (10267 * (self.index + 1) + internal * a) % 2**32
+        v = random_number(y, 0, 2**20)
+        degree = min(next(d for d in range(1, len(DEGREES)) if v < DEGREES[d]), self.w - 2)
+        step, at = 1 + random_number(y, 1, self.w - 1), random_number(y, 2, self.w)
+        found = [(at + i * step) % self.w for i in range(degree)]
+        wanted = degree + (2 + random_number(internal, 3, 2) if degree < 4 else 2)
+        step, at = 1 + random_number(internal, 4, self.p1 - 1), random_number(internal, 5, self.p1)
+        while len(found) < wanted:
+            if at < self.p:
+                found.append(self.w + at)
+            at = (at + step) % self.p1
+        return found
+
+    def places_of(self, esi):
+        return self.places(esi if esi < self.symbols else esi + self.extended - self.symbols)
+
+    def received(self, ids):
+        """The equations of these encoding symbols, behind those of the padding, which has zeros."""
+        found = [self.places(internal) for internal in range(self.symbols, self.extended)] + [self.places_of(esi) for esi in ids]
+        return [functools.reduce(lambda one, other: one ^ self.octet(other), places, 0) for places in found]
+
+
+@functools.lru_cache(None)
+def rows_of(symbols):
+    return Rows(symbols)
+
+
+def eliminate(rows, columns, width, upwards):
+    """Brings rows of so many octets to their echelon over the first columns. Answers how many of these have a pivot."""
+    rank = 0
+    for column in range(columns):
+        shift = 8 * (width - 1 - column)
+        octets = [row >> shift & 255 for row in rows]
+        found = next((at for at in range(rank, len(rows)) if octets[at]), None)
+        if found is None:
+            continue
+        rows[rank], rows[found], octets[found] = rows[found], rows[rank], octets[rank]
+        pivot = rows[rank].to_bytes(width, "big")
+        pivot = pivot.translate(PRODUCTS[next(by for by in range(256) if PRODUCTS[by][pivot[column]] == 1)])
+        times = {1: int.from_bytes(pivot, "big")}
+        rows[rank] = times[1]
+        for at in range(0 if upwards else rank + 1, len(rows)):
+            octet = octets[at]
+            if octet and at != rank:
+                if octet not in times:
+                    times[octet] = int.from_bytes(pivot.translate(PRODUCTS[octet]), "big")
+                rows[at] ^= times[octet]
+        rank += 1
+    return rank
+
+
+def is_determined(symbols, ids):
+    """Whether packets of these ids, which differ, determine a block."""
+    if len(ids) < symbols or all(esi in ids for esi in range(symbols)):
+        return len(ids) >= symbols
+    rows = rows_of(symbols)
+    return eliminate(rows.received(ids) + rows.fixed, rows.length, rows.length, upwards=False) == rows.length
+
+
+class Block:
+    """A source block, and its encoding symbols."""
+
+    def __init__(self, symbols):
+        self.symbols, self.size = symbols, len(symbols[0])
+
+    @functools.cached_property
+    def intermediate(self):
+        rows = rows_of(len(self.symbols))
+        values = [bytes(self.size)] * (rows.extended - len(self.symbols)) + self.symbols
+        behind = [int.from_bytes(value, "big") for value in values] + [0] * (rows.s + rows.h)
+        lefts = rows.received(range(len(self.symbols))) + rows.fixed
+        solved = [left << 8 * self.size | value for left, value in zip(lefts, behind)]
+        assert eliminate(solved, rows.length, rows.length + self.size, upwards=True) == rows.length
+        return [row & (1 << 8 * self.size) - 1 for row in solved[: rows.length]]
+
+    def symbol(self, esi):
+        if esi < len(self.symbols):
+            return self.symbols[esi]
+        places = rows_of(len(self.symbols)).places_of(esi)
+        return functools.reduce(lambda one, other: one ^ self.intermediate[other], places, 0).to_bytes(self.size, "big")
+
+
+class Configuration(NamedTuple):
+    """What 12 bytes say (3.3.2, 3.3.3)."""
+
+    length: int
+    size: int
+    blocks: int
+    sub_blocks: int
+    alignment: int
+
+    def to_bytes(self):
+        parts = zip(self, (5, 2, 1, 2, 1))
+        first, *others = (number.to_bytes(count, "big") for number, count in parts)
+        return first + b"\0" + b"".join(others)
+
+    def largest(self):
+        return -(-(-(-self.length // self.size)) // self.blocks)
+
+    def counts(self):
+        """How many symbols each block has: Partition (4.4.1.2)."""
+        symbols = -(-self.length // self.size)
+        large = symbols % self.blocks
+        return [symbols // self.blocks + (block < large) for block in range(self.blocks)]
+
+    def is_taken(self):
+        """Whether coders take it."""
+        sound = self.size > 0 and self.alignment > 0 and self.size % self.alignment == 0 and self.blocks > 0
+        return sound and self.largest() <= ROWS[-1][0]
+
+
+def configuration_of(head):
+    parts = [head[at : at + count] for at, count in ((20, 5), (26, 2), (28, 1), (29, 2), (31, 1))]
+    return Configuration(*(int.from_bytes(part, "big") for part in parts))
+
+
+def with_check(data, count):
+    return data + sha512(data).digest()[:count]
+
+
+def head_of(name, configuration):
+    return with_check(MARK + name + configuration, 4)
+
+
+def cell_of(head, block, esi, symbol):
+    return with_check(head + bytes([block]) + esi.to_bytes(3, "big") + symbol, 8)
+
+
+class Object:
+    """An object with its configuration, of one sub-block a block. Its name is another one where that is said."""
+
+    def __init__(self, data, configuration, name=None):
+        self.data, self.configuration = data, configuration
+        self.is_right = name is None
+        self.head = head_of(name or sha512(data).digest()[:16], configuration.to_bytes())
+        size, counts = configuration.size, configuration.counts()
+        padded = data.ljust(sum(counts) * size, b"\0")
+        symbols = [padded[at : at + size] for at in range(0, len(padded), size)]
+        self.blocks = [Block(symbols[sum(counts[:block]) :][:count]) for block, count in enumerate(counts)]
+
+    def cell(self, block, esi):
+        return cell_of(self.head, block, esi, self.blocks[block].symbol(esi))
+
+
+class Place(NamedTuple):
+    """A place of bytes where a head stands. `end` is where its cell would end."""
+
+    at: int
+    head: bytes
+    end: int
+    is_cell: bool
+    block: int
+    esi: int
+
+
+def places_in(data):
+    """The places of bytes where a head stands."""
+    found, at = [], data.find(MARK)
+    while at >= 0:
+        head = data[at : at + HEAD]
+        if len(head) == HEAD and with_check(head[:32], 4) == head and head[25] == 0:
+            end = at + AROUND + configuration_of(head).size
+            is_cell = end <= len(data) and with_check(data[at : end - 8], 8) == data[at:end]
+            number = int.from_bytes(data[at + HEAD : at + HEAD + 4], "big")
+            found.append(Place(at, head, end, is_cell, number >> 24, number & 2**24 - 1))
+        at = data.find(MARK, at + 1)
+    return found
+
+
+class Received(NamedTuple):
+    """How a receiver ends: how many bytes it read, the lines that it prints, the object that it writes, and its status."""
+
+    read: int
+    lines: list
+    written: bytes
+    status: int
+
+
+def is_wanted(head, name):
+    return configuration_of(head).is_taken() and head[4:32].startswith(name)
+
+
+def counted(damaged, others, last):
+    lines = [f"{word} {count}" for word, count in (("damaged", damaged), ("other", others)) if count]
+    return lines + [last] * (last is not None)
+
+
+def find_first(places, name, ends):
+    """The first wanted cell, and the end of the read that makes it whole."""
+    whole = [place for place in places if place.is_cell and is_wanted(place.head, name)]
+    return next(((place, end) for end in ends for place in whole if place.end <= end), None)
+
+
+def missing_of(configuration, ids):
+    """How many packets more each block needs at least."""
+    counts = configuration.counts()
+    return [0 if is_determined(count, ids[block]) else max(count - len(ids[block]), 1) for block, count in enumerate(counts)]
+
+
+def receive(data, name, ends, objects):
+    """What a receiver makes of bytes that are read up to these ends, where all cells are of these objects."""
+    places = places_in(data)
+    found = find_first(places, name, ends)
+    if not found:
+        wanted = [is_wanted(place.head, name) for place in places]
+        damaged = sum(is_one and place.end <= len(data) for is_one, place in zip(wanted, places))
+        return Received(len(data), counted(damaged, len(places) - sum(wanted), "incomplete"), b"", 2)
+    first, front = found
+    told = next(thing for thing in objects if thing.head == first.head)
+    before = [place for place in places if place.at < first.at]
+    damaged = sum(is_wanted(place.head, name) and place.end <= front for place in before)
+    others = sum(not is_wanted(place.head, name) for place in before)
+    ids, taken = [set() for _ in told.blocks], 0
+    for end in (end for end in ends if end >= front):
+        cells = [place for place in places if place.is_cell and place.end <= end and place.head == told.head]
+        for place in cells[taken:]:
+            if place.block < len(ids):
+                ids[place.block].add(place.esi)
+        is_new, taken = len(cells) > taken, len(cells)
+        if is_new and not any(missing_of(told.configuration, ids)):
+            break
+    later = [place for place in places if place.at >= first.at and place.at + HEAD <= end]
+    damaged += sum(place.head == told.head and place.end <= end and not place.is_cell for place in later)
+    others += sum(place.head != told.head for place in later) + sum(place.block >= len(ids) for place in cells)
+    missing = sum(missing_of(told.configuration, ids))
+    if missing:
+        return Received(len(data), counted(damaged, others, f"incomplete {missing}"), b"", 2)
+    if not told.is_right:
+        return Received(end, counted(damaged, others, "another object"), b"", 5)
+    return Received(end, counted(damaged, others, None), told.data, 0)
