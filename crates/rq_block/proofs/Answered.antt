@@ -1,10 +1,10 @@
 -- What a decoder of a block answers.
-use Rattle.std.proofs.Common.{◌≡◌, ℕ, ◌*◌, ◌<◌, List, length, Option, Some, None, refl, sym, ap, ◌∙◌, arith, inl, inr}
+use Rattle.std.proofs.Common.{◌≡◌, ℕ, ◌*◌, ◌<◌, List, length, Option, Some, None, refl, sym, ap, ◌∙◌, subst, arith, inl, inr}
 use Rattle.std.proofs.lemmas.Option.{same_Some}
-use Rattle.std.specs.Prelude.{IfSome, unwrap_or}
+use Rattle.std.specs.Prelude.{IfSome, IsSomeAnd, unwrap_or}
 use Rattle.std.specs.Option.{ForSome}
 use Rattle.rq_bytes.specs.SymbolSlab.{Slab, symbol_in}
-use Rattle.rq_standard.specs.Cutting.{symbol_of_block, plain_symbol}
+use Rattle.rq_standard.specs.Cutting.{symbol_of_block}
 use Rattle.rq_standard.specs.TableRows.{IsChecked}
 use Rattle.rq_standard.specs.Equations.{tuple_sum, internal_id}
 use Rattle.rq_standard.specs.ReceivedBlock.{ReceivedBlock, has_received, SolvesReceived, HasReceivedSolution, ReceivedDetermine, IsBlockWith, IsBlockAnswer}
@@ -30,16 +30,16 @@ answer-all h block all is solved = record { some = λ _. inl all; none = λ _. r
 
 -- ---- from the intermediate symbols
 
--- a block cut into symbols that stand elsewhere one after another
-abbrev pub IsCutAs : (h : ReceivedBlock) (symbol_bytes block : List ℕ) → Type 0
-IsCutAs h symbol_bytes block = (e : ℕ) → e < h.source_symbols → symbol_of_block h.configuration h.source_symbols block e ≡ plain_symbol h.configuration.symbol_size symbol_bytes e
-
 rebuilt_length : (o : Option (List ℕ)) (sum : List ℕ) (size : ℕ) → ForSome o (λ payload. length payload ≡ size) → length sum ≡ size → length (unwrap_or o sum) ≡ size
 rebuilt_length None sum size sized long = long
 rebuilt_length (Some x) sum size sized long = sized x refl
 
 pub length-rebuilt : (h : ReceivedBlock) (slab : Slab) (e : ℕ) → IsChecked h.row → ((k : ℕ) → ForSome (h.received k) (λ payload. length payload ≡ h.configuration.symbol_size)) → IsReceivedSolution h slab → length (rebuilt_symbol h slab e) ≡ h.configuration.symbol_size
 length-rebuilt h slab e checked sized s = rebuilt_length (h.received e) (tuple_sum h.row (symbol_in slab) e) h.configuration.symbol_size (sized e) (sum_symbol h.row h.configuration.symbol_size e (symbol_in slab) checked s.symbols).size_is
+
+-- a symbol that is a rebuilt one has its size
+pub rebuilt_sized : (o : Option (List ℕ)) (x : List ℕ) (size : ℕ) → o ≡ Some x → length x ≡ size → IsSomeAnd o (λ bytes. length bytes ≡ size)
+rebuilt_sized o x size is long = subst (λ r. IsSomeAnd r (λ bytes. length bytes ≡ size)) (sym is) long
 
 each_by : (o : Option (List ℕ)) (sum y : List ℕ) → unwrap_or o sum ≡ y → IfSome o (λ payload. payload ≡ y)
 each_by None sum y is = tt
@@ -49,11 +49,11 @@ solved_by : (o : Option (List ℕ)) (sum other : List ℕ) → ((x : List ℕ) �
 solved_by None sum other came same = same
 solved_by (Some x) sum other came same = came x refl
 
-pub rebuilt_block : (h : ReceivedBlock) (slab : Slab) (symbol_bytes block : List ℕ) (n : ℕ) → IsCutAs h symbol_bytes block → IsChecked h.row → IsReceivedSolution h slab → n ≡ h.source_symbols → length block ≡ h.source_symbols * h.configuration.symbol_size
-    → ((k : ℕ) → k < n → Some (rebuilt_symbol h slab k) ≡ Some (plain_symbol h.configuration.symbol_size symbol_bytes k)) → IsBlockWith h block
-rebuilt_block h slab symbol_bytes block n same checked s all long each =
+pub rebuilt_block : (h : ReceivedBlock) (slab : Slab) (block : List ℕ) → IsChecked h.row → IsReceivedSolution h slab → length block ≡ h.source_symbols * h.configuration.symbol_size
+    → ((e : ℕ) → e < h.source_symbols → Some (rebuilt_symbol h slab e) ≡ Some (symbol_of_block h.configuration h.source_symbols block e)) → IsBlockWith h block
+rebuilt_block h slab block checked s long same =
     let cut : (e : ℕ) → e < h.source_symbols → rebuilt_symbol h slab e ≡ symbol_of_block h.configuration h.source_symbols block e =
-    λ e below. same_Some (rebuilt_symbol h slab e) (plain_symbol h.configuration.symbol_size symbol_bytes e) (each e (omega (arith, all))) ∙ sym (same e below) in
+    λ e below. same_Some (rebuilt_symbol h slab e) (symbol_of_block h.configuration h.source_symbols block e) (same e below) in
     record {
       long = long;
       each = λ e below. each_by (h.received e) (tuple_sum h.row (symbol_in slab) e) (symbol_of_block h.configuration h.source_symbols block e) (cut e below);

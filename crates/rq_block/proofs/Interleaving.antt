@@ -1,6 +1,6 @@
 -- A block, sub-block by sub-block.
 use Rattle.std.proofs.Common.{◌≡◌, ℕ, zero, suc, ◌+◌, ◌-◌, ◌*◌, ◌/◌, ◌<◌, ◌≤◌, min, max, List, [], ◌++◌, length, get_or, take, drop, map, replicate, inl, inr, cond, refl, sym, ap, ◌∙◌, subst, arith, append_assoc, length-append}
-use Rattle.std.specs.Prelude.{Result, Ok, Err, OnOk, is_ok}
+use Rattle.std.specs.Prelude.{Result, Ok, Err, OnOk, is_ok, Option, Some, None, IsSomeAnd, unwrap_or}
 use Rattle.std.specs.Int.{div_ceil}
 use Rattle.std.specs.List.{flat_map, range_with_len}
 use Rattle.std.proofs.Math.Nat.{mul-le-mul_right}
@@ -10,7 +10,8 @@ use Rattle.std.proofs.lemmas.List.{get_or-take, get_or-drop, get_or-replicate, g
 use Rattle.rq_block.proofs.NumberRanges.{flat_map-push}
 use Rattle.std.proofs.lemmas.List.FromFn.{fill_by_all, length-map-range_with_len, get_or-map-range_with_len}
 use Rattle.rq_standard.specs.Configuration.{Configuration, IsAligned}
-use Rattle.rq_standard.specs.Cutting.{sub_block_count, sub_block_parts, larger_bytes, sub_block_size, sub_block_start, place_in_block, symbol_of_block, plain_symbol}
+use Rattle.rq_standard.specs.Cutting.{sub_block_count, sub_block_parts, larger_bytes, sub_block_size, sub_block_start, place_in_block, symbol_of_block}
+use Rattle.rq_block.specs.SubBlocks.{AreSymbols, IsCutInto}
 use Rattle.rq_standard.proofs.PlainCut.{map-range_is_take}
 use Rattle.rq_standard.proofs.Interleaved.{IsSubBlock, at_byte, next_start, place_in, place_low}
 
@@ -169,38 +170,45 @@ get_or-pieces f z (suc k) e i long below lt =
           ap (λ n. get_or (front ++ f k) n 0) there ∙ get_or-append-add front (f k) i 0 ∙ ap (λ n. get_or (f n) i 0) (sym is)
     ]
 
--- ---- a block from symbols that come one after another
+-- ---- a block from its symbols
 
 -- the sub-blocks before byte o of a symbol
-pub record HasParts (c : Configuration) (k : ℕ) (symbol_bytes block : List ℕ) (o : ℕ) : Type 0 where
+pub record HasParts (c : Configuration) (k : ℕ) (symbol : ℕ → Option (List ℕ)) (block : List ℕ) (o : ℕ) : Type 0 where
   pub long : length block ≡ o * k
-  pub each : (e t : ℕ) → e < k → t < o → (place_in_block c k e t < o * k) × (get_or block (place_in_block c k e t) 0 ≡ get_or symbol_bytes (e * c.symbol_size + t) 0)
+  pub each : (e t : ℕ) → e < k → t < o → (place_in_block c k e t < o * k) × (get_or block (place_in_block c k e t) 0 ≡ get_or (unwrap_or (symbol e) []) t 0)
 
-pub parts_none : (c : Configuration) (k : ℕ) (symbol_bytes block : List ℕ) → block ≡ [] → HasParts c k symbol_bytes block 0
-parts_none c k symbol_bytes block is = record { long = ap length is ∙ omega arith; each = λ e t below none. absurd (omega arith) }
+pub parts_none : (c : Configuration) (k : ℕ) (symbol : ℕ → Option (List ℕ)) (block : List ℕ) → block ≡ [] → HasParts c k symbol block 0
+parts_none c k symbol block is = record { long = ap length is ∙ omega arith; each = λ e t below none. absurd (omega arith) }
 
 -- bytes of a symbol
-pub symbol_part : (size start width : ℕ) (symbol_bytes : List ℕ) (e : ℕ) → List ℕ
-symbol_part size start width symbol_bytes e = take (e * size + start + width - (e * size + start)) (drop (e * size + start) symbol_bytes)
+pub symbol_part : (start width : ℕ) (symbol : List ℕ) → List ℕ
+symbol_part start width symbol = take (start + width - start) (drop start symbol)
 
-module _ (size k start width : ℕ) (symbol_bytes : List ℕ) (within : start + width ≤ size) (whole : length symbol_bytes ≡ k * size) where
-  length-symbol_part : (e : ℕ) → e < k → length (symbol_part size start width symbol_bytes e) ≡ width
-  unfolding symbol_part
-  length-symbol_part e below =
-      let b : e + 1 ≤ k = omega arith in
-      let width_is : e * size + start + width - (e * size + start) ≡ width = omega arith in
-      length-take-le (e * size + start + width - (e * size + start)) (drop (e * size + start) symbol_bytes) (omega (arith, mul-le-mul_right size b, length-drop (e * size + start) symbol_bytes)) ∙ width_is
+length-symbol_part : (start width size : ℕ) (symbol : List ℕ) → start + width ≤ size → length symbol ≡ size → length (symbol_part start width symbol) ≡ width
+unfolding symbol_part
+length-symbol_part start width size symbol within long =
+    let width_is : start + width - start ≡ width = omega arith in
+    length-take-le (start + width - start) (drop start symbol) (omega (arith, length-drop start symbol)) ∙ width_is
 
-  get_or-symbol_part : (e i : ℕ) → i < width → get_or (symbol_part size start width symbol_bytes e) i 0 ≡ get_or symbol_bytes (e * size + (start + i)) 0
-  unfolding symbol_part
-  get_or-symbol_part e i lt =
-      let there : e * size + start + i ≡ e * size + (start + i) = omega arith in
-      get_or-take (e * size + start + width - (e * size + start)) (drop (e * size + start) symbol_bytes) i 0 (omega arith) ∙ get_or-drop (e * size + start) symbol_bytes i 0 ∙ ap (λ n. get_or symbol_bytes n 0) there
+get_or-symbol_part : (start width : ℕ) (symbol : List ℕ) (i : ℕ) → i < width → get_or (symbol_part start width symbol) i 0 ≡ get_or symbol (start + i) 0
+unfolding symbol_part
+get_or-symbol_part start width symbol i lt = get_or-take (start + width - start) (drop start symbol) i 0 (omega arith) ∙ get_or-drop start symbol i 0
 
-parts_step : (c : Configuration) (k o z : ℕ) (symbol_bytes xs : List ℕ) → IsSubBlock c o z → length symbol_bytes ≡ k * c.symbol_size → HasParts c k symbol_bytes xs o → HasParts c k symbol_bytes (xs ++ flat_map (symbol_part c.symbol_size o z symbol_bytes) (range_with_len 0 k)) (o + z)
-parts_step c k o z symbol_bytes xs part whole h =
-    let f = symbol_part c.symbol_size o z symbol_bytes in
-    let sized = length-symbol_part c.symbol_size k o z symbol_bytes part.room whole in
+-- a symbol that is there
+pub length-there : (o : Option (List ℕ)) (n : ℕ) → IsSomeAnd o (λ bytes. length bytes ≡ n) → length (unwrap_or o []) ≡ n
+length-there (Some x) n sized = sized
+length-there None n sized = absurd sized
+
+there_is : (o : Option (List ℕ)) (n : ℕ) → IsSomeAnd o (λ bytes. length bytes ≡ n) → o ≡ Some (unwrap_or o [])
+there_is (Some x) n sized = refl
+there_is None n sized = absurd sized
+
+parts_step : (c : Configuration) (k o z : ℕ) (symbol : ℕ → Option (List ℕ)) (xs : List ℕ) → IsSubBlock c o z → AreSymbols c k symbol → HasParts c k symbol xs o
+    → HasParts c k symbol (xs ++ flat_map (λ e. symbol_part o z (unwrap_or (symbol e) [])) (range_with_len 0 k)) (o + z)
+parts_step c k o z symbol xs part there h =
+    let bytes = λ (e : ℕ). unwrap_or (symbol e) [] in
+    let f = λ (e : ℕ). symbol_part o z (bytes e) in
+    let sized : (e : ℕ) → e < k → length (f e) ≡ z = λ e below. length-symbol_part o z c.symbol_size (bytes e) part.room (length-there (symbol e) c.symbol_size (there e below)) in
     let back = flat_map f (range_with_len 0 k) in record {
       long = length-append xs back ∙ omega (arith, h.long, length-pieces f z k sized);
       each = λ e t below lt. elim (cases_lt t o) [
@@ -210,26 +218,28 @@ parts_step c k o z symbol_bytes xs part whole h =
         | inr here ↦
             let is : place_in_block c k e t ≡ o * k + z * e + (t - o) = place_in c k e o z t part here lt in
             let low = place_low k e o z t below here lt in
-            let there : place_in_block c k e t ≡ length xs + (e * z + (t - o)) = omega (arith, is, h.long) in
+            let place : place_in_block c k e t ≡ length xs + (e * z + (t - o)) = omega (arith, is, h.long) in
             let byte : o + (t - o) ≡ t = omega arith in (
               omega (arith, is, low),
-              ap (λ n. get_or (xs ++ back) n 0) there ∙ get_or-append-add xs back (e * z + (t - o)) 0 ∙ get_or-pieces f z k e (t - o) sized below (omega arith)
-                  ∙ get_or-symbol_part c.symbol_size k o z symbol_bytes part.room whole e (t - o) (omega arith) ∙ ap (λ n. get_or symbol_bytes (e * c.symbol_size + n) 0) byte,
+              ap (λ n. get_or (xs ++ back) n 0) place ∙ get_or-append-add xs back (e * z + (t - o)) 0 ∙ get_or-pieces f z k e (t - o) sized below (omega arith)
+                  ∙ get_or-symbol_part o z (bytes e) (t - o) (omega arith) ∙ ap (λ n. get_or (bytes e) n 0) byte,
             )
       ];
     }
 
 -- one sub-block more
-pub parts_more : (c : Configuration) (k o z size : ℕ) (symbol_bytes shown xs ys : List ℕ) → IsAligned c → Reaches c o → o < c.symbol_size → z ≡ sub_block_size c o → size ≡ c.symbol_size → shown ≡ symbol_bytes → length symbol_bytes ≡ k * c.symbol_size → HasParts c k symbol_bytes xs o
-    → ys ≡ xs ++ flat_map (λ e. take (e * size + o + z - (e * size + o)) (drop (e * size + o) shown)) (range_with_len 0 k) → HasParts c k symbol_bytes ys (o + z)
+pub parts_more : (c : Configuration) (k o z : ℕ) (symbol : ℕ → Option (List ℕ)) (xs ys : List ℕ) → IsAligned c → Reaches c o → o < c.symbol_size → z ≡ sub_block_size c o → AreSymbols c k symbol → HasParts c k symbol xs o
+    → ys ≡ xs ++ flat_map (λ e. take (o + z - o) (drop o (unwrap_or (symbol e) []))) (range_with_len 0 k) → HasParts c k symbol ys (o + z)
 unfolding symbol_part
-parts_more c k o z size symbol_bytes shown xs ys aligned at below is same seen whole h grown =
-    let part = part_from c o z aligned at below is in
-    subst (λ l. HasParts c k symbol_bytes l (o + z)) (sym (grown ∙ ap (λ p. xs ++ flat_map (symbol_part size o z p) (range_with_len 0 k)) seen ∙ ap (λ s. xs ++ flat_map (symbol_part s o z symbol_bytes) (range_with_len 0 k)) same)) (parts_step c k o z symbol_bytes xs part whole h)
+parts_more c k o z symbol xs ys aligned at below is there h grown =
+    subst (λ l. HasParts c k symbol l (o + z)) (sym grown) (parts_step c k o z symbol xs (part_from c o z aligned at below is) there h)
 
 -- all sub-blocks
-pub parts_all : (c : Configuration) (k o : ℕ) (symbol_bytes block : List ℕ) → o ≡ c.symbol_size → length symbol_bytes ≡ k * c.symbol_size → HasParts c k symbol_bytes block o → (e : ℕ) → e < k → symbol_of_block c k block e ≡ plain_symbol c.symbol_size symbol_bytes e
-unfolding symbol_of_block plain_symbol
-parts_all c k o symbol_bytes block all whole h e below =
-    let b : e + 1 ≤ k = omega arith in
-    map-range_is_take symbol_bytes (λ t. get_or block (place_in_block c k e t) 0) (e * c.symbol_size) c.symbol_size (omega (arith, whole, mul-le-mul_right c.symbol_size b)) (λ t lt. (h.each e t below (omega (arith, all))).1)
+pub parts_all : (c : Configuration) (k o : ℕ) (symbol : ℕ → Option (List ℕ)) (block : List ℕ) → o ≡ c.symbol_size → AreSymbols c k symbol → HasParts c k symbol block o → IsCutInto c k block symbol
+unfolding symbol_of_block
+parts_all c k o symbol block all there h e below =
+    let bytes = unwrap_or (symbol e) [] in
+    let long = length-there (symbol e) c.symbol_size (there e below) in
+    let same = map-range_is_take bytes (λ t. get_or block (place_in_block c k e t) 0) 0 c.symbol_size (omega (arith, long))
+    (λ t lt. let first : t ≡ 0 + t = omega arith in (h.each e t below (omega (arith, all))).1 ∙ ap (λ n. get_or bytes n 0) first) in
+    there_is (symbol e) c.symbol_size (there e below) ∙ ap (λ l. Some l) (sym (same ∙ take_all c.symbol_size bytes (omega (arith, long))))

@@ -17,4 +17,5 @@ pub mod SourceBlockDecoder
 pub mod SourceBlockEncoder
 pub mod SourceBlockEncodingPlan
 pub mod SourceBlockEncodingPlanCache
+pub mod SourceSymbols
 pub mod SubBlocks

@@ -6,6 +6,7 @@ mod known;
 mod last_outcome;
 mod packet_stop;
 mod payloads;
+pub(crate) mod source_symbols;
 
 pub use block::SourceBlockDecoder;
 pub use packet_stop::PacketStop;

@@ -1,11 +1,13 @@
 //! How the bytes of a source block and of its symbols lie in one another (RFC 6330, 4.4.1.2).
-ghost use Rattle.std.specs.Prelude.{◌≡◌, ◌+◌, ◌*◌, ◌^◌, ◌<◌, ◌≤◌, ◌++◌, length, map, slice_index, IfOk, OnOk, vec_len};
+ghost use Rattle.std.specs.Prelude.{◌≡◌, ◌+◌, ◌*◌, ◌^◌, ◌<◌, ◌≤◌, [], ◌++◌, length, map, slice_index, IfOk, OnOk, vec_len};
 ghost use Rattle.std.specs.List.{range_with_len};
 ghost use Rattle.rq_bytes.specs.SymbolSlab.{slab_of};
 ghost use Rattle.rq_standard.specs.Configuration.{IsAligned};
 ghost use Rattle.rq_standard.specs.Cutting.{sub_block_size, symbol_of_block};
-ghost use Rattle.rq_block.specs.SubBlocks.{IsCutInto};
+ghost use Rattle.rq_block.specs.SourceSymbols.{source_symbol};
+ghost use Rattle.rq_block.specs.SubBlocks.{AreSymbols, IsCutInto};
 
+use crate::decoder::source_symbols::SourceSymbols;
 use rq_base::base::{ObjectTransmissionInformation, partition};
 use rq_bytes::symbol_slab::SymbolSlab;
 use std::alloc::{AllocError, Global};
@@ -104,26 +106,24 @@ impl BlockLayout {
         Ok(())
     }
 
-    /// The block that has these symbols, which come one after another.
+    /// Puts a block together of its symbols, in a buffer that is empty.
     pub(crate) fn block_of_symbols(
         &self,
-        alloc: Global,
-        symbol_bytes: Vec<u8>,
+        symbols: &SourceSymbols,
+        room: Vec<u8>,
     ) -> Result<Vec<u8>, AllocError>
-        requires long { length symbol_bytes.items ≡ self.now.source_symbols * self.now.config.symbol_size }
+        requires symbols { AreSymbols self.now.config self.now.source_symbols (source_symbol symbols.now) }
+        requires empty { room.items ≡ [] }
         ensures long { IfOk result (λ block. length block.items ≡ self.now.source_symbols * self.now.config.symbol_size) }
-        ensures each { IfOk result (λ block. IsCutInto self.now.config self.now.source_symbols block.items symbol_bytes.items) }
+        ensures each { IfOk result (λ block. IsCutInto self.now.config self.now.source_symbols block.items (source_symbol symbols.now)) }
     {
-        if self.config.sub_blocks() <= 1 {
-            return Ok(symbol_bytes);
-        }
         let size = usize::from(self.config.symbol_size());
-        let mut block = Vec::with_capacity(alloc, symbol_bytes.len())?;
+        let mut block = room;
         let mut start = 0;
         while start < size {
             let width = sub_block_size(&self.config, start);
             let part = SubBlock { start, width };
-            self.append_sub_block(&mut block, symbol_bytes.as_slice(), part)?;
+            self.append_sub_block(&mut block, symbols, part)?;
             start += width;
         }
         Ok(block)
@@ -133,17 +133,16 @@ impl BlockLayout {
     fn append_sub_block(
         &self,
         block: &mut Vec<u8>,
-        symbol_bytes: &[u8],
+        symbols: &SourceSymbols,
         part: SubBlock,
     ) -> Result<(), AllocError>
         requires within { part.start + part.width ≤ self.now.config.symbol_size }
-        requires long { length symbol_bytes.now ≡ self.now.source_symbols * self.now.config.symbol_size }
-        ensures { OnOk result (block.new.items ≡ block.old.items ++ parts_by self.now symbol_bytes.now part.start part.width) }
+        requires symbols { AreSymbols self.now.config self.now.source_symbols (source_symbol symbols.now) }
+        ensures { OnOk result (block.new.items ≡ block.old.items ++ parts_by self.now (source_symbol symbols.now) part.start part.width) }
     {
-        let size = usize::from(self.config.symbol_size());
         for e in 0..self.source_symbols {
-            let from = e as usize * size + part.start;
-            block.extend_from_slice(&symbol_bytes[from..from + part.width])?;
+            let symbol = symbols.symbol(e);
+            block.extend_from_slice(&symbol[part.start..part.start + part.width])?;
         }
         Ok(())
     }

@@ -12,7 +12,8 @@ use crate::decoder::columns::{keep_where_it_solves, octet_symbols};
 use crate::decoder::known::known_symbol_ids;
 use crate::decoder::last_outcome::LastOutcome;
 use crate::decoder::packet_stop::PacketStop;
-use crate::decoder::payloads::{check_size, join, keep_first};
+use crate::decoder::payloads::{check_size, keep_first};
+use crate::decoder::source_symbols::SourceSymbols;
 use crate::enc::encoding_symbol;
 use crate::encoder::SPARSE_MATRIX_THRESHOLD;
 use crate::solving::homogeneous;
@@ -345,13 +346,14 @@ impl SourceBlockDecoder {
         requires { HasSourceSymbols (received_of self.now).source_symbols (has_received (received_of self.now)) }
         ensures { IfOk result (λ block. IsBlockWith (received_of self.now) block.items) }
     {
-        let symbol_bytes = join(
-            self.alloc,
-            self.source_symbols,
-            self.symbol_size(),
-            &self.received,
-        )?;
-        self.layout().block_of_symbols(self.alloc, symbol_bytes)
+        let whole = self.source_symbols as usize * self.symbol_size();
+        let room = Vec::with_capacity(self.alloc, whole)?;
+        let lost = BTreeMap::new(self.alloc);
+        let symbols = SourceSymbols {
+            received: &self.received,
+            lost: &lost,
+        };
+        self.layout().block_of_symbols(&symbols, room)
     }
 
     /// The block, in bytes, whose symbols begin with the octets that a column has for them, and go on

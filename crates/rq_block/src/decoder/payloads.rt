@@ -1,7 +1,5 @@
 //! The payloads of a block by encoding symbol id.
-ghost use Rattle.std.specs.Prelude.{◌≡◌, ◌≢◌, ℕ, ◌*◌, ◌<◌, Some, length, IfOk, IfErr, OnOk, OnErr, IsSome, not};
-ghost use Rattle.std.specs.Option.{ForSome};
-ghost use Rattle.rq_standard.specs.Cutting.{plain_symbol};
+ghost use Rattle.std.specs.Prelude.{◌≡◌, ◌≢◌, ℕ, length, IfOk, IfErr, OnOk, OnErr, not};
 ghost use Rattle.rq_block.specs.Missing.{payload_of, has_payload, KeepsFirst};
 ghost use Rattle.rq_block.specs.declared.decoder.packet_stop.PacketStop.TheVariants.{Refused};
 
@@ -45,27 +43,4 @@ pub(crate) fn keep_first(
             Ok(true)
         }
     }
-}
-
-/// The symbols one after another, where each of them was received.
-pub(crate) fn join(
-    alloc: Global,
-    source_symbols: u32,
-    size: usize,
-    received: &BTreeMap<u32, Vec<u8>>,
-) -> Result<Vec<u8>, AllocError>
-    requires fits { size < 65536 }
-    requires all { (e : ℕ) → e < source_symbols → IsSome (payload_of received.now e) }
-    requires sized { (e : ℕ) → ForSome (payload_of received.now e) (λ payload. length payload ≡ size) }
-    ensures long { IfOk result (λ block. length block.items ≡ source_symbols * size) }
-    ensures each { IfOk result (λ block. (e : ℕ) → e < source_symbols → payload_of received.now e ≡ Some (plain_symbol size block.items e)) }
-{
-    let mut block = Vec::with_capacity(alloc, source_symbols as usize * size)?;
-    for e in 0..source_symbols {
-        let Some(symbol) = received.get(&e) else {
-            unreachable!()
-        };
-        block.extend_from_slice(symbol.as_slice())?;
-    }
-    Ok(block)
 }

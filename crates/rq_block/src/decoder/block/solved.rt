@@ -1,13 +1,12 @@
 //! A block's intermediate symbols, from what was received of it, and the block from both (RFC 6330,
 //! section 5.4).
-ghost use Rattle.std.specs.Prelude.{◌≡◌, ◌++◌, [], IfOk, IfErr, OnOk, IsSome, unwrap_or};
-ghost use Rattle.rq_standard.specs.Received.{or_later};
-ghost use Rattle.rq_block.specs.Missing.{payload_of};
+ghost use Rattle.std.specs.Prelude.{◌≡◌, [], IfOk, IfErr};
 
 use super::SourceBlockDecoder;
 use crate::decoder::fitting::solves_all;
 use crate::decoder::known::{known_symbol_ids, known_symbol_values};
 use crate::decoder::payloads::keep_first;
+use crate::decoder::source_symbols::SourceSymbols;
 use crate::enc::encoding_symbol;
 use crate::solving::{BlockOperations, BlockOutcome, solve_or_show};
 use rq_bytes::error::Error;
@@ -98,11 +97,12 @@ impl SourceBlockDecoder {
         ensures { IfOk result (λ block. IsBlockWith (received_of self.now) block.items) }
     {
         let lost = self.lost_symbols(&intermediate)?;
-        let mut symbol_bytes = self.room_for_block(intermediate)?;
-        for e in 0..self.source_symbols {
-            self.push_symbol(&lost, e, &mut symbol_bytes)?;
-        }
-        self.layout().block_of_symbols(self.alloc, symbol_bytes)
+        let room = self.room_for_block(intermediate)?;
+        let symbols = SourceSymbols {
+            received: &self.received,
+            lost: &lost,
+        };
+        self.layout().block_of_symbols(&symbols, room)
     }
 
     // The source symbols that didn't come, as sums of intermediate symbols.
@@ -134,24 +134,5 @@ impl SourceBlockDecoder {
         bytes.clear();
         bytes.shrink_to(whole);
         Ok(bytes)
-    }
-
-    // A source symbol behind those before it: the one that was received, or that among the lost ones.
-    fn push_symbol(
-        &self,
-        lost: &BTreeMap<u32, Vec<u8>>,
-        e: u32,
-        bytes: &mut Vec<u8>,
-    ) -> Result<(), AllocError>
-        requires { IsSome (or_later ((received_of self.now).received e) (payload_of lost.now e)) }
-        ensures { OnOk result (bytes.new.items ≡ bytes.old.items ++ unwrap_or (or_later ((received_of self.now).received e) (payload_of lost.now e)) []) }
-    {
-        if let Some(symbol) = self.received.get(&e) {
-            return bytes.extend_from_slice(symbol.as_slice());
-        }
-        let Some(symbol) = lost.get(&e) else {
-            unreachable!()
-        };
-        bytes.extend_from_slice(symbol.as_slice())
     }
 }

@@ -1,14 +1,11 @@
-use Rattle.std.proofs.Common.{◌≡◌, ◌+◌, ◌*◌, ◌<◌, ◌≤◌, refl, ap, ◌∙◌, arith}
-use Rattle.rq_standard.proofs.PlainCut.{symbol_of_block-plain}
+use Rattle.std.proofs.Common.{◌≡◌, ◌+◌, ◌*◌, ◌<◌, ◌≤◌, ap, ◌∙◌, arith}
+use Rattle.rq_block.specs.SourceSymbols.{source_symbol}
 use Rattle.rq_block.proofs.Interleaving.{reaches_none, reaches_more, width_within, parts_none, parts_more, parts_all}
 use Rattle.rq_block.proofs.sub_blocks.BlockLayout.block_of_symbols.Goals as goal
 use Rattle.rq_block.proofs.sub_blocks.BlockLayout.block_of_symbols.Goals.{After-loop-start, After-sub_block_size-width}
 
-pub returns-then-sub_blocks-le1-clause-each : goal.returns-then-sub_blocks-le1-clause-each
-returns-then-sub_blocks-le1-clause-each c = λ e below. symbol_of_block-plain c.args.self.now.config c.args.self.now.source_symbols c.args.symbol_bytes.items e (record { one = omega (arith, c.if-sub_blocks-le1.true, c.sub_blocks.ensures); aligned = c.args.self.now.aligned.aligned; alignment_positive = c.args.self.now.aligned.alignment_positive }) c.requires.long below
-
 pub loop-start-init : goal.loop-start-init
-loop-start-init c = record { at = reaches_none c.args.self.now.config c.args.self.now.aligned; so_far = parts_none c.args.self.now.config c.args.self.now.source_symbols c.args.symbol_bytes.items c.in_ok-block.block.items c.in_ok-block.ensures.items }
+loop-start-init c = record { at = reaches_none c.args.self.now.config c.args.self.now.aligned; so_far = parts_none c.args.self.now.config c.args.self.now.source_symbols (source_symbol c.args.symbols.now) c.args.room.items c.requires.empty }
 
 module _ (c : After-sub_block_size-width) where
   -- the sub-block has bytes, and ends within the symbol
@@ -30,12 +27,11 @@ pub loop-start-preserved : goal.loop-start-preserved
 loop-start-preserved c =
     let k = c.args.self.now.config in
     let v = c.loop-start.invariant in
-    let size : c.from-size.result ≡ k.symbol_size = c.from-size.ensures ∙ c.symbol_size.ensures in
-    let below : c.loop-start.start < k.symbol_size = omega (arith, c.loop-start-test.true, size) in
+    let below : c.loop-start.start < k.symbol_size = omega (arith, c.loop-start-test.true, c.from-size.ensures, c.symbol_size.ensures) in
     record {
       at = reaches_more k c.loop-start.start c.sub_block_size-width.result c.args.self.now.aligned v.at below c.sub_block_size-width.ensures;
-      so_far = parts_more k c.args.self.now.source_symbols c.loop-start.start c.sub_block_size-width.result k.symbol_size c.args.symbol_bytes.items c.as_slice.result.now c.loop-start.block.items c.append_sub_block.new.block.items
-          c.args.self.now.aligned v.at below c.sub_block_size-width.ensures refl c.as_slice.ensures.value c.requires.long v.so_far c.in_ok-append_sub_block.ensures;
+      so_far = parts_more k c.args.self.now.source_symbols c.loop-start.start c.sub_block_size-width.result (source_symbol c.args.symbols.now) c.loop-start.block.items c.append_sub_block.new.block.items
+          c.args.self.now.aligned v.at below c.sub_block_size-width.ensures c.requires.symbols v.so_far c.in_ok-append_sub_block.ensures;
     }
 
 module _ (c : After-loop-start) where
@@ -47,4 +43,4 @@ returns-clause-long c = omega (arith, c.loop-start.invariant.so_far.long, ap (λ
 
 pub returns-clause-each : goal.returns-clause-each
 returns-clause-each c =
-    parts_all c.args.self.now.config c.args.self.now.source_symbols c.loop-start.start c.args.symbol_bytes.items c.loop-start.block.items (all (goal.at.returns-clause-each c).After-loop-start) c.requires.long c.loop-start.invariant.so_far
+    parts_all c.args.self.now.config c.args.self.now.source_symbols c.loop-start.start (source_symbol c.args.symbols.now) c.loop-start.block.items (all (goal.at.returns-clause-each c).After-loop-start) c.requires.symbols c.loop-start.invariant.so_far

@@ -1,4 +1,5 @@
 use Rattle.std.proofs.Common.{◌-◌}
+use Rattle.rq_block.specs.SourceSymbols.{source_symbol}
 use Rattle.rq_block.proofs.Interleaving.{Reaches, HasParts}
 use Rattle.rq_block.proofs.sub_blocks.BlockLayout.block_of_symbols.Given as goal
 
@@ -6,7 +7,7 @@ use Rattle.rq_block.proofs.sub_blocks.BlockLayout.block_of_symbols.Given as goal
 abbrev pub invariant-loop-start : goal.invariant-loop-start
 invariant-loop-start l = record {
   at : Reaches l.self.config l.start;
-  so_far : HasParts l.self.config l.self.source_symbols l.symbol_bytes.items l.block.items l.start;
+  so_far : HasParts l.self.config l.self.source_symbols (source_symbol l.symbols) l.block.items l.start;
 }
 
 abbrev pub decreases-loop-start : goal.decreases-loop-start
