@@ -1,18 +1,21 @@
 -- A cell that stands anywhere in bytes is found, and bytes that are shorter than a cell hold none.
-use Rattle.std.proofs.Common.{◌≡◌, ℕ, ◌<◌, List, [], ◌∷◌, ◌++◌, length, length-append, append_assoc, arith, refl, sym, ap, ◌∙◌, subst, Some, None, Option, Bool, true, false, cond, ◌&&◌, nat_le, if◌then◌else◌}
+use Rattle.std.proofs.Common.{◌≡◌, ℕ, ◌<◌, List, [], ◌∷◌, ◌++◌, length, drop, length-append, append_assoc, arith, refl, sym, ap, ◌∙◌, subst, Some, None, Option, Bool, true, false, cond, ◌&&◌, nat_le, if◌then◌else◌, inl, inr}
 use Rattle.std.specs.List.{Contains, cons_option}
 use Rattle.std.specs.Prelude.{option_map, filter_map, is_none}
 use Rattle.std.proofs.Transfers.{starts_with_of_append}
 use Rattle.std.proofs.lemmas.Bool.{and_left, and_right, lt-leb}
+use Rattle.std.proofs.lemmas.List.{length-drop}
 use Rattle.std.proofs.lemmas.List.Elements.{Contains-append_right}
 use Rattle.std.proofs.lemmas.List.Sums.{sum_by-cons}
 use Rattle.rq_cells.specs.declared.head.Head.{Head}
 use Rattle.rq_cells.specs.declared.cell.Cell.{Cell}
+use Rattle.rq_cells.specs.declared.scanner.Scan.{Scan}
 use Rattle.rq_cells.specs.Cells.{head_bytes, cell_bytes, cell_size, cell_at, IsHead, IsCell}
 use Rattle.rq_cells.specs.Found.{places, cells_in, has_head, packet_at, is_damaged, packets_in, damaged_in}
+use Rattle.rq_cells.specs.Scans.{IsUnsettled, Settles}
 use Rattle.rq_cells.proofs.Beginnings.{test_true}
 use Rattle.rq_cells.proofs.CellBytes.{length-cell_bytes, cell_at-cell_bytes, begins_with_head, none_behind_in_short}
-use Rattle.rq_cells.proofs.Scanning.{cell_at-headed}
+use Rattle.rq_cells.proofs.Scanning.{cell_at-headed, StandsBefore, open_is_short}
 
 found_first : {A : Type 0} (x : A) (xs : List A) → Contains (x ∷ xs) x
 found_first x xs = (0, omega arith, refl)
@@ -76,3 +79,21 @@ module _ (before : List ℕ) (c : Cell) (rest : List ℕ) (fits : IsCell c) wher
   packet_found =
       subst (λ xs. Contains (packets_in c.head xs) c.packet) (sym (append_assoc before (cell_bytes c) rest))
       (found_anywhere (packet_at c.head) before (cell_bytes c ++ rest) c.packet some (packet_at-cell_bytes c rest fits))
+
+-- where a scan stops
+pub settles_there : (h : Head) (bytes : List ℕ) (s : Scan) → IsHead h → StandsBefore h bytes s.places s.packets.items s.damaged s.others
+    → IsUnsettled h (drop s.places bytes) → Settles h bytes s
+settles_there h bytes s fits before stopped = record {
+  within = before.within;
+  few = omega (arith, few stopped, length-drop s.places bytes);
+  stopped = stopped;
+  none = none_in_short_bytes h (drop s.places bytes) fits (few stopped);
+  no_damaged = none_damaged_in_short h (drop s.places bytes) (few stopped);
+  packets = before.packets_are;
+  damaged = before.damaged_are;
+  others = before.others_are;
+}
+  where
+    few : IsUnsettled h (drop s.places bytes) → length (drop s.places bytes) < cell_size h.configuration
+    few (inl none) = let size = ap length none in omega (arith, size)
+    few (inr open_there) = open_is_short h (drop s.places bytes) open_there

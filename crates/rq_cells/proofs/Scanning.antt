@@ -1,22 +1,24 @@
 -- What is found in bytes is there whatever stands behind them.
-use Rattle.std.proofs.Common.{◌≡◌, ℕ, suc, ◌+◌, ◌-◌, ◌<◌, ◌≤◌, List, [], ◌∷◌, ◌++◌, length, take, drop, arith, refl, sym, ap, ◌∙◌, Some, None, Option, Bool, true, false, cond, ◌&&◌, not, nat_le, nat_lt, nat_eq, get_or, length-append, append_assoc, if◌then◌else◌, drop-cons, ◌⊎◌, inl, inr}
+use Rattle.std.proofs.Common.{◌≡◌, ℕ, zero, suc, ◌+◌, ◌-◌, ◌<◌, ◌≤◌, List, [], ◌∷◌, ◌++◌, length, take, drop, arith, refl, sym, ap, subst, ◌∙◌, Some, None, Option, Bool, true, false, cond, ◌&&◌, not, nat_le, nat_lt, nat_eq, get_or, length-append, append_assoc, if◌then◌else◌, drop-cons, drop-drop, ◌⊎◌, inl, inr}
 use Rattle.std.specs.List.{starts_with, cons_option}
-use Rattle.std.specs.Prelude.{option_and_then, option_map, filter_map, count_by, is_some, is_none}
-use Rattle.std.proofs.lemmas.List.{take-append-le, drop-append-le, length-drop, append-nil}
+use Rattle.std.specs.Prelude.{option_and_then, option_map, unwrap_or, filter_map, count_by, is_some, is_none}
+use Rattle.std.proofs.lemmas.List.{take-append-le, drop-append-le, length-drop, length-take-le, get_or-take, append-nil}
 use Rattle.std.proofs.lemmas.List.Sums.{sum_by-cons}
-use Rattle.std.proofs.lemmas.Bool.{le-leb, le-ltb, lt-ltb, ltb-false, or_parts, or_from, or_left, or_right, and_right, cases_lt, true≢false}
+use Rattle.std.proofs.lemmas.Option.{none-some}
+use Rattle.memchr.specs.Find.{IsFirstByte, Passes, is_byte}
+use Rattle.std.proofs.lemmas.Bool.{eq-eqb, le-leb, le-ltb, lt-ltb, ltb-false, or_parts, or_from, or_left, or_right, and_right, cases_lt, true≢false}
 use Rattle.rq_standard.specs.Configuration.{configuration_of_bytes}
 use Rattle.rq_standard.specs.Packet.{Packet, packet_of_bytes}
 use Rattle.rq_standard.specs.Streams.{frame_size}
 use Rattle.rq_cells.specs.declared.head.Head.{Head}
 use Rattle.rq_cells.specs.declared.cell.Cell.{Cell}
-use Rattle.rq_cells.specs.Cells.{mark, check_of, head_bytes, head_size, cell_size, head_spelled, head_at, cell_bytes, cell_spelled, cell_behind, cell_at, IsHead}
-use Rattle.rq_cells.specs.Found.{places, has_head, packet_at, is_damaged, is_other}
+use Rattle.rq_cells.specs.Cells.{mark, head_bytes, head_size, cell_size, head_spelled, head_at, cell_bytes, cell_spelled, cell_behind, cell_at, IsHead}
+use Rattle.rq_cells.specs.Found.{places, has_head, packet_at, is_damaged, is_other, HoldNoHead}
 use Rattle.rq_cells.specs.Scans.{is_open, Begins}
 use Rattle.rq_cells.specs.Found.{packets_in, damaged_in, others_in}
 use Rattle.std.specs.Io.{StartsWith}
-use Rattle.rq_cells.proofs.Beginnings.{begins, begins_first, test_false, test_more}
-use Rattle.rq_cells.proofs.HeadBytes.{checked_head, begins_with_mark, none_without_mark, length-head_bytes, length-name_spelled, head_at-begins}
+use Rattle.rq_cells.proofs.Beginnings.{begins, test_false, test_more}
+use Rattle.rq_cells.proofs.HeadBytes.{none_without_mark, length-head_bytes, length-name_spelled, head_at-begins}
 use Rattle.rq_cells.proofs.CellBytes.{length-cell_bytes, length-payload_spelled}
 
 -- bytes that hold a head, and others behind them
@@ -176,12 +178,37 @@ unmarked bytes at below other starts =
     let front : take 4 (get_or bytes at 0 ∷ drop (suc at) bytes) ≡ mark = ap (take 4) (sym is) ∙ starts in
     other (ap (λ xs. get_or xs 0 0) front)
 
-pub nothing_unmarked : (h : Head) (bytes : List ℕ) (at : ℕ) → IsHead h → at < length bytes → (get_or bytes at 0 ≡ 82 → ⊥) → head_size ≤ length bytes - at → Begins h (drop at bytes) None false false
-nothing_unmarked h bytes at fits below other long =
-    let here = drop at bytes in
-    let enough : head_size ≤ length here = omega (arith, long, length-drop at bytes) in
-    without_head h here fits enough (test_false here (head_bytes h) (λ starts. unmarked bytes at below other (begins_with_mark here h fits.name (begins_first here (checked_head h) (check_of 4 (checked_head h)) starts))))
-    None (none_without_mark here enough (unmarked bytes at below other))
+-- places before the first byte of a mark, at which bytes enough for a head stand
+pub headless_before : (bytes : List ℕ) (n : ℕ) → n ≤ length bytes - 35 → ((i : ℕ) → i < n → get_or bytes i 0 ≡ 82 → ⊥) → HoldNoHead bytes n
+headless_before bytes n few other = record {
+  within = omega (arith, few);
+  enough = long;
+  none = λ i below. none_without_mark (drop i bytes) (long i below) (unmarked bytes i (omega (arith, few, below)) (other i below));
+}
+  where
+    long : (i : ℕ) → i < n → head_size ≤ length (drop i bytes)
+    long i below = omega (arith, few, below, length-drop i bytes)
+
+-- what a search for that byte among the first bytes finds
+pub headless_by : (bytes : List ℕ) (n : ℕ) → n ≡ length bytes - 35 → (r : Option ℕ) → IsFirstByte (is_byte 82) (take n bytes) r → HoldNoHead bytes (unwrap_or r n)
+headless_by bytes n is r first = by r first
+  where
+    size : length (take n bytes) ≡ n
+    size = length-take-le n bytes (omega (arith, is))
+
+    passes : (i : ℕ) → i < n → get_or bytes i 0 ≡ 82 → Passes (is_byte 82) (take n bytes) i
+    passes i below e = eq-eqb (get_or (take n bytes) i 0) 82 (get_or-take n bytes i 0 below ∙ e)
+
+    by : (r : Option ℕ) → IsFirstByte (is_byte 82) (take n bytes) r → HoldNoHead bytes (unwrap_or r n)
+    by None nowhere = headless_before bytes n (omega (arith, is)) (λ i below e. nowhere i (omega arith) (omega (arith, below, size)) (passes i below e))
+    by (Some k) found =
+        let few : k < n = omega (arith, found.0.high, size) in
+        headless_before bytes k (omega (arith, is, few)) (λ i below e. found.0.before i (omega arith) below (passes i (omega (arith, below, few)) e))
+
+-- where no head begins, though bytes enough for one stand there
+pub nothing_headless : (h : Head) (bytes : List ℕ) → IsHead h → head_size ≤ length bytes → head_at bytes ≡ None → Begins h bytes None false false
+nothing_headless h bytes fits long none =
+    without_head h bytes fits long (test_false bytes (head_bytes h) (λ starts. none-some h (sym none ∙ head_at-begins bytes h fits starts))) None none
 
 -- open bytes are shorter than a cell
 pub open_is_short : (h : Head) (bytes : List ℕ) → is_open h bytes ≡ true → length bytes < cell_size h.configuration
@@ -236,3 +263,26 @@ one_place_more h bytes at packets packets' damaged damaged' others others' p d o
   few_damaged = omega (arith, before.few_damaged, more-damaged, one_at_most d);
   few_others = omega (arith, before.few_others, more-others, one_at_most o);
 }
+
+-- there are bytes left behind places at which no head begins
+pub headless_within : (bytes : List ℕ) (at n : ℕ) → at < length bytes → HoldNoHead (drop at bytes) n → at + n < length bytes
+headless_within bytes at zero below headless = omega (arith, below)
+headless_within bytes at (suc n) below headless =
+    let long = headless.enough n (omega arith) in
+    omega (arith, long, length-drop n (drop at bytes), length-drop at bytes)
+
+-- places at which no head begins, behind those before them
+pub headless_more : (h : Head) (bytes : List ℕ) (at n : ℕ) (packets : List Packet) (damaged others : ℕ)
+    → IsHead h → HoldNoHead (drop at bytes) n → StandsBefore h bytes at packets damaged others → StandsBefore h bytes (at + n) packets damaged others
+headless_more h bytes at n packets damaged others fits headless before = go n (omega arith)
+  where
+    go : (k : ℕ) → k ≤ n → StandsBefore h bytes (at + k) packets damaged others
+    go zero few = subst (λ i. StandsBefore h bytes i packets damaged others) (omega arith) before
+    go (suc k) few =
+        let here : drop k (drop at bytes) ≡ drop (at + k) bytes = drop-drop k at bytes in
+        let long : head_size ≤ length (drop (at + k) bytes) = subst (λ xs. head_size ≤ length xs) here (headless.enough k (omega (arith, few))) in
+        let none : head_at (drop (at + k) bytes) ≡ None = ap head_at (sym here) ∙ headless.none k (omega (arith, few)) in
+        let next : at + k + 1 ≡ at + suc k = omega arith in
+        subst (λ i. StandsBefore h bytes i packets damaged others) next
+        (one_place_more h bytes (at + k) packets packets damaged damaged others others None false false fits (omega (arith, long, length-drop (at + k) bytes))
+        (nothing_headless h (drop (at + k) bytes) fits long none) (sym (append-nil packets)) (omega arith) (omega arith) (go k (omega (arith, few))))

@@ -1,5 +1,5 @@
 -- The first wanted cell among any bytes.
-use Rattle.std.proofs.Common.{◌≡◌, ℕ, zero, suc, ◌+◌, ◌-◌, ◌<◌, ◌≤◌, List, [], ◌∷◌, ◌++◌, length, take, drop, arith, refl, sym, ap, subst, ◌∙◌, Some, None, Option, Bool, true, false, cond, not, ◌&&◌, ◌||◌, nat_le, nat_lt, get_or, length-append, append-nil, zero-add, if◌then◌else◌, append_assoc, drop-cons, ◌⊎◌, inl, inr}
+use Rattle.std.proofs.Common.{◌≡◌, ℕ, zero, suc, ◌+◌, ◌-◌, ◌<◌, ◌≤◌, List, [], ◌∷◌, ◌++◌, length, take, drop, arith, refl, sym, ap, subst, ◌∙◌, Some, None, Option, Bool, true, false, cond, not, ◌&&◌, ◌||◌, nat_le, nat_lt, get_or, length-append, append-nil, zero-add, if◌then◌else◌, append_assoc, drop-cons, drop-drop, ◌⊎◌, inl, inr}
 use Rattle.std.specs.Prelude.{option_and_then, option_map, unwrap_or, is_none, IfSome}
 use Rattle.std.specs.Option.{option_or}
 use Rattle.std.specs.Io.{StartsWith}
@@ -13,8 +13,8 @@ use Rattle.rq_cells.specs.declared.cell.Cell.{Cell}
 use Rattle.rq_cells.specs.declared.wanted.Candidate.TheVariants as C
 use Rattle.rq_cells.specs.declared.wanted.Heads.{Heads}
 use Rattle.rq_cells.specs.Cells.{mark, check_of, head_bytes, head_size, cell_size, head_at, cell_behind, cell_at}
-use Rattle.rq_cells.specs.Found.{has_head, places}
-use Rattle.rq_cells.specs.Wanted.{is_wanted, wanted_at, is_begun, is_undecided, is_long, is_wanted_damaged, is_unwanted, HasNone, IsCandidate, NoneBefore, count_before, AreHeads}
+use Rattle.rq_cells.specs.Found.{has_head, places, HoldNoHead}
+use Rattle.rq_cells.specs.Wanted.{is_wanted, wanted_at, is_begun, is_undecided, is_long, is_wanted_damaged, is_unwanted, HasNone, IsCandidate, NoneBefore, count_before, AreHeads, HasNoWanted}
 use Rattle.rq_cells.proofs.Beginnings.{begins, begins_first, begins_second}
 use Rattle.rq_cells.proofs.HeadBytes.{checked_head, length-head_bytes, length-header_bytes, named_in_long, none_in_short}
 use Rattle.rq_cells.proofs.CellBytes.{behind-begins, none_behind_in_short}
@@ -218,7 +218,8 @@ pub record SearchedTo (greatest : ℕ) (name bytes : List ℕ) (i : ℕ) (heads 
   pub few : (heads.damaged ≤ i) × (heads.others ≤ i)
   pub never : (rest : List ℕ) (j : ℕ) → j < unwrap_or (option_map (λ p. p.0) pending) i → wanted_at greatest name (drop j bytes ++ rest) ≡ None
   pub before : (rest : List ℕ) → AreHeads greatest name (bytes ++ rest) (unwrap_or pending (i, heads)).0 (unwrap_or pending (i, heads)).1
-  pub opened : IfSome pending (λ p. (p.0 < i) × (length bytes - p.0 < 65583))
+  pub opened : IfSome pending (λ p. (p.0 < i) × (length bytes - p.0 < 65583) × (is_undecided greatest name (drop p.0 bytes) ≡ true))
+  pub settled : (j : ℕ) → j < unwrap_or (option_map (λ p. p.0) pending) i → is_undecided greatest name (drop j bytes) ≡ false
 
 none_more : (greatest : ℕ) (name bytes : List ℕ) (i : ℕ) → NoneBefore greatest name bytes i → wanted_at greatest name (drop i bytes) ≡ None → NoneBefore greatest name bytes (i + 1)
 none_more greatest name bytes i before here j below = by (cases_lt j i)
@@ -251,6 +252,7 @@ searched_none greatest name bytes heads no_damaged no_others = record {
   never = λ rest j below. absurd (omega (arith, below));
   before = λ rest. record { damaged = no_damaged; others = no_others };
   opened = tt;
+  settled = λ j below. absurd (omega (arith, below));
 }
 
 flat_heads : (greatest : ℕ) (name bytes : List ℕ) (i : ℕ) (heads : Heads) → AreHeads greatest name bytes i heads → AreHeads greatest name (bytes ++ []) i heads
@@ -278,8 +280,15 @@ module _ (greatest : ℕ) (name bytes : List ℕ) (i : ℕ) (heads heads' : Head
         let stay = stays_there greatest name (drop i bytes) rest (here.undecided_is ∙ decided) in
         heads_more greatest name bytes rest i heads heads' d o below here.damaged (stay.damaged ∙ here.damaged) here.other (stay.other ∙ here.other) more_damaged more_others (before.before rest);
     opened = tt;
+    settled = λ j less. settled j (cases_lt j i) less;
   }
     where
+      settled : (j : ℕ) → (j < i) ⊎ (i ≤ j) → j < i + 1 → is_undecided greatest name (drop j bytes) ≡ false
+      settled j (inl less) _ = before.settled j less
+      settled j (inr more) less =
+          let same : i ≡ j = omega (arith, more, less) in
+          subst (λ k. is_undecided greatest name (drop k bytes) ≡ false) same (here.undecided_is ∙ decided)
+
       never : (rest : List ℕ) (j : ℕ) → (j < i) ⊎ (i ≤ j) → j < i + 1 → wanted_at greatest name (drop j bytes ++ rest) ≡ None
       never rest j (inl less) _ = before.never rest j less
       never rest j (inr more) less =
@@ -291,24 +300,72 @@ module _ (greatest : ℕ) (name bytes : List ℕ) (i : ℕ) (heads heads' : Head
     few = few_more before.few;
     never = before.never;
     before = before.before;
-    opened = (omega (arith, before.opened.0), before.opened.1);
+    opened = (omega (arith, before.opened.0), before.opened.1, before.opened.2);
+    settled = before.settled;
   }
 
-  pub searched_open : (pending : Option (ℕ × Heads)) → length (drop i bytes) < 65583
+  pub searched_open : (pending : Option (ℕ × Heads)) → u ≡ true → length (drop i bytes) < 65583
       → SearchedTo greatest name bytes i heads pending → SearchedTo greatest name bytes (i + 1) heads' (option_or pending (Some (i, heads)))
-  searched_open None short before = record {
+  searched_open None is_open short before = record {
     none = none_more greatest name bytes i before.none here.none;
     all = all_more before.all;
     few = few_more before.few;
     never = before.never;
     before = before.before;
-    opened = (omega arith, omega (arith, short, length-drop i bytes));
+    opened = (omega arith, omega (arith, short, length-drop i bytes), here.undecided_is ∙ is_open);
+    settled = before.settled;
   }
-  searched_open (Some p) short before = record {
+  searched_open (Some p) is_open short before = record {
     none = none_more greatest name bytes i before.none here.none;
     all = all_more before.all;
     few = few_more before.few;
     never = before.never;
     before = before.before;
-    opened = (omega (arith, before.opened.0), before.opened.1);
+    opened = (omega (arith, before.opened.0), before.opened.1, before.opened.2);
+    settled = before.settled;
   }
+
+-- places at which no head begins, behind those before them
+pub headless_searched : (greatest : ℕ) (name bytes : List ℕ) (i n : ℕ) (heads : Heads) (pending : Option (ℕ × Heads))
+    → HoldNoHead (drop i bytes) n → SearchedTo greatest name bytes i heads pending → SearchedTo greatest name bytes (i + n) heads pending
+headless_searched greatest name bytes i n heads pending headless before = go n (omega arith)
+  where
+    go : (k : ℕ) → k ≤ n → SearchedTo greatest name bytes (i + k) heads pending
+    go zero few = subst (λ j. SearchedTo greatest name bytes j heads pending) (omega arith) before
+    go (suc k) few =
+        let there : drop k (drop i bytes) ≡ drop (i + k) bytes = drop-drop k i bytes in
+        let long : head_size ≤ length (drop (i + k) bytes) = subst (λ xs. head_size ≤ length xs) there (headless.enough k (omega (arith, few))) in
+        let none : head_at (drop (i + k) bytes) ≡ None = ap head_at (sym there) ∙ headless.none k (omega (arith, few)) in
+        let below : i + k < length bytes = omega (arith, long, length-drop (i + k) bytes) in
+        let next : i + k + 1 ≡ i + suc k = omega arith in
+        subst (λ j. SearchedTo greatest name bytes j heads pending) next
+        (searched_more greatest name bytes (i + k) heads heads false false false (nothing_without_head greatest name (drop (i + k) bytes) long none) below
+        (omega arith) (omega arith) pending refl (go k (omega (arith, few))))
+
+-- all places were looked at
+pub searched_all : (greatest : ℕ) (name bytes : List ℕ) (i : ℕ) (heads : Heads) (pending : Option (ℕ × Heads)) → i ≡ length bytes
+    → SearchedTo greatest name bytes i heads pending
+    → HasNoWanted greatest name bytes (unwrap_or pending (length bytes, heads)).0 (unwrap_or pending (length bytes, heads)).1 heads
+searched_all greatest name bytes i heads None is before = record {
+  within = omega arith;
+  few = omega arith;
+  settled = λ j below. before.settled j (omega (arith, below, is));
+  stopped =
+      or_left (nat_lt (length (drop (length bytes) bytes)) head_size)
+      (unwrap_or (option_map (is_begun greatest name (drop (length bytes) bytes)) (head_at (drop (length bytes) bytes))) false)
+      (lt-ltb (length (drop (length bytes) bytes)) head_size (omega (arith, length-drop (length bytes) bytes)));
+  none = λ j below. before.none j (omega (arith, below, is));
+  never = λ rest j below. before.never rest j (omega (arith, below, is));
+  before = λ rest. subst (λ n. AreHeads greatest name (bytes ++ rest) n heads) is (before.before rest);
+  all = subst (λ n. AreHeads greatest name bytes n heads) is before.all;
+}
+searched_all greatest name bytes i heads (Some p) is before = record {
+  within = omega (arith, before.opened.0, is);
+  few = before.opened.1;
+  settled = before.settled;
+  stopped = before.opened.2;
+  none = λ j below. before.none j (omega (arith, below, is));
+  never = before.never;
+  before = before.before;
+  all = subst (λ n. AreHeads greatest name bytes n heads) is before.all;
+}

@@ -1,15 +1,21 @@
 -- What stands in bytes, wherever it begins and whatever stands between.
-use Rattle.std.specs.Prelude.{ℕ, List, [], ◌∷◌, length, filter_map, count_by, Option, option_map, None, if◌then◌else◌, Bool, not, ◌&&◌, nat_le, nat_eq, is_some, is_none}
+use Rattle.std.specs.Prelude.{◌≡◌, ℕ, ◌<◌, ◌≤◌, List, [], ◌∷◌, length, drop, filter_map, count_by, Option, option_map, None, if◌then◌else◌, Bool, not, ◌&&◌, nat_le, nat_eq, is_some, is_none}
 use Rattle.std.specs.List.{starts_with}
 use Rattle.rq_standard.specs.Packet.{Packet}
 use Rattle.rq_cells.specs.declared.head.Head.{Head}
 use Rattle.rq_cells.specs.declared.cell.Cell.{Cell}
-use Rattle.rq_cells.specs.Cells.{head_bytes, cell_size, head_at, cell_at}
+use Rattle.rq_cells.specs.Cells.{head_bytes, head_size, cell_size, head_at, cell_at}
 
 -- the bytes from each of their places on
 abbrev pub places : List ℕ → List (List ℕ)
 places [] = []
 places (b ∷ bytes) = (b ∷ bytes) ∷ places bytes
+
+-- At the first n places stand bytes enough for a head, and none begins.
+pub record HoldNoHead (bytes : List ℕ) (n : ℕ) : Type 0 where
+  pub within : n ≤ length bytes
+  pub enough : (i : ℕ) → i < n → head_size ≤ length (drop i bytes)
+  pub none : (i : ℕ) → i < n → head_at (drop i bytes) ≡ None
 
 -- the cells at all places
 abbrev pub cells_in : List ℕ → List Cell

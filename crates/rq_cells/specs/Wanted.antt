@@ -82,10 +82,13 @@ pub record IsFirstWanted (greatest : ℕ) (name bytes : List ℕ) (at : ℕ) (h 
   pub found : wanted_at greatest name (drop at bytes) ≡ Some h
   pub first : NoneBefore greatest name bytes at
 
--- No wanted cell is whole at any place, and none begins at the places before this one, whatever comes behind the bytes. The heads are counted.
+-- No wanted cell is whole at any place, and none begins at the places before this one, whatever comes behind the bytes: it is the first of which they
+-- don't say yet what stands there, or the end. The heads are counted.
 pub record HasNoWanted (greatest : ℕ) (name bytes : List ℕ) (from : ℕ) (heads every : Heads) : Type 0 where
   pub within : from ≤ length bytes
   pub few : length bytes - from < 65583
+  pub settled : (i : ℕ) → i < from → is_undecided greatest name (drop i bytes) ≡ false
+  pub stopped : is_undecided greatest name (drop from bytes) ≡ true
   pub none : NoneBefore greatest name bytes (length bytes)
   pub never : (rest : List ℕ) (i : ℕ) → i < from → wanted_at greatest name (drop i bytes ++ rest) ≡ None
   pub before : (rest : List ℕ) → AreHeads greatest name (bytes ++ rest) from heads

@@ -2,8 +2,10 @@
 ghost use Rattle.std.specs.Prelude.{◌≡◌, ◌≤◌, Ok, take};
 ghost use Rattle.rq_bytes.specs.Refusals.{IsAnswer};
 ghost use Rattle.rq_cells.specs.Cells.{name_of, check_of, head_bytes, head_at, cell_size};
+ghost use Rattle.rq_cells.specs.Found.{HoldNoHead};
 
 use crate::cell::CHECK_LENGTH;
+use memchr::memchr;
 use rq_base::base::{CONFIGURATION_LENGTH, ObjectTransmissionInformation, PAYLOAD_ID_LENGTH};
 use rq_bytes::error::Error;
 use sha2::{Digest, Sha512};
@@ -37,6 +39,15 @@ pub fn name_of(object: &[u8]) -> [u8; NAME_LENGTH]
     ensures { result ≡ name_of object.now }
 {
     check_of(object)
+}
+
+/// How many places at the front of bytes are quickly told to begin no head: bytes enough for one stand
+/// there, and the first of a mark doesn't.
+pub(crate) fn headless_places(bytes: &[u8]) -> usize
+    ensures { HoldNoHead bytes.now result }
+{
+    let long = bytes.len().saturating_sub(HEAD_LENGTH - 1);
+    memchr(MARK[0], &bytes[..long]).unwrap_or(long)
 }
 
 /// Whose a cell is: the name and the configuration of its object.

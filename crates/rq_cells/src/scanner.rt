@@ -6,7 +6,7 @@ ghost use Rattle.rq_cells.specs.Found.{others_in};
 ghost use Rattle.rq_cells.specs.Scans.{Settles, IsPlace};
 
 use crate::cell::read_behind;
-use crate::head::{HEAD_LENGTH, Head, MARK};
+use crate::head::{HEAD_LENGTH, Head, MARK, headless_places};
 use rq_base::base::EncodingPacket;
 use rq_bytes::error::Error;
 use std::alloc::Global;
@@ -121,11 +121,7 @@ impl CellScanner {
             others: 0,
         };
         'places: while scan.places < bytes.len() {
-            // Most places are quickly told not to be a head's.
-            if bytes[scan.places] != MARK[0] && bytes.len() - scan.places >= HEAD_LENGTH {
-                scan.places += 1;
-                continue;
-            }
+            scan.places += headless_places(&bytes[scan.places..]);
             match self.look(alloc, &bytes[scan.places..])? {
                 Place::Open => break,
                 Place::Nothing => {}

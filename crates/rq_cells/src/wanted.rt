@@ -5,7 +5,7 @@ ghost use Rattle.rq_cells.specs.Found.{has_head};
 ghost use Rattle.rq_cells.specs.Wanted.{is_wanted, IsCandidate, IsSearch};
 
 use crate::cell::read_behind;
-use crate::head::{HEAD_LENGTH, Head, MARK};
+use crate::head::{HEAD_LENGTH, Head, headless_places};
 use rq_bytes::error::Error;
 use rq_tables::systematic_constants::SystematicTable;
 use std::alloc::Global;
@@ -103,11 +103,9 @@ pub fn first_wanted(
 {
     let mut heads = Heads::default();
     let mut pending = None;
-    for at in 0..bytes.len() {
-        // Most places are quickly told not to be a head's.
-        if bytes[at] != MARK[0] && bytes.len() - at >= HEAD_LENGTH {
-            continue;
-        }
+    let mut at = 0;
+    'places: while at < bytes.len() {
+        at += headless_places(&bytes[at..]);
         match look(alloc, table, name, &bytes[at..])? {
             Candidate::Open => pending = pending.or(Some((at, heads))),
             Candidate::Nothing => {}
@@ -121,6 +119,7 @@ pub fn first_wanted(
                 });
             }
         }
+        at += 1;
     }
     let (from, before) = pending.unwrap_or((bytes.len(), heads));
     Ok(Search::NotYet {

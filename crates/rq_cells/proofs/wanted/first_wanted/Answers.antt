@@ -1,45 +1,69 @@
-use Rattle.std.proofs.Common.{◌≡◌, ℕ, Option, ◌+◌, ◌<◌, ◌≤◌, sym, subst, ◌∙◌, length, drop, arith, refl, true, false}
-use Rattle.std.proofs.lemmas.List.{take_rest, length-drop}
+use Rattle.std.proofs.Common.{◌≡◌, ℕ, List, Option, ◌+◌, ◌<◌, sym, subst, ◌∙◌, length, drop, arith, refl, true, false}
+use Rattle.std.proofs.lemmas.List.{take_rest}
 use Rattle.rq_standard.specs.TableRows.{greatest_size}
 use Rattle.rq_cells.specs.declared.wanted.Heads.{Heads}
-use Rattle.rq_cells.specs.Wanted.{IsCandidate}
-use Rattle.rq_cells.proofs.WantedCells.{SearchedTo, nothing_without_head, searched_more, searched_open}
-use Rattle.rq_cells.specs.Cells.{head_size}
-use Rattle.rq_cells.proofs.HeadBytes.{none_without_mark}
-use Rattle.rq_cells.proofs.Scanning.{unmarked}
+use Rattle.rq_cells.specs.Found.{HoldNoHead}
+use Rattle.rq_cells.specs.Wanted.{IsCandidate, HasNoWanted}
+use Rattle.rq_cells.proofs.Scanning.{headless_within}
+use Rattle.rq_cells.proofs.WantedCells.{SearchedTo, headless_searched, searched_more, searched_open, searched_all}
 use Rattle.rq_cells.proofs.wanted.first_wanted.Goals as goal
-use Rattle.rq_cells.proofs.wanted.first_wanted.Goals.{in-Open, in-Nothing, in-Damaged, in-Other}
+use Rattle.rq_cells.proofs.wanted.first_wanted.Goals.{After-headless_places-at, in-Open, in-Nothing, in-Damaged, in-Other}
+
+-- behind the places at which no head begins
+module _ (c : After-headless_places-at) where
+  abbrev bytes : List ℕ
+  bytes = c.args.bytes.now
+
+  abbrev at : ℕ
+  at = c.places.at + c.headless_places-at.result
+
+  headless : HoldNoHead (drop c.places.at bytes) c.headless_places-at.result
+  headless = subst (λ xs. HoldNoHead xs c.headless_places-at.result) (take_rest bytes c.places.at) c.headless_places-at.ensures
+
+  below : at < length bytes
+  below = headless_within bytes c.places.at c.headless_places-at.result c.places-test.true headless
+
+  before : SearchedTo (greatest_size c.args.table.now) c.args.name.now bytes at c.places.heads c.places.pending
+  before =
+      headless_searched (greatest_size c.args.table.now) c.args.name.now bytes c.places.at c.headless_places-at.result c.places.heads c.places.pending
+      headless c.places.invariant.searched
 
 pub returns-in-Found-clause-search : goal.returns-in-Found-clause-search
 returns-in-Found-clause-search c =
-    let found = subst (λ xs. IsCandidate (greatest_size c.args.table.now) c.args.name.now xs c.in_ok-look.field-0) (take_rest c.args.bytes.now c.loop-at.at) c.in_ok-look.ensures.candidate in (
+    let moved = (goal.at.returns-in-Found-clause-search c).After-headless_places-at in
+    let here = at moved in
+    let found =
+    subst (λ xs. IsCandidate (greatest_size c.args.table.now) c.args.name.now xs c.in_ok-look.field-0) (take_rest c.args.bytes.now here)
+    c.in_ok-look.ensures.candidate in (
       record {
-        within = omega (arith, c.loop-at-test.true, c.loop-at.auto.at-end);
-        found = subst (IsCandidate (greatest_size c.args.table.now) c.args.name.now (drop c.loop-at.at c.args.bytes.now)) c.in-Found.is found;
-        first = c.loop-at.invariant.searched.none;
+        within = below moved;
+        found = subst (IsCandidate (greatest_size c.args.table.now) c.args.name.now (drop here c.args.bytes.now)) c.in-Found.is found;
+        first = (before moved).none;
       },
-      c.loop-at.invariant.searched.all,
+      (before moved).all,
     )
 
-pub loop-at-preserved : goal.loop-at-preserved
-loop-at-preserved c =
+pub places-preserved : goal.places-preserved
+places-preserved c =
+    let moved = (goal.at.places-preserved c).After-headless_places-at in
     let greatest = greatest_size c.args.table.now in
     let name = c.args.name.now in
     let bytes = c.args.bytes.now in
-    let at = c.loop-at.at in
-    let heads = c.loop-at.heads in
-    let pending = c.loop-at.pending in
-    let below : at < length bytes = omega (arith, c.loop-at-test.true, c.loop-at.auto.at-end) in
+    let at = at moved in
+    let heads = c.places.heads in
+    let pending = c.places.pending in
+    let below = below moved in
+    let before = before moved in
     let found = subst (λ xs. IsCandidate greatest name xs c.in_ok-look.field-0) (take_rest bytes at) c.in_ok-look.ensures.candidate in
-    let before = c.loop-at.invariant.searched in
     let same : heads.damaged ≡ heads.damaged + 0 = omega arith in
     let same_others : heads.others ≡ heads.others + 0 = omega arith in
     record {
+      within = omega (arith, below);
       searched = elim c.match-branch-2.branch [
         | in-Open w ↦
             let here = subst (IsCandidate greatest name (drop at bytes)) w.in-Open.is found in
             subst (λ (s : Heads × Option (ℕ × Heads)). SearchedTo greatest name bytes (at + 1) s.0 s.1) (λ i. (sym w.heads-is i, sym (w.pending-is ∙ w.or-pending.ensures) i))
-            (searched_open greatest name bytes at heads heads true false false here.0 below same same_others pending here.1 before)
+            (searched_open greatest name bytes at heads heads true false false here.0 below same same_others pending refl here.1 before)
         | in-Nothing w ↦
             let here = subst (IsCandidate greatest name (drop at bytes)) w.in-Nothing.is found in
             subst (λ (s : Heads × Option (ℕ × Heads)). SearchedTo greatest name bytes (at + 1) s.0 s.1) (λ i. (sym w.heads-is i, sym w.pending-is i))
@@ -55,16 +79,10 @@ loop-at-preserved c =
       ];
     }
 
-pub loop-at-preserved-then-bytes-at-ge-HEAD_LENGTH : goal.loop-at-preserved-then-bytes-at-ge-HEAD_LENGTH
-loop-at-preserved-then-bytes-at-ge-HEAD_LENGTH c =
+pub returns-clause-search : goal.returns-clause-search
+returns-clause-search c =
     let greatest = greatest_size c.args.table.now in
-    let name = c.args.name.now in
     let bytes = c.args.bytes.now in
-    let at = c.loop-at.at in
-    let heads = c.loop-at.heads in
-    let below : at < length bytes = omega (arith, c.loop-at-test.true, c.loop-at.auto.at-end) in
-    let long : head_size ≤ length (drop at bytes) = omega (arith, c.if-bytes-at-ge-HEAD_LENGTH.true, length-drop at bytes) in
-    let here = nothing_without_head greatest name (drop at bytes) long (none_without_mark (drop at bytes) long (unmarked bytes at below c.if-bytes-at.true)) in
-    let same : heads.damaged ≡ heads.damaged + 0 = omega arith in
-    let same_others : heads.others ≡ heads.others + 0 = omega arith in
-    record { searched = searched_more greatest name bytes at heads heads false false false here below same same_others c.loop-at.pending refl c.loop-at.invariant.searched }
+    let all : c.places.at ≡ length bytes = omega (arith, c.places.invariant.within, c.places-test.false) in
+    subst (λ (from : ℕ × Heads). HasNoWanted greatest c.args.name.now bytes from.0 from.1 c.places.heads) (sym c.unwrap_or-from.ensures)
+    (searched_all greatest c.args.name.now bytes c.places.at c.places.heads c.places.pending all c.places.invariant.searched)

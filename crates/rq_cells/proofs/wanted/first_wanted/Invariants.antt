@@ -1,9 +1,14 @@
+use Rattle.std.proofs.Common.{◌-◌, ◌≤◌, length}
 use Rattle.rq_standard.specs.TableRows.{greatest_size}
 use Rattle.rq_cells.proofs.WantedCells.{SearchedTo}
 use Rattle.rq_cells.proofs.wanted.first_wanted.Given as goal
 
 -- what was looked at
-abbrev pub invariant-loop-at : goal.invariant-loop-at
-invariant-loop-at l = record {
+abbrev pub invariant-places : goal.invariant-places
+invariant-places l = record {
+  within : l.at ≤ length l.fn.bytes;
   searched : SearchedTo (greatest_size l.fn.table) l.fn.name l.fn.bytes l.at l.heads l.pending;
 }
+
+abbrev pub decreases-places : goal.decreases-places
+decreases-places l = length l.fn.bytes - l.at
