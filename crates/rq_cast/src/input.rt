@@ -1,14 +1,11 @@
 //! A reader that says how much its last read brought.
-ghost use Rattle.std.specs.Prelude.{◌≡◌, ◌+◌, ◌^◌, ◌-◌, ◌<◌, IfOk, IfErr};
-ghost use Rattle.rq_streams.specs.Counted.{failed_count, inner};
-ghost use Rattle.rq_streams.specs.Ends.{failed_calls};
-ghost use Rattle.rq_cast.specs.Reading.{Reads, IsStopOfReads};
+ghost use Rattle.std.specs.Prelude.{◌≡◌, OnOk, OnErr, IfOk};
+ghost use Rattle.std.specs.Io.{ReadsAtMost};
+ghost use Rattle.std.specs.Io.KnownBytes.{ReadConsumes};
 
-use rq_streams::{Counted, Stop};
+use rq_streams::Counted;
+use std::io;
 use std::io::Read;
-
-/// How many bytes are read at once, as many as a pipe holds.
-pub(crate) const CHUNK: usize = 65536;
 
 /// A reader that counts its failed calls, and knows how many bytes its last read brought.
 #[derive(Drop)]
@@ -29,27 +26,23 @@ impl<R> Input<R> {
     }
 }
 
-impl<R: Read> Input<R> {
+impl<R: Read> Read for Input<R> {
+    ghost use Rattle.rq_streams.specs.Counted.{failed_count, one_more};
     ghost use Rattle.rq_cast.specs.Input.{counted_of, source, last_length};
 
-    /// Reads once, and puts what came behind the bytes. Answers how many came: none at the end alone. A
-    /// failed call is a fault.
-    pub(crate) fn read_more(
-        &mut self,
-        chunk: &mut [u8; CHUNK],
-        bytes: &mut Vec<u8>,
-    ) -> Result<usize, Stop>
-        requires { failed_count (counted_of self.old) < 2 ^ 64 - 1 }
-        ensures reads { IfOk result (Reads (R.remaining (source self.old)) (R.remaining (source self.new)) bytes.old.items bytes.new.items) }
+    ghost remaining = { λ i. R.remaining (source i) };
+
+    // Nothing else sets how many bytes the last read brought.
+    fn read(&mut self, buf: &mut [u8]) -> io::Result<usize>
+        ensures bound { ReadsAtMost result buf.new }
+        ensures bytes { ReadConsumes (R.remaining (source self.old)) (R.remaining (source self.new)) result buf.new }
         ensures last { IfOk result (λ n. last_length self.new ≡ n) }
-        ensures counts { failed_count (counted_of self.new) ≡ failed_count (counted_of self.old) + failed_calls result }
-        ensures stops { IfErr result IsStopOfReads }
+        ensures last_still { OnErr result (last_length self.new ≡ last_length self.old) }
+        ensures ok { OnOk result (failed_count (counted_of self.new) ≡ failed_count (counted_of self.old)) }
+        ensures err { OnErr result (failed_count (counted_of self.new) ≡ one_more (failed_count (counted_of self.old))) }
     {
-        let Ok(n) = self.reader.read(chunk) else {
-            return Err(Stop::Fault);
-        };
+        let n = self.reader.read(buf)?;
         self.last = n;
-        bytes.extend_from_slice(&chunk[..n])?;
         Ok(n)
     }
 }

@@ -1,13 +1,13 @@
 //! How bytes are read until cells stand among them.
-ghost use Rattle.std.specs.Prelude.{◌≡◌, ◌+◌, ◌^◌, ◌-◌, ◌<◌, IfOk, IfErr};
+ghost use Rattle.std.specs.Prelude.{◌≡◌, ◌+◌, ◌^◌, ◌-◌, ◌<◌, ◌≤◌, length, drop, IfOk, IfErr};
 ghost use Rattle.rq_standard.specs.TableRows.{greatest_size};
 ghost use Rattle.rq_streams.specs.Counted.{failed_count};
 ghost use Rattle.rq_streams.specs.Ends.{failed_calls};
 ghost use Rattle.rq_cast.specs.Input.{counted_of, source, last_length};
-ghost use Rattle.rq_cast.specs.Reading.{IsStopOfReads};
+ghost use Rattle.rq_cast.specs.Reading.{Reads, IsStopOfReads};
 ghost use Rattle.rq_cast.specs.Searching.{Searches};
 
-use crate::input::{CHUNK, Input};
+use crate::input::Input;
 use crate::progress::Progress;
 use crate::receiver::Seen;
 use raptorq::systematic_constants::SystematicTable;
@@ -15,6 +15,39 @@ use rq_cells::{Head, Search, first_wanted};
 use rq_streams::Stop;
 use std::alloc::Global;
 use std::io::Read;
+
+/// How many bytes are read at once, as many as a pipe holds.
+pub(crate) const CHUNK: usize = 65536;
+
+/// Reads once, and puts what came behind the bytes. Answers how many came: none at the end alone. A
+/// failed call is a fault.
+pub(crate) fn read_more<R: Read>(
+    input: &mut Input<R>,
+    chunk: &mut [u8; CHUNK],
+    bytes: &mut Vec<u8>,
+) -> Result<usize, Stop>
+    requires { failed_count (counted_of input.old) < 2 ^ 64 - 1 }
+    ensures reads { IfOk result (Reads (R.remaining (source input.old)) (R.remaining (source input.new)) bytes.old.items bytes.new.items) }
+    ensures last { IfOk result (λ n. last_length input.new ≡ n) }
+    ensures counts { failed_count (counted_of input.new) ≡ failed_count (counted_of input.old) + failed_calls result }
+    ensures stops { IfErr result IsStopOfReads }
+{
+    let Ok(n) = input.read(chunk) else {
+        return Err(Stop::Fault);
+    };
+    bytes.extend_from_slice(&chunk[..n])?;
+    Ok(n)
+}
+
+/// Lets the first `n` bytes go. The rest is moved within the buffer.
+pub(crate) fn remove_front(bytes: &mut Vec<u8>, n: usize)
+    requires { n ≤ length bytes.old.items }
+    ensures { bytes.new.items ≡ drop n bytes.old.items }
+{
+    let kept = bytes.len() - n;
+    bytes.copy_within(n.., 0);
+    bytes.truncate(kept);
+}
 
 /// The object that is received, and what was read from its first cell on.
 #[derive(Debug, PartialEq, Eq, Drop)]
@@ -41,29 +74,25 @@ pub(crate) fn find<R: Read, P: Progress>(
     let mut chunk = [0u8; CHUNK];
     let mut bytes = Vec::new(alloc);
     let mut settled = Seen::default();
-    let mut all = settled;
+    let mut seen = settled;
     // More reads than these are never made.
     'reading: for _reads in 0..u64::MAX {
-        let n = input.read_more(&mut chunk, &mut bytes)?;
+        let n = read_more(input, &mut chunk, &mut bytes)?;
         if n == 0 {
-            return Ok((None, all));
+            return Ok((None, seen));
         }
-        progress.tell(n, &all, None);
+        progress.tell(n, &seen, None);
         match first_wanted(alloc, table, name, bytes.as_slice())? {
             Search::Found { at, head, before } => {
-                let bytes = Vec::from_slice(alloc, &bytes[at..])?;
+                remove_front(&mut bytes, at);
                 return Ok((Some(Found { head, bytes }), settled.with(before)));
             }
-            Search::NotYet {
-                from,
-                before,
-                all: heads,
-            } => {
-                bytes = Vec::from_slice(alloc, &bytes[from..])?;
-                all = settled.with(heads);
+            Search::NotYet { from, before, all } => {
+                remove_front(&mut bytes, from);
+                seen = settled.with(all);
                 settled = settled.with(before);
             }
         }
     }
-    Ok((None, all))
+    Ok((None, seen))
 }

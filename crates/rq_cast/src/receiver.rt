@@ -10,9 +10,9 @@ ghost use Rattle.rq_streams.specs.Ends.{failed_calls};
 ghost use Rattle.rq_cast.specs.Input.{counted_of, source, last_length};
 ghost use Rattle.rq_cast.specs.Receiving.{SeesHeads, SeesAll, IsNewReceiver, TakesCells, StopsInCells, Receives, StopsReceiving};
 
-use crate::input::{CHUNK, Input};
+use crate::input::Input;
 use crate::progress::Progress;
-use crate::reading::Found;
+use crate::reading::{CHUNK, Found, read_more, remove_front};
 use raptorq::error::Error;
 use raptorq::systematic_constants::SystematicTable;
 use raptorq::{Decoder, EncodingPacket};
@@ -105,7 +105,7 @@ impl Receiver {
         let scan = self.scanner.scan(alloc, self.bytes.as_slice())?;
         let packets = scan.packets.len();
         let unknown = add_packets(&mut self.decoder, scan.packets)?;
-        self.bytes = Vec::from_slice(alloc, &self.bytes[scan.places..])?;
+        remove_front(&mut self.bytes, scan.places);
         self.seen.cells = self.seen.cells.saturating_add((packets - unknown) as u64);
         self.seen.damaged = self.seen.damaged.saturating_add(scan.damaged as u64);
         self.seen.others = self.seen.others.saturating_add(scan.others as u64);
@@ -142,12 +142,12 @@ pub(crate) fn receive<R: Read, P: Progress>(
         if receiver.decoder.is_complete() {
             return Ok(true);
         }
-        let n = input.read_more(&mut chunk, &mut receiver.bytes)?;
+        let n = read_more(input, &mut chunk, &mut receiver.bytes)?;
         if n == 0 {
             return Ok(false);
         }
-        receiver.take_cells(alloc)?;
         progress.tell(n, &receiver.seen, Some(&receiver.decoder));
+        receiver.take_cells(alloc)?;
     }
     Ok(receiver.decoder.is_complete())
 }

@@ -1,5 +1,4 @@
 use Rattle.std.proofs.Common.{◌≡◌, ◌<◌, ◌++◌, ap, subst, ◌∙◌, arith, length, drop}
-use Rattle.std.proofs.lemmas.List.{take_rest}
 use Rattle.rq_standard.specs.TableRows.{greatest_size}
 use Rattle.rq_cast.specs.Input.{source, last_length}
 use Rattle.rq_cells.specs.Wanted.{IsSearch, AreHeads, IsFirstWanted, HasNoWanted}
@@ -15,11 +14,13 @@ returns-in-Found-clause-searches g c =
     let search = subst (IsSearch greatest name c.as_slice.result.now) c.in-Found.is c.in_ok-at.ensures.search in
     let first = subst (λ xs. IsFirstWanted greatest name xs c.in-Found.at c.in-Found.head) all search.0 in
     let heads = subst (λ xs. AreHeads greatest name xs c.in-Found.at c.in-Found.before) all search.1 in
-    let left = c.in_ok-bytes-in-Found.ensures.items ∙ take_rest c.deref.result.now c.in-Found.at ∙ ap (drop c.in-Found.at) (c.deref.ensures.value ∙ reads.behind) in
-    found_first greatest name (g.R.Read.remaining (source c.args.input.now)) (g.R.Read.remaining (source c.reading.input)) (g.R.Read.remaining (source c.read_more.new.self))
-    c.reading._reads c.reading.bytes.items reads.piece c.reading.settled c.reading.all c.reading.invariant.unfound reads.taken (omega (arith, reads.count, reads.few)) c.in-Found.at c.in-Found.head c.in_ok-bytes-in-Found.bytes.items first left
+    let left = c.remove_front.ensures ∙ ap (drop c.in-Found.at) reads.behind in
+    found_first greatest name (g.R.Read.remaining (source c.args.input.now)) (g.R.Read.remaining (source c.reading.input))
+    (g.R.Read.remaining (source c.read_more.new.input))
+    c.reading._reads c.reading.bytes.items reads.piece c.reading.settled c.reading.seen c.reading.invariant.unfound reads.taken
+    (omega (arith, reads.count, reads.few)) c.in-Found.at c.in-Found.head c.remove_front.new.bytes.items first left
     c.in-Found.before heads c.with.result c.with.ensures
-    (last_length c.read_more.new.self) (omega (arith, reads.count, c.in_ok-n.ensures.last)) (omega (arith, c.in_ok-n.ensures.last, c.if-n-eq0.false))
+    (last_length c.read_more.new.input) (omega (arith, reads.count, c.in_ok-n.ensures.last)) (omega (arith, c.in_ok-n.ensures.last, c.if-n-eq0.false))
 
 pub reading-preserved : goal.reading-preserved
 reading-preserved g c =
@@ -27,17 +28,22 @@ reading-preserved g c =
     let name = c.args.name.now in
     let reads = c.in_ok-n.ensures.reads in
     let all : c.as_slice.result.now ≡ c.reading.bytes.items ++ reads.piece = c.as_slice.ensures.value ∙ reads.behind in
-    let none = subst (λ xs. HasNoWanted greatest name xs c.in-NotYet.from c.in-NotYet.before c.in-NotYet.heads) all (subst (IsSearch greatest name c.as_slice.result.now) c.in-NotYet.is c.in_ok-at.ensures.search) in
-    let left = c.in_ok-bytes-in-NotYet.ensures.items ∙ take_rest c.deref-in-NotYet.result.now c.in-NotYet.from ∙ ap (drop c.in-NotYet.from) (c.deref-in-NotYet.ensures.value ∙ reads.behind) in
+    let none = subst (λ xs. HasNoWanted greatest name xs c.in-NotYet.from c.in-NotYet.before c.in-NotYet.all) all
+    (subst (IsSearch greatest name c.as_slice.result.now) c.in-NotYet.is c.in_ok-at.ensures.search) in
+    let left = c.remove_front-in-NotYet.ensures ∙ ap (drop c.in-NotYet.from) reads.behind in
     let some : 0 < length reads.piece = omega (arith, reads.count, c.if-n-eq0.false) in
     record {
-      unfound = unfound_more greatest name (g.R.Read.remaining (source c.args.input.now)) (g.R.Read.remaining (source c.reading.input)) (g.R.Read.remaining (source c.read_more.new.self))
-          c.reading._reads c.reading.bytes.items reads.piece c.reading.settled c.reading.all c.reading.invariant.unfound reads.taken (omega (arith, reads.count, reads.few)) c.in-NotYet.from c.in_ok-bytes-in-NotYet.bytes.items c.in-NotYet.before c.in-NotYet.heads none left some
-          c.with-settled.result c.with-all.result c.with-settled.ensures c.with-all.ensures;
+      unfound = unfound_more greatest name (g.R.Read.remaining (source c.args.input.now)) (g.R.Read.remaining (source c.reading.input))
+          (g.R.Read.remaining (source c.read_more.new.input))
+          c.reading._reads c.reading.bytes.items reads.piece c.reading.settled c.reading.seen c.reading.invariant.unfound reads.taken
+          (omega (arith, reads.count, reads.few)) c.in-NotYet.from c.remove_front-in-NotYet.new.bytes.items c.in-NotYet.before c.in-NotYet.all
+          none left some
+          c.with-settled.result c.with-seen.result c.with-settled.ensures c.with-seen.ensures;
       counts = omega (arith, c.reading.invariant.counts, c.in_ok-n.ensures.counts);
     }
 
 pub returns-clause-searches : goal.returns-clause-searches
 returns-clause-searches g c =
     none_in_many (greatest_size c.args.table.now) c.args.name.now (g.R.Read.remaining (source c.args.input.now)) (g.R.Read.remaining (source c.reading.input))
-    c.reading._reads c.reading.bytes.items c.reading.settled c.reading.all c.reading.invariant.unfound (omega (arith, c.reading-test.false, c.reading.auto._reads-end))
+    c.reading._reads c.reading.bytes.items c.reading.settled c.reading.seen c.reading.invariant.unfound
+    (omega (arith, c.reading-test.false, c.reading.auto._reads-end))

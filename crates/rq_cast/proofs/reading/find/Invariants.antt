@@ -6,6 +6,7 @@ use Rattle.rq_cast.proofs.reading.find.Given as goal
 -- no wanted cell is whole in what was read
 abbrev pub invariant-reading : goal.invariant-reading
 invariant-reading g l = record {
-  unfound : IsUnfound (greatest_size l.fn.table) l.fn.name (g.R.Read.remaining l.fn.input.reader.inner) (g.R.Read.remaining l.input.reader.inner) l._reads l.bytes.items l.settled l.all;
+  unfound : IsUnfound (greatest_size l.fn.table) l.fn.name (g.R.Read.remaining l.fn.input.reader.inner) (g.R.Read.remaining l.input.reader.inner)
+      l._reads l.bytes.items l.settled l.seen;
   counts : l.input.reader.failed ≡ l.fn.input.reader.failed;
 }

@@ -1,5 +1,4 @@
-use Rattle.std.proofs.Common.{◌≡◌, ◌+◌, ◌++◌, sym, ap, subst, ◌∙◌, drop, arith, refl, inr}
-use Rattle.std.proofs.lemmas.List.{take_rest}
+use Rattle.std.proofs.Common.{◌+◌, ◌++◌, sym, ap, subst, ◌∙◌, arith, refl, inr}
 use Rattle.std.proofs.lemmas.Result.{err_from_is_err_and}
 use Rattle.raptorq.specs.Decoder.{state_of}
 use Rattle.rq_cells.specs.Found.{packets_in, damaged_in, others_in}
@@ -15,8 +14,7 @@ returns-clause-takes c =
     let bytes = c.args.self.now.bytes.items in
     let s = c.in_ok-scan.scan in
     let settles : Settles h bytes s = subst (λ xs. Settles h xs s) c.as_slice.ensures.value c.in_ok-scan.ensures.scan in
-    let kept : c.in_ok-self.field-0.items ≡ drop s.places bytes =
-    c.in_ok-self.ensures.items ∙ take_rest c.deref.result.now s.places ∙ ap (drop s.places) c.deref.ensures.value in
+    let kept = c.remove_front.ensures in
     record {
       head = refl;
       taken = record {
@@ -46,4 +44,5 @@ returns-in_err-unknown-clause-stops c =
     let state = state_of c.args.self.now.decoder in
     let e = c.in_err-unknown.field-0.0 in
     let p = err_from_is_err_and c.from_residual-in_err-unknown.result c.from_residual-in_err-unknown.ensures.1 in
-    rw (p.1, p.2) (inr (subst (λ ps. StopsAmong state (known_packets state.configuration ps) e) (sym (all_settled h bytes s settles)) c.in_err-unknown.ensures.stops))
+    rw (p.1, p.2)
+    (inr (subst (λ ps. StopsAmong state (known_packets state.configuration ps) e) (sym (all_settled h bytes s settles)) c.in_err-unknown.ensures.stops))
