@@ -23,10 +23,12 @@ use Rattle.rq_cast.specs.Received.{received_packets, IsAnswered}
 use Rattle.rq_cast.proofs.Needed.{needs_packets}
 
 -- an honest run of no packets, of the object of another run
-pub run_of_none : (table : List TableRow) (c : Configuration) (object : List ℕ) (packets : List Packet) → IsHonestRun table c object packets → IsHonestRun table c object []
+pub run_of_none : (table : List TableRow) (c : Configuration) (object : List ℕ) (packets : List Packet) → IsHonestRun table c object packets
+    → IsHonestRun table c object []
 run_of_none table c object packets run = record { long = run.long; nonsingular = run.nonsingular; honest = tt }
 
-module _ (table : List TableRow) (found : Found) (seen : Seen) (old : Receiver) (new : IsNewReceiver table found seen old) (now : Receiver) (all : List ℕ) (has : HasTaken old now all) where
+module _ (table : List TableRow) (found : Found) (seen : Seen) (old : Receiver) (new : IsNewReceiver table found seen old) (now : Receiver)
+    (all : List ℕ) (has : HasTaken old now all) where
   abbrev c : Configuration
   c = found.head.configuration
 
@@ -45,7 +47,8 @@ module _ (table : List TableRow) (found : Found) (seen : Seen) (old : Receiver) 
 
   stands : (object : List ℕ) → IsHonestRun table c object packets → StandsFor table object packets (state_of now.decoder)
   stands object run =
-      let honest : AllByRecursion (IsPacketOf table (state_of old.decoder).configuration object) (known_packets (state_of old.decoder).configuration (packets_in old.scanner all)) =
+      let honest : AllByRecursion (IsPacketOf table (state_of old.decoder).configuration object)
+      (known_packets (state_of old.decoder).configuration (packets_in old.scanner all)) =
       subst (AllByRecursion (IsPacketOf table (state_of old.decoder).configuration object)) (sym same_packets)
       (subst (λ k. AllByRecursion (IsPacketOf table k object) packets) (sym new.configuration) run.honest) in
       subst (λ ps. StandsFor table object ps (state_of now.decoder)) same_packets
@@ -64,7 +67,8 @@ module _ (table : List TableRow) (found : Found) (seen : Seen) (old : Receiver) 
   pub answered_by : IsAnswered table found.head all (result_of (state_of now.decoder))
   answered_by = record {
     whoever = record { state = state_of now.decoder; configuration = configured; follows = follows; value = refl };
-    honest = λ object run. subst (λ k. IsObjectAnswer table k object packets answer) configured (answers table object packets (λ _. false) (stands object run) (λ b. refl));
+    honest = λ object run. subst (λ k. IsObjectAnswer table k object packets answer) configured
+        (answers table object packets (λ _. false) (stands object run) (λ b. refl));
     only_object = λ object run.
         subst (λ k. IsSome answer ↔ IsOnlyObject table k packets object) configured
         (answers_only (state_of now.decoder) answer now.decoder.some now.decoder.positive now.decoder.aligned answers table object packets (stands object run));

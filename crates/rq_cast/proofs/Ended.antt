@@ -43,15 +43,18 @@ accepted : (r : Result (Unit {0}) Error) → is_ok r ≡ true → r ≡ Ok tt
 accepted (Ok u) e = refl
 accepted (Err w) e = absurd (true≢false (sym e))
 
-pub only_memory : (table : List TableRow) (name : List ℕ) (before after : Option (List ℕ)) (found : Found) (seen : Seen) (n : ℕ) → FindsFirst (greatest_size table) name before after n found.head found.bytes.items seen
+pub only_memory : (table : List TableRow) (name : List ℕ) (before after : Option (List ℕ)) (found : Found) (seen : Seen) (n : ℕ)
+    → FindsFirst (greatest_size table) name before after n found.head found.bytes.items seen
     → (e : Error) → IsRefusal e (checked_configuration (greatest_size table) found.head.configuration) → e ≡ OutOfMemory
 only_memory table name before after found seen n f e refused =
     let greatest = greatest_size table in
     let cell = wanted_cell greatest name (drop f.at (f.earlier ++ f.last)) found.head f.first.found in
-    let both = and_parts (is_ok (checked_configuration greatest found.head.configuration)) (starts_with nat_eq (found.head.name ++ header_bytes found.head.configuration) name) cell.wanted in
+    let both = and_parts (is_ok (checked_configuration greatest found.head.configuration))
+    (starts_with nat_eq (found.head.name ++ header_bytes found.head.configuration) name) cell.wanted in
     subst (IsRefusal e) (accepted (checked_configuration greatest found.head.configuration) both.0) refused
 
-module _ (table : List TableRow) (name : List ℕ) (before mid after : Option (List ℕ)) (found : Found) (first_seen : Seen) (n : ℕ) (f : FindsFirst (greatest_size table) name before mid n found.head found.bytes.items first_seen)
+module _ (table : List TableRow) (name : List ℕ) (before mid after : Option (List ℕ)) (found : Found) (first_seen : Seen) (n : ℕ)
+    (f : FindsFirst (greatest_size table) name before mid n found.head found.bytes.items first_seen)
     (old : Receiver) (made : IsNewReceiver table found first_seen old) where
   abbrev h : Head
   h = found.head
@@ -69,9 +72,11 @@ module _ (table : List TableRow) (name : List ℕ) (before mid after : Option (L
       ap (λ xs. received_packets h (xs ++ rest)) kept_is
       ∙ ap (known_packets h.configuration) (sym (nothing_before_first (greatest_size table) name h made.fits front rest f.at f.first))
 
-  answered : (now : Receiver) (rest : List ℕ) → HasTaken old now (old.bytes.items ++ rest) → (answer : Option (List ℕ)) → result_of (state_of now.decoder) ≡ answer → IsAnswered table h (front ++ rest) answer
+  answered : (now : Receiver) (rest : List ℕ) → HasTaken old now (old.bytes.items ++ rest) → (answer : Option (List ℕ))
+      → result_of (state_of now.decoder) ≡ answer → IsAnswered table h (front ++ rest) answer
   answered now rest has answer is =
-      let one : IsAnswered table h (old.bytes.items ++ rest) answer = subst (IsAnswered table h (old.bytes.items ++ rest)) is (answered_by table found first_seen old made now (old.bytes.items ++ rest) has) in
+      let one : IsAnswered table h (old.bytes.items ++ rest) answer = subst (IsAnswered table h (old.bytes.items ++ rest)) is
+      (answered_by table found first_seen old made now (old.bytes.items ++ rest) has) in
       record {
         whoever = subst (λ ps. IsAnswerAfter table h.configuration ps answer) (same_packets rest) one.whoever;
         honest = subst (λ ps. AnswersExactly table h.configuration ps answer) (same_packets rest) one.honest;
@@ -90,16 +95,19 @@ module _ (table : List TableRow) (name : List ℕ) (before mid after : Option (L
   }
 
   -- what was seen
-  all_of : (now : Receiver) (more : List ℕ) (read : Consumes mid after more) → HasTaken old now (old.bytes.items ++ more) → (s : Seen) → SeesAll now s → IsSeen (received more read) s
+  all_of : (now : Receiver) (more : List ℕ) (read : Consumes mid after more) → HasTaken old now (old.bytes.items ++ more) → (s : Seen) → SeesAll now s
+      → IsSeen (received more read) s
   all_of now more read has s sees =
       let all : old.bytes.items ++ more ≡ drop f.at front ++ more = ap (λ xs. xs ++ more) kept_is in
       let damaged_is : damaged_in old.scanner (old.bytes.items ++ more) ≡ damaged_in h (drop f.at front ++ more) = λ i. damaged_in (made.head i) (all i) in
       let others_is : others_in old.scanner (old.bytes.items ++ more) ≡ others_in h (drop f.at front ++ more) = λ i. others_in (made.head i) (all i) in
       let packets_are : packets_in old.scanner (old.bytes.items ++ more) ≡ packets_in h (front ++ more) =
       (λ i. packets_in (made.head i) (all i)) ∙ sym (nothing_before_first (greatest_size table) name h made.fits front more f.at f.first) in
-      let unknown_is : unknown_count (state_of old.decoder).configuration (packets_in old.scanner (old.bytes.items ++ more)) ≡ unknown_count h.configuration (packets_in h (front ++ more)) =
+      let unknown_is : unknown_count (state_of old.decoder).configuration (packets_in old.scanner (old.bytes.items ++ more)) ≡ unknown_count
+      h.configuration (packets_in h (front ++ more)) =
       λ i. unknown_count (made.configuration i) (packets_are i) in
-      let cells_are : length (known_packets (state_of old.decoder).configuration (packets_in old.scanner (old.bytes.items ++ more))) ≡ length (received_packets h (front ++ more)) =
+      let cells_are : length (known_packets (state_of old.decoder).configuration (packets_in old.scanner (old.bytes.items ++ more))) ≡ length
+      (received_packets h (front ++ more)) =
       λ i. length (known_packets (made.configuration i) (packets_are i)) in
       let left_is : others_in now.scanner now.bytes.items ≡ others_in old.scanner now.bytes.items = ap (λ k. others_in k now.bytes.items) has.head in
       let flat = ap (others_in old.scanner) (append-nil (old.bytes.items ++ more)) in
@@ -113,7 +121,8 @@ module _ (table : List TableRow) (name : List ℕ) (before mid after : Option (L
         others = omega (arith, sees.others, has.others_seen, others_before, has.others_found [], flat, flat_left, others_is, unknown_is, left_is);
       }
 
-  pub determined : (now : Receiver) (object : List ℕ) (s : Seen) (n' : ℕ) → SeesAll now s → EndsDetermined old now mid after n n' → result_of (state_of now.decoder) ≡ Some object → Determines table name before after n' h object s
+  pub determined : (now : Receiver) (object : List ℕ) (s : Seen) (n' : ℕ) → SeesAll now s → EndsDetermined old now mid after n n'
+      → result_of (state_of now.decoder) ≡ Some object → Determines table name before after n' h object s
   determined now object s n' sees e is = record {
     seen = all_of now (e.earlier ++ e.last) e.read e.taken s sees;
     past = front ++ (e.earlier ++ e.last);
@@ -141,14 +150,16 @@ module _ (table : List TableRow) (name : List ℕ) (before mid after : Option (L
     ];
   }
 
-  pub undetermined : (now : Receiver) (missing : ℕ) → TellsMissingPackets now.decoder missing → (s : Seen) → SeesAll now s → EndsUndetermined old now mid after → DoesntDetermine table name before after missing s
+  pub undetermined : (now : Receiver) (missing : ℕ) → TellsMissingPackets now.decoder missing → (s : Seen) → SeesAll now s
+      → EndsUndetermined old now mid after → DoesntDetermine table name before after missing s
   undetermined now missing told s sees e = record {
     seen = all_of now e.past e.read e.taken s sees;
     past = front ++ e.past;
     head = h;
     received = received e.past e.read;
     answered = answered now e.past e.taken None e.undetermined;
-    needs = subst (λ ps. NeedsPackets table h.configuration ps missing) (same_packets e.past) (needs_by table found first_seen old made now (old.bytes.items ++ e.past) e.taken missing told);
+    needs = subst (λ ps. NeedsPackets table h.configuration ps missing) (same_packets e.past)
+        (needs_by table found first_seen old made now (old.bytes.items ++ e.past) e.taken missing told);
     ended = elim e.ended [
       | inl at_end ↦ inl at_end
       | inr many ↦ inr (omega (arith, many, length-append front e.past))
@@ -159,19 +170,22 @@ module _ (table : List TableRow) (name : List ℕ) (before mid after : Option (L
   refuses e r =
       let c = h.configuration in
       let stops : StopsAmong (state_of old.decoder) (received_packets h (front ++ r.past)) e =
-      subst (λ ps. StopsAmong (state_of old.decoder) ps e) ((λ i. known_packets (made.configuration i) (packets_in (made.head i) (old.bytes.items ++ r.past))) ∙ same_packets r.past) r.stops in
+      subst (λ ps. StopsAmong (state_of old.decoder) ps e)
+      ((λ i. known_packets (made.configuration i) (packets_in (made.head i) (old.bytes.items ++ r.past))) ∙ same_packets r.past) r.stops in
       record {
         past = front ++ r.past;
         head = h;
         received = received r.past r.read;
-        refused = subst (λ k. (e ≡ OutOfMemory) ⊎ IsRefusalBehind table k [] (received_packets h (front ++ r.past)) (Err e)) made.configuration (stops.refused table [] made.follows);
+        refused = subst (λ k. (e ≡ OutOfMemory) ⊎ IsRefusalBehind table k [] (received_packets h (front ++ r.past)) (Err e)) made.configuration
+            (stops.refused table [] made.follows);
         honest = λ object run.
             stops.honest table object [] (made.stands object (run_of_none table c object (received_packets h (front ++ r.past)) run))
             (subst (λ k. AllByRecursion (IsPacketOf table k object) (received_packets h (front ++ r.past))) (sym made.configuration) run.honest);
       }
 
   -- where it stops nothing is written
-  pub not_received : (n' : ℕ) (there : Option (List ℕ)) (stop : Stop) → StopsReceiving old mid after stop → EndsReceiving table name (Err stop) before after n' there there
+  pub not_received : (n' : ℕ) (there : Option (List ℕ)) (stop : Stop) → StopsReceiving old mid after stop
+      → EndsReceiving table name (Err stop) before after n' there there
   not_received n' there Fault stops = inl (Keeps-refl there)
   not_received n' there (Refused e) (inl memory) = (inl memory, Keeps-refl there)
   not_received n' there (Refused e) (inr r) = (inr (refuses e r), Keeps-refl there)
@@ -189,7 +203,8 @@ module _ (answer : Option (List ℕ)) (object : List ℕ) (is : answer ≡ Some 
       subst (Appends there then) (same_Some bytes object (sym same ∙ is)) more
   written Incomplete (wanted, kept) = absurd (cc (wanted, is))
 
-  pub not_written : (table : List TableRow) (name : List ℕ) (before after : Option (List ℕ)) (n : ℕ) (h : Head) (seen : Seen) → Determines table name before after n h object seen → name_of object ≡ h.name
+  pub not_written : (table : List TableRow) (name : List ℕ) (before after : Option (List ℕ)) (n : ℕ) (h : Head) (seen : Seen)
+      → Determines table name before after n h object seen → name_of object ≡ h.name
       → (stop : Stop) → Ends (Err stop) there then (Ok answer) → EndsReceiving table name (Err stop) before after n there then
   not_written table name before after n h seen d named (Refused e) (inl memory, kept) = (inl memory, kept)
   not_written table name before after n h seen d named (Refused e) (inr wanted, kept) = absurd (cc wanted)

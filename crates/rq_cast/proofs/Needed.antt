@@ -17,16 +17,19 @@ told_open : (h : ReceivedBlock) → ¬ CanAnswer h → (missing : Option ℕ) �
 told_open h cannot None contradictory = absurd (cannot (inr contradictory.determined))
 told_open h cannot (Some n) told = told
 
-needed_open : (h : ReceivedBlock) → ¬ CanAnswer h → (missing : Option ℕ) → TellsMissing h missing → IfSome missing (NeedsMore h) → NeedsMore h (unwrap_or missing 0)
+needed_open : (h : ReceivedBlock) → ¬ CanAnswer h → (missing : Option ℕ) → TellsMissing h missing → IfSome missing (NeedsMore h)
+    → NeedsMore h (unwrap_or missing 0)
 needed_open h cannot None contradictory needed = absurd (cannot (inr contradictory.determined))
 needed_open h cannot (Some n) told needed = needed
 
-module _ (table : List TableRow) (packets : List Packet) (d : Decoder) (follows : FollowsRun table packets (state_of d)) (missing : ℕ) (t : TellsMissingPackets d missing) where
+module _ (table : List TableRow) (packets : List Packet) (d : Decoder) (follows : FollowsRun table packets (state_of d)) (missing : ℕ)
+    (t : TellsMissingPackets d missing) where
   module _ (b : ℕ) (below : b < (state_of d).configuration.source_blocks) where
     abbrev h : ReceivedBlock
     h = received_after table (state_of d).configuration b packets
 
-    zero_of : CanAnswer h → (answer : Option (List ℕ)) → (state_of d).answer b ≡ answer → TellsMissingOf ((state_of d).received b) answer (missing_of d b) → told_of d b ≡ 0
+    zero_of : CanAnswer h → (answer : Option (List ℕ)) → (state_of d).answer b ≡ answer
+        → TellsMissingOf ((state_of d).received b) answer (missing_of d b) → told_of d b ≡ 0
     zero_of can (Some block) is told = ap (λ o. unwrap_or o 0) told
     zero_of can None is told = let some : IsSome {T = List ℕ} None = subst IsSome is ((follows.answers b below).1 can) in absurd (cc some)
 

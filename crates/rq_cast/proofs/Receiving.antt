@@ -64,7 +64,8 @@ taken_first old new cells =
     }
 
 -- a piece more, and its cells
-module _ (old now : Receiver) (all : List ℕ) (has : HasTaken old now all) (bytes : Vec ℕ Global) (piece : List ℕ) (behind : bytes.items ≡ now.bytes.items ++ piece) where
+module _ (old now : Receiver) (all : List ℕ) (has : HasTaken old now all) (bytes : Vec ℕ Global) (piece : List ℕ)
+    (behind : bytes.items ≡ now.bytes.items ++ piece) where
   abbrev h : Head
   h = old.scanner
 
@@ -99,15 +100,18 @@ module _ (old now : Receiver) (all : List ℕ) (has : HasTaken old now all) (byt
       subst (λ k. TakesAll (state_of now.decoder) (known_packets k t.packets) (state_of new.decoder)) same t.takes in
       let unknown = ap (unknown_count c) whole ∙ unknown_both c (packets_in h all) t.packets in
       let unknown_here = ap (λ k. unknown_count k t.packets) same in
-      let known = ap length (ap (known_packets c) whole ∙ known_both c (packets_in h all) t.packets) ∙ length-append (known_packets c (packets_in h all)) (known_packets c t.packets) in
+      let known = ap length (ap (known_packets c) whole ∙ known_both c (packets_in h all) t.packets)
+      ∙ length-append (known_packets c (packets_in h all)) (known_packets c t.packets) in
       let known_here = ap (λ k. length (known_packets k t.packets)) same in
       record {
         head = cells.head ∙ has.head;
         found = λ rest.
             found rest ∙ sym (append_assoc (packets_in h all) t.packets (packets_in h (new.bytes.items ++ rest)))
             ∙ ap (λ ps. ps ++ packets_in h (new.bytes.items ++ rest)) (sym whole);
-        takes = subst (λ ps. TakesAll (state_of old.decoder) ps (state_of new.decoder)) (sym (ap (known_packets c) whole ∙ known_both c (packets_in h all) t.packets))
-            (takes_both (state_of old.decoder) (state_of now.decoder) (state_of new.decoder) (known_packets c (packets_in h all)) (known_packets c t.packets) has.takes takes);
+        takes = subst (λ ps. TakesAll (state_of old.decoder) ps (state_of new.decoder))
+            (sym (ap (known_packets c) whole ∙ known_both c (packets_in h all) t.packets))
+            (takes_both (state_of old.decoder) (state_of now.decoder) (state_of new.decoder) (known_packets c (packets_in h all))
+            (known_packets c t.packets) has.takes takes);
         cells_seen = omega (arith, t.cells_seen, has.cells_seen, known, known_here);
         damaged_found = λ rest. let all_of = damaged rest in omega (arith, all_of, damaged_whole);
         damaged_seen = omega (arith, t.damaged_seen, has.damaged_seen, damaged_whole);
@@ -143,13 +147,16 @@ module _ (old now : Receiver) (all : List ℕ) (has : HasTaken old now all) (byt
       let here : StopsAmong (state_of now.decoder) (known_packets c (packets_in h bytes.items)) e =
       subst (λ k. StopsAmong (state_of now.decoder) (known_packets c (packets_in k bytes.items)) e) has.head
       (subst (λ k. StopsAmong (state_of now.decoder) (known_packets k (packets_in now.scanner bytes.items)) e) same stops) in
-      let whole : packets_in h (all ++ piece) ≡ packets_in h all ++ packets_in h bytes.items = has.found piece ∙ ap (λ xs. packets_in h all ++ packets_in h xs) (sym behind) in
+      let whole : packets_in h (all ++ piece) ≡ packets_in h all ++ packets_in h bytes.items = has.found piece
+      ∙ ap (λ xs. packets_in h all ++ packets_in h xs) (sym behind) in
       inr (subst (λ ps. StopsAmong (state_of old.decoder) ps e) (sym (ap (known_packets c) whole ∙ known_both c (packets_in h all) (packets_in h bytes.items)))
-      (stops_behind (state_of old.decoder) (state_of now.decoder) (known_packets c (packets_in h all)) (known_packets c (packets_in h bytes.items)) e has.takes here))
+      (stops_behind (state_of old.decoder) (state_of now.decoder) (known_packets c (packets_in h all)) (known_packets c (packets_in h bytes.items)) e
+      has.takes here))
 
 -- ---- read after read
 
--- So many reads were made, and what they brought before the last one doesn't determine the object. The last read brought so many bytes before them, and so many now.
+-- So many reads were made, and what they brought before the last one doesn't determine the object. The last read brought so many bytes before them,
+-- and so many now.
 pub record IsReceiving (old now : Receiver) (before after : Option (List ℕ)) (n n' : ℕ) (reads : ℕ) : Type 0 where
   pub earlier : List ℕ
   pub last : List ℕ
@@ -174,53 +181,71 @@ module _ (old : Receiver) (before : Option (List ℕ)) (n : ℕ) where
   stops_first e (inr stops) = inr (record {
     past = [];
     read = Consumes-nil before;
-    stops = subst (λ xs. StopsAmong (state_of old.decoder) (known_packets (state_of old.decoder).configuration (packets_in old.scanner xs)) e) (sym (append-nil old.bytes.items)) stops;
+    stops = subst (λ xs. StopsAmong (state_of old.decoder) (known_packets (state_of old.decoder).configuration (packets_in old.scanner xs)) e)
+        (sym (append-nil old.bytes.items)) stops;
   })
 
-  pub ends_determined : (now : Receiver) (after : Option (List ℕ)) (n' reads : ℕ) → IsReceiving old now before after n n' reads → IsSome (result_of (state_of now.decoder)) → EndsDetermined old now before after n n'
-  ends_determined now after n' reads r some = record { earlier = r.earlier; last = r.last; read = r.read; taken = r.taken; determined = some; not_earlier = r.not_earlier }
+  pub ends_determined : (now : Receiver) (after : Option (List ℕ)) (n' reads : ℕ) → IsReceiving old now before after n n' reads
+      → IsSome (result_of (state_of now.decoder)) → EndsDetermined old now before after n n'
+  ends_determined now after n' reads r some = record {
+    earlier = r.earlier;
+    last = r.last;
+    read = r.read;
+    taken = r.taken;
+    determined = some;
+    not_earlier = r.not_earlier;
+  }
 
-  pub ends_in_many : (now : Receiver) (after : Option (List ℕ)) (n' reads : ℕ) → IsReceiving old now before after n n' reads → result_of (state_of now.decoder) ≡ None → 2 ^ 64 - 1 ≤ reads → EndsUndetermined old now before after
+  pub ends_in_many : (now : Receiver) (after : Option (List ℕ)) (n' reads : ℕ) → IsReceiving old now before after n n' reads
+      → result_of (state_of now.decoder) ≡ None → 2 ^ 64 - 1 ≤ reads → EndsUndetermined old now before after
   ends_in_many now after n' reads r none many =
       record { past = r.earlier ++ r.last; read = r.read; taken = r.taken; undetermined = none; ended = inr (omega (arith, many, r.brought)) }
 
-  module _ (now : Receiver) (after after' : Option (List ℕ)) (n' reads : ℕ) (r : IsReceiving old now before after n n' reads) (none : result_of (state_of now.decoder) ≡ None)
-      (bytes : Vec ℕ Global) (piece : List ℕ) (behind : bytes.items ≡ now.bytes.items ++ piece) (more : Consumes after after' piece) (few : length piece ≤ chunk_length) where
+  module _ (now : Receiver) (after after' : Option (List ℕ)) (n' reads : ℕ) (r : IsReceiving old now before after n n' reads)
+      (none : result_of (state_of now.decoder) ≡ None)
+      (bytes : Vec ℕ Global) (piece : List ℕ) (behind : bytes.items ≡ now.bytes.items ++ piece) (more : Consumes after after' piece)
+      (few : length piece ≤ chunk_length) where
     abbrev past : List ℕ
     past = r.earlier ++ r.last
 
     all_read : Consumes before after' (past ++ piece)
     all_read = Consumes-trans before after after' past piece r.read more
 
-    pub receiving_next : (new : Receiver) (m : ℕ) → length piece ≡ m → 0 < m → TakesCells (longer old now (old.bytes.items ++ past) r.taken bytes piece behind) new → IsReceiving old new before after' n m (reads + 1)
+    pub receiving_next : (new : Receiver) (m : ℕ) → length piece ≡ m → 0 < m
+        → TakesCells (longer old now (old.bytes.items ++ past) r.taken bytes piece behind) new → IsReceiving old new before after' n m (reads + 1)
     receiving_next new m is some cells = record {
       earlier = past;
       last = piece;
       read = all_read;
       brought = omega (arith, r.brought, is, some, length-append past piece);
-      taken = subst (HasTaken old new) (append_assoc old.bytes.items past piece) (taken_next old now (old.bytes.items ++ past) r.taken bytes piece behind new cells);
+      taken = subst (HasTaken old new) (append_assoc old.bytes.items past piece)
+          (taken_next old now (old.bytes.items ++ past) r.taken bytes piece behind new cells);
       not_earlier = inr (record { brought = is; some = some; few = omega (arith, few, is); mid = now; taken = r.taken; undetermined = none });
     }
 
-    pub ends_at_end : length piece ≡ 0 → IsAtEnd after' → EndsUndetermined old (longer old now (old.bytes.items ++ past) r.taken bytes piece behind) before after'
+    pub ends_at_end : length piece ≡ 0 → IsAtEnd after' → EndsUndetermined old (longer old now (old.bytes.items ++ past) r.taken bytes piece behind)
+        before after'
     ends_at_end zero ended =
         let nothing : piece ≡ [] = nil_from_length piece (omega (arith, zero)) in
         record {
           past = past ++ piece;
           read = all_read;
-          taken = subst (λ xs. HasTaken old (longer old now (old.bytes.items ++ past) r.taken bytes piece behind) (old.bytes.items ++ xs)) (sym (ap (λ xs. past ++ xs) nothing ∙ append-nil past))
+          taken = subst (λ xs. HasTaken old (longer old now (old.bytes.items ++ past) r.taken bytes piece behind) (old.bytes.items ++ xs))
+              (sym (ap (λ xs. past ++ xs) nothing ∙ append-nil past))
               (taken_same old now (old.bytes.items ++ past) r.taken bytes piece behind nothing);
           undetermined = none;
           ended = inl ended;
         }
 
-    pub stops_receiving : (e : Error) → StopsInCells (longer old now (old.bytes.items ++ past) r.taken bytes piece behind) e → (e ≡ OutOfMemory) ⊎ RefusesPackets old before after' e
+    pub stops_receiving : (e : Error) → StopsInCells (longer old now (old.bytes.items ++ past) r.taken bytes piece behind) e
+        → (e ≡ OutOfMemory) ⊎ RefusesPackets old before after' e
     stops_receiving e stops = elim (stops_next old now (old.bytes.items ++ past) r.taken bytes piece behind e stops) [
       | inl memory ↦ inl memory
       | inr among ↦ inr (record {
         past = past ++ piece;
         read = all_read;
-        stops = subst (λ xs. StopsAmong (state_of old.decoder) (known_packets (state_of old.decoder).configuration (packets_in old.scanner xs)) e) (append_assoc old.bytes.items past piece) among;
+        stops = subst (λ xs. StopsAmong (state_of old.decoder) (known_packets (state_of old.decoder).configuration (packets_in old.scanner xs)) e)
+            (append_assoc old.bytes.items past piece) among;
       })
     ]
 
@@ -233,7 +258,8 @@ none_incomplete d = by (result_of (state_of d))
     by None e = refl
     by (Some xs) e = absurd (true≢false e)
 
-pub receives_many : (old : Receiver) (before : Option (List ℕ)) (n : ℕ) (now : Receiver) (after : Option (List ℕ)) (n' reads : ℕ) → IsReceiving old now before after n n' reads → 2 ^ 64 - 1 ≤ reads
+pub receives_many : (old : Receiver) (before : Option (List ℕ)) (n : ℕ) (now : Receiver) (after : Option (List ℕ)) (n' reads : ℕ)
+    → IsReceiving old now before after n n' reads → 2 ^ 64 - 1 ≤ reads
     → (b : Bool) → is_some (result_of (state_of now.decoder)) ≡ b → Receives old now before after n n' b
 receives_many old before n now after n' reads r many true e = ends_determined old before n now after n' reads r e
 receives_many old before n now after n' reads r many false e = ends_in_many old before n now after n' reads r (none_incomplete now.decoder e) many

@@ -15,7 +15,8 @@ use Rattle.rq_cast.specs.Searching.{SeesBefore, FindsFirst, FindsNone}
 
 -- the heads at the places from one on, behind those before it
 pub sees_more : (greatest : ℕ) (name bytes : List ℕ) (from n : ℕ) (old new : Seen) (heads : Heads)
-    → SeesBefore greatest name bytes from old → AreHeads greatest name (drop from bytes) n heads → SeesHeads old heads new → SeesBefore greatest name bytes (from + n) new
+    → SeesBefore greatest name bytes from old → AreHeads greatest name (drop from bytes) n heads → SeesHeads old heads new
+    → SeesBefore greatest name bytes (from + n) new
 sees_more greatest name bytes from n old new heads before are sees =
     let damaged = count_further (is_wanted_damaged greatest name) bytes from n in
     let others = count_further (is_unwanted greatest name) bytes from n in
@@ -54,14 +55,23 @@ module _ (greatest : ℕ) (name : List ℕ) (before : Option (List ℕ)) where
     all_seen = record { no_cells = no_cells; damaged = no_damaged; others = no_others };
   }
 
-  pub none_at_end : (after : Option (List ℕ)) (reads : ℕ) (kept : List ℕ) (settled every : Seen) → IsUnfound greatest name before after reads kept settled every → IsAtEnd after → FindsNone greatest name before after every
+  pub none_at_end : (after : Option (List ℕ)) (reads : ℕ) (kept : List ℕ) (settled every : Seen)
+      → IsUnfound greatest name before after reads kept settled every → IsAtEnd after → FindsNone greatest name before after every
   none_at_end after reads kept settled every u ended = record { past = u.past; read = u.read; ended = inl ended; none = u.none; seen = u.all_seen }
 
-  pub none_in_many : (after : Option (List ℕ)) (reads : ℕ) (kept : List ℕ) (settled every : Seen) → IsUnfound greatest name before after reads kept settled every → 2 ^ 64 - 1 ≤ reads → FindsNone greatest name before after every
-  none_in_many after reads kept settled every u many = record { past = u.past; read = u.read; ended = inr (omega (arith, many, u.brought)); none = u.none; seen = u.all_seen }
+  pub none_in_many : (after : Option (List ℕ)) (reads : ℕ) (kept : List ℕ) (settled every : Seen)
+      → IsUnfound greatest name before after reads kept settled every → 2 ^ 64 - 1 ≤ reads → FindsNone greatest name before after every
+  none_in_many after reads kept settled every u many = record {
+    past = u.past;
+    read = u.read;
+    ended = inr (omega (arith, many, u.brought));
+    none = u.none;
+    seen = u.all_seen;
+  }
 
   -- a piece more was read
-  module _ (after after' : Option (List ℕ)) (reads : ℕ) (kept piece : List ℕ) (settled every : Seen) (u : IsUnfound greatest name before after reads kept settled every) (more : Consumes after after' piece) (few : length piece ≤ chunk_length) where
+  module _ (after after' : Option (List ℕ)) (reads : ℕ) (kept piece : List ℕ) (settled every : Seen)
+      (u : IsUnfound greatest name before after reads kept settled every) (more : Consumes after after' piece) (few : length piece ≤ chunk_length) where
     abbrev past' : List ℕ
     past' = u.past ++ piece
 
@@ -82,7 +92,8 @@ module _ (greatest : ℕ) (name : List ℕ) (before : Option (List ℕ)) where
         by (inr at) = ap (wanted_at greatest name) (same_place i at) ∙ none (i - u.from) (omega (arith, at, below))
 
     -- the heads behind the settled ones
-    heads_behind : (rest : List ℕ) (n : ℕ) (heads : Heads) → AreHeads greatest name (kept ++ piece ++ rest) n heads → AreHeads greatest name (drop u.from (past' ++ rest)) n heads
+    heads_behind : (rest : List ℕ) (n : ℕ) (heads : Heads) → AreHeads greatest name (kept ++ piece ++ rest) n heads
+        → AreHeads greatest name (drop u.from (past' ++ rest)) n heads
     heads_behind rest n heads are =
         let within : u.from ≤ length past' = omega (arith, u.within, length-append u.past piece) in
         subst (λ xs. AreHeads greatest name xs n heads) (ap (λ xs. xs ++ rest) kept_is ∙ sym (drop-append-le u.from past' rest within)) are
@@ -104,7 +115,8 @@ module _ (greatest : ℕ) (name : List ℕ) (before : Option (List ℕ)) where
           none_earlier = u.none;
           at = u.from + at;
           first = record {
-            within = omega (arith, first.within, u.within, ap length u.from_there, length-drop u.from u.past, length-append kept piece, length-append u.past piece);
+            within = omega
+                (arith, first.within, u.within, ap length u.from_there, length-drop u.from u.past, length-append kept piece, length-append u.past piece);
             found = ap (wanted_at greatest name) there ∙ first.found;
             first = none_so_far at first.first;
           };
@@ -112,8 +124,10 @@ module _ (greatest : ℕ) (name : List ℕ) (before : Option (List ℕ)) where
           seen = sees_more greatest name past' u.from at settled new heads (u.seen piece) (subst (λ xs. AreHeads greatest name xs at heads) kept_is are) sees;
         }
 
-    pub unfound_more : (from : ℕ) (left : List ℕ) (heads all : Heads) → HasNoWanted greatest name (kept ++ piece) from heads all → left ≡ drop from (kept ++ piece) → 0 < length piece
-        → (settled' every' : Seen) → SeesHeads settled heads settled' → SeesHeads settled all every' → IsUnfound greatest name before after' (reads + 1) left settled' every'
+    pub unfound_more : (from : ℕ) (left : List ℕ) (heads all : Heads) → HasNoWanted greatest name (kept ++ piece) from heads all
+        → left ≡ drop from (kept ++ piece) → 0 < length piece
+        → (settled' every' : Seen) → SeesHeads settled heads settled' → SeesHeads settled all every'
+        → IsUnfound greatest name before after' (reads + 1) left settled' every'
     unfound_more from left heads all h is some settled' every' sees sees_all =
         let size : length past' ≡ u.from + length (kept ++ piece) =
         omega (arith, u.within, ap length u.from_there, length-drop u.from u.past, length-append kept piece, length-append u.past piece) in
@@ -134,7 +148,8 @@ module _ (greatest : ℕ) (name : List ℕ) (before : Option (List ℕ)) where
               (heads_behind rest from heads (h.before rest)) sees;
           all_seen =
               subst (λ n. SeesBefore greatest name past' n every') (sym size)
-              (sees_more greatest name past' u.from (length (kept ++ piece)) settled every' all (u.seen piece) (subst (λ xs. AreHeads greatest name xs (length (kept ++ piece)) all) kept_is h.all) sees_all);
+              (sees_more greatest name past' u.from (length (kept ++ piece)) settled every' all (u.seen piece)
+              (subst (λ xs. AreHeads greatest name xs (length (kept ++ piece)) all) kept_is h.all) sees_all);
         }
       where
         never' : (rest : List ℕ) (i : ℕ) → i < u.from + from → (i < u.from) ⊎ (u.from ≤ i) → wanted_at greatest name (drop i past' ++ rest) ≡ None

@@ -35,10 +35,12 @@ all_behind P [] rest all = all
 all_behind P (p ∷ front) rest all = all_behind P front rest all.1
 
 module _ (old now : State) (front : List Packet) (taken : TakesAll old front now) (p : Packet) where
-  next : {X : Type 0} (r : Result X Error) (new : State) → TakesPacket now p r new → (table : List TableRow) (earlier : List Packet) → FollowsRun table earlier old → FollowsRun table (earlier ++ front) now
+  next : {X : Type 0} (r : Result X Error) (new : State) → TakesPacket now p r new → (table : List TableRow) (earlier : List Packet)
+      → FollowsRun table earlier old → FollowsRun table (earlier ++ front) now
   next r new takes table earlier follows = taken.follows table earlier follows
 
-  of_object : (rest : List Packet) (table : List TableRow) (object : List ℕ) → AllByRecursion (IsPacketOf table old.configuration object) (front ++ p ∷ rest) → IsPacketOf table now.configuration object p
+  of_object : (rest : List Packet) (table : List TableRow) (object : List ℕ)
+      → AllByRecursion (IsPacketOf table old.configuration object) (front ++ p ∷ rest) → IsPacketOf table now.configuration object p
   of_object rest table object honest =
       subst (λ k. IsPacketOf table k object p) (sym taken.configuration) (all_at (IsPacketOf table old.configuration object) front rest p honest)
 
@@ -48,12 +50,19 @@ module _ (old now : State) (front : List Packet) (taken : TakesAll old front now
     configuration = takes.configuration ∙ taken.configuration;
     passed = λ table earlier follows.
         refusal_behind-front table old.configuration earlier front (p ∷ []) (Ok tt) (taken.passed table earlier follows)
-        (inr (subst (λ k. IsNextRefusal table k (earlier ++ front) p (Ok tt)) taken.configuration (takes.next table (earlier ++ front) (taken.follows table earlier follows)), refl));
+        (inr (
+          subst (λ k. IsNextRefusal table k (earlier ++ front) p (Ok tt)) taken.configuration
+              (takes.next table (earlier ++ front) (taken.follows table earlier follows)),
+          refl,
+        ));
     follows = λ table earlier follows.
-        subst (λ ps. FollowsRun table ps new) (append_assoc earlier front (p ∷ [])) (takes.follows table (earlier ++ front) (taken.follows table earlier follows));
+        subst (λ ps. FollowsRun table ps new) (append_assoc earlier front (p ∷ []))
+        (takes.follows table (earlier ++ front) (taken.follows table earlier follows));
     stands = λ table object earlier st honest.
         subst (λ ps. StandsFor table object ps new) (append_assoc earlier front (p ∷ []))
-        (takes.stands table object (earlier ++ front) (taken.stands table object earlier st (all_front (IsPacketOf table old.configuration object) front (p ∷ []) honest)) (of_object [] table object honest));
+        (takes.stands table object (earlier ++ front)
+        (taken.stands table object earlier st (all_front (IsPacketOf table old.configuration object) front (p ∷ []) honest))
+        (of_object [] table object honest));
   }
 
   -- or it is refused
@@ -80,13 +89,16 @@ takes_both s t u front behind one other = record {
   configuration = other.configuration ∙ one.configuration;
   passed = λ table earlier follows.
       refusal_behind-front table s.configuration earlier front behind (Ok tt) (one.passed table earlier follows)
-      (subst (λ k. IsRefusalBehind table k (earlier ++ front) behind (Ok tt)) one.configuration (other.passed table (earlier ++ front) (one.follows table earlier follows)));
+      (subst (λ k. IsRefusalBehind table k (earlier ++ front) behind (Ok tt)) one.configuration
+      (other.passed table (earlier ++ front) (one.follows table earlier follows)));
   follows = λ table earlier follows.
       subst (λ ps. FollowsRun table ps u) (append_assoc earlier front behind) (other.follows table (earlier ++ front) (one.follows table earlier follows));
   stands = λ table object earlier st honest.
       subst (λ ps. StandsFor table object ps u) (append_assoc earlier front behind)
-      (other.stands table object (earlier ++ front) (one.stands table object earlier st (all_front (IsPacketOf table s.configuration object) front behind honest))
-      (subst (λ k. AllByRecursion (IsPacketOf table k object) behind) (sym one.configuration) (all_behind (IsPacketOf table s.configuration object) front behind honest)));
+      (other.stands table object (earlier ++ front)
+      (one.stands table object earlier st (all_front (IsPacketOf table s.configuration object) front behind honest))
+      (subst (λ k. AllByRecursion (IsPacketOf table k object) behind) (sym one.configuration)
+      (all_behind (IsPacketOf table s.configuration object) front behind honest)));
 }
 
 pub stops_behind : (s t : State) (front behind : List Packet) (e : Error) → TakesAll s front t → StopsAmong t behind e → StopsAmong s (front ++ behind) e
@@ -97,8 +109,10 @@ stops_behind s t front behind e one stops = record {
         (subst (λ k. IsRefusalBehind table k (earlier ++ front) behind (Err e)) one.configuration first))
   ];
   honest = λ table object earlier st honest.
-      stops.honest table object (earlier ++ front) (one.stands table object earlier st (all_front (IsPacketOf table s.configuration object) front behind honest))
-      (subst (λ k. AllByRecursion (IsPacketOf table k object) behind) (sym one.configuration) (all_behind (IsPacketOf table s.configuration object) front behind honest));
+      stops.honest table object (earlier ++ front)
+      (one.stands table object earlier st (all_front (IsPacketOf table s.configuration object) front behind honest))
+      (subst (λ k. AllByRecursion (IsPacketOf table k object) behind) (sym one.configuration)
+      (all_behind (IsPacketOf table s.configuration object) front behind honest));
 }
 
 -- ---- packets of blocks that the object has, and others
@@ -111,7 +125,8 @@ module _ (c : Configuration) (packets : List Packet) (p : Packet) where
   known_same e = filter-append (is_known c) packets (p ∷ []) ∙ ap (λ b. known_packets c packets ++ cond b (p ∷ []) []) e ∙ append-nil (known_packets c packets)
 
   pub known_around : (rest : List Packet) → is_known c p ≡ true → known_packets c (packets ++ p ∷ rest) ≡ known_packets c packets ++ p ∷ known_packets c rest
-  known_around rest e = filter-append (is_known c) packets (p ∷ rest) ∙ ap (λ b. known_packets c packets ++ cond b (p ∷ known_packets c rest) (known_packets c rest)) e
+  known_around rest e = filter-append (is_known c) packets (p ∷ rest) ∙ ap
+      (λ b. known_packets c packets ++ cond b (p ∷ known_packets c rest) (known_packets c rest)) e
 
   pub unknown_more : (b : Bool) → is_known c p ≡ b → unknown_count c (packets ++ p ∷ []) ≡ unknown_count c packets + cond (not b) 1 0
   unknown_more b e =
@@ -127,14 +142,17 @@ known_and_unknown c (p ∷ packets) =
     by (is_known c p) refl (sum_by-cons one p packets) (known_and_unknown c packets)
   where
     by : (b : Bool) → is_known c p ≡ b → unknown_count c (p ∷ packets) ≡ cond (not (is_known c p)) 1 0 + unknown_count c packets
-        → length (known_packets c packets) + unknown_count c packets ≡ length packets → length (known_packets c (p ∷ packets)) + unknown_count c (p ∷ packets) ≡ length (p ∷ packets)
+        → length (known_packets c packets) + unknown_count c packets ≡ length packets
+        → length (known_packets c (p ∷ packets)) + unknown_count c (p ∷ packets) ≡ length (p ∷ packets)
     by true e more so =
-        let here : length (known_packets c (p ∷ packets)) ≡ length (p ∷ known_packets c packets) = ap (λ b. length (cond b (p ∷ known_packets c packets) (known_packets c packets))) e in
+        let here : length (known_packets c (p ∷ packets)) ≡ length (p ∷ known_packets c packets) = ap
+        (λ b. length (cond b (p ∷ known_packets c packets) (known_packets c packets))) e in
         let count : Bool → ℕ = λ b. cond (not b) 1 0 in
         let none = ap count e in
         omega (arith, more, so, here, none)
     by false e more so =
-        let here : length (known_packets c (p ∷ packets)) ≡ length (known_packets c packets) = ap (λ b. length (cond b (p ∷ known_packets c packets) (known_packets c packets))) e in
+        let here : length (known_packets c (p ∷ packets)) ≡ length (known_packets c packets) = ap
+        (λ b. length (cond b (p ∷ known_packets c packets) (known_packets c packets))) e in
         let count : Bool → ℕ = λ b. cond (not b) 1 0 in
         let one_more = ap count e in
         omega (arith, more, so, here, one_more)

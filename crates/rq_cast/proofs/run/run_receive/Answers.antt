@@ -18,30 +18,42 @@ use Rattle.rq_cast.proofs.run.run_receive.Given.{Over}
 use Rattle.rq_cast.proofs.run.run_receive.Goals.{In-Some, After-ne}
 
 -- the first wanted cell was found
-found_first : (g : Over) (c : In-Some g) → FindsFirst (greatest_size c.args.table.now) c.args.name.now (g.R.Read.remaining (source c.args.input.now)) (g.R.Read.remaining (source c.find.new.input)) (last_length c.find.new.input) c.in-Some.found.head c.in-Some.found.bytes.items c.in_ok-found.seen
-found_first g c = subst (λ o. Searches (greatest_size c.args.table.now) c.args.name.now (g.R.Read.remaining (source c.args.input.now)) (g.R.Read.remaining (source c.find.new.input)) (last_length c.find.new.input) (o, c.in_ok-found.seen)) c.in-Some.is c.in_ok-found.ensures.searches
+found_first : (g : Over) (c : In-Some g) → FindsFirst (greatest_size c.args.table.now) c.args.name.now (g.R.Read.remaining (source c.args.input.now))
+    (g.R.Read.remaining (source c.find.new.input)) (last_length c.find.new.input) c.in-Some.found.head c.in-Some.found.bytes.items c.in_ok-found.seen
+found_first g c = subst
+    (λ o. Searches (greatest_size c.args.table.now) c.args.name.now (g.R.Read.remaining (source c.args.input.now))
+    (g.R.Read.remaining (source c.find.new.input)) (last_length c.find.new.input) (o, c.in_ok-found.seen)) c.in-Some.is c.in_ok-found.ensures.searches
 
 pub returns-in_err-receiver-clause-ends : goal.returns-in_err-receiver-clause-ends
 returns-in_err-receiver-clause-ends g c =
     let first = found_first g (goal.at.returns-in_err-receiver-clause-ends g c).In-Some in
     let p = err_from_is_err_and c.from_residual-in_err-receiver.result c.from_residual-in_err-receiver.ensures.1 in
-    let memory = only_memory c.args.table.now c.args.name.now (g.R.Read.remaining (source c.args.input.now)) (g.R.Read.remaining (source c.find.new.input)) c.in-Some.found c.in_ok-found.seen (last_length c.find.new.input) first c.in_err-receiver.field-0.0 c.in_err-receiver.ensures.refused in
+    let memory = only_memory c.args.table.now c.args.name.now (g.R.Read.remaining (source c.args.input.now))
+    (g.R.Read.remaining (source c.find.new.input)) c.in-Some.found c.in_ok-found.seen (last_length c.find.new.input) first
+    c.in_err-receiver.field-0.0 c.in_err-receiver.ensures.refused in
     rw (p.1, p.2) (inl memory, Keeps-refl (g.W.Write.contents (inner c.args.writer.now)))
 
 pub returns-in_err-complete-clause-ends : goal.returns-in_err-complete-clause-ends
 returns-in_err-complete-clause-ends g c =
     let first = found_first g (goal.at.returns-in_err-complete-clause-ends g c).In-Some in
     let p = err_from_is_err_and c.from_residual-in_err-complete.result c.from_residual-in_err-complete.ensures.1 in
-    rw (p.1, p.2) (not_received c.args.table.now c.args.name.now (g.R.Read.remaining (source c.args.input.now)) (g.R.Read.remaining (source c.find.new.input)) (g.R.Read.remaining (source c.receive.new.input))
-    c.in-Some.found c.in_ok-found.seen (last_length c.find.new.input) first c.in_ok-receiver.receiver c.in_ok-receiver.ensures.made (last_length c.receive.new.input) (g.W.Write.contents (inner c.args.writer.now)) c.in_err-complete.field-0.0 c.in_err-complete.ensures.stops)
+    rw (p.1, p.2)
+    (not_received c.args.table.now c.args.name.now (g.R.Read.remaining (source c.args.input.now)) (g.R.Read.remaining (source c.find.new.input))
+    (g.R.Read.remaining (source c.receive.new.input))
+    c.in-Some.found c.in_ok-found.seen (last_length c.find.new.input) first c.in_ok-receiver.receiver c.in_ok-receiver.ensures.made
+    (last_length c.receive.new.input) (g.W.Write.contents (inner c.args.writer.now)) c.in_err-complete.field-0.0 c.in_err-complete.ensures.stops)
 
 pub returns-then-not-complete-clause-ends : goal.returns-then-not-complete-clause-ends
 returns-then-not-complete-clause-ends g c =
     let first = found_first g (goal.at.returns-then-not-complete-clause-ends g c).In-Some in
     let mid = g.R.Read.remaining (source c.find.new.input) in
     let after = g.R.Read.remaining (source c.receive.new.input) in
-    let ended = subst (Receives c.in_ok-receiver.receiver c.receive.new.receiver mid after (last_length c.find.new.input) (last_length c.receive.new.input)) c.if-not-complete.true c.in_ok-complete.ensures.receives in (
-      undetermined c.args.table.now c.args.name.now (g.R.Read.remaining (source c.args.input.now)) mid after c.in-Some.found c.in_ok-found.seen (last_length c.find.new.input) first c.in_ok-receiver.receiver c.in_ok-receiver.ensures.made c.receive.new.receiver c.missing_packets.result c.missing_packets.ensures c.all_seen-seen.result c.all_seen-seen.ensures ended,
+    let ended = subst
+    (Receives c.in_ok-receiver.receiver c.receive.new.receiver mid after (last_length c.find.new.input) (last_length c.receive.new.input))
+    c.if-not-complete.true c.in_ok-complete.ensures.receives in (
+      undetermined c.args.table.now c.args.name.now (g.R.Read.remaining (source c.args.input.now)) mid after c.in-Some.found c.in_ok-found.seen
+          (last_length c.find.new.input) first c.in_ok-receiver.receiver c.in_ok-receiver.ensures.made c.receive.new.receiver c.missing_packets.result
+          c.missing_packets.ensures c.all_seen-seen.result c.all_seen-seen.ensures ended,
       Keeps-refl (g.W.Write.contents (inner c.args.writer.now)),
     )
 
@@ -50,17 +62,26 @@ module _ (g : Over) (c : After-ne g) where
   abbrev object : List ℕ
   object = object_of c.receive.new.receiver.decoder
 
-  ended : EndsDetermined c.in_ok-receiver.receiver c.receive.new.receiver (g.R.Read.remaining (source c.find.new.input)) (g.R.Read.remaining (source c.receive.new.input)) (last_length c.find.new.input) (last_length c.receive.new.input)
-  ended = subst (Receives c.in_ok-receiver.receiver c.receive.new.receiver (g.R.Read.remaining (source c.find.new.input)) (g.R.Read.remaining (source c.receive.new.input)) (last_length c.find.new.input) (last_length c.receive.new.input)) c.if-not-complete.false c.in_ok-complete.ensures.receives
+  ended : EndsDetermined c.in_ok-receiver.receiver c.receive.new.receiver (g.R.Read.remaining (source c.find.new.input))
+      (g.R.Read.remaining (source c.receive.new.input)) (last_length c.find.new.input) (last_length c.receive.new.input)
+  ended = subst
+      (Receives c.in_ok-receiver.receiver c.receive.new.receiver (g.R.Read.remaining (source c.find.new.input))
+      (g.R.Read.remaining (source c.receive.new.input)) (last_length c.find.new.input) (last_length c.receive.new.input)) c.if-not-complete.false
+      c.in_ok-complete.ensures.receives
 
   answer_is : result_of (state_of c.receive.new.receiver.decoder) ≡ Some object
   answer_is = answered_object (result_of (state_of c.receive.new.receiver.decoder)) ended.determined
 
-  found_object : Determines c.args.table.now c.args.name.now (g.R.Read.remaining (source c.args.input.now)) (g.R.Read.remaining (source c.receive.new.input)) (last_length c.receive.new.input) c.in-Some.found.head object c.all_seen-seen.result
+  found_object : Determines c.args.table.now c.args.name.now (g.R.Read.remaining (source c.args.input.now))
+      (g.R.Read.remaining (source c.receive.new.input)) (last_length c.receive.new.input) c.in-Some.found.head object c.all_seen-seen.result
   found_object =
-      let first = subst (λ o. Searches (greatest_size c.args.table.now) c.args.name.now (g.R.Read.remaining (source c.args.input.now)) (g.R.Read.remaining (source c.find.new.input)) (last_length c.find.new.input) (o, c.in_ok-found.seen)) c.in-Some.is c.in_ok-found.ensures.searches in
-      determined c.args.table.now c.args.name.now (g.R.Read.remaining (source c.args.input.now)) (g.R.Read.remaining (source c.find.new.input)) (g.R.Read.remaining (source c.receive.new.input))
-      c.in-Some.found c.in_ok-found.seen (last_length c.find.new.input) first c.in_ok-receiver.receiver c.in_ok-receiver.ensures.made c.receive.new.receiver object c.all_seen-seen.result (last_length c.receive.new.input) c.all_seen-seen.ensures ended answer_is
+      let first = subst
+      (λ o. Searches (greatest_size c.args.table.now) c.args.name.now (g.R.Read.remaining (source c.args.input.now))
+      (g.R.Read.remaining (source c.find.new.input)) (last_length c.find.new.input) (o, c.in_ok-found.seen)) c.in-Some.is c.in_ok-found.ensures.searches in
+      determined c.args.table.now c.args.name.now (g.R.Read.remaining (source c.args.input.now)) (g.R.Read.remaining (source c.find.new.input))
+      (g.R.Read.remaining (source c.receive.new.input))
+      c.in-Some.found c.in_ok-found.seen (last_length c.find.new.input) first c.in_ok-receiver.receiver c.in_ok-receiver.ensures.made
+      c.receive.new.receiver object c.all_seen-seen.result (last_length c.receive.new.input) c.all_seen-seen.ensures ended answer_is
 
 pub returns-then-ne-clause-ends : goal.returns-then-ne-clause-ends
 returns-then-ne-clause-ends g c =
@@ -98,5 +119,6 @@ returns-in_err-write_object-clause-ends g c =
     let answer = result_of (state_of c.receive.new.receiver.decoder) in
     let p = err_from_is_err_and c.from_residual-in_err-write_object.result c.from_residual-in_err-write_object.ensures.1 in
     rw (p.1, p.2) (not_written answer (object g at) (answer_is g at) there then c.args.table.now c.args.name.now
-    (g.R.Read.remaining (source c.args.input.now)) (g.R.Read.remaining (source c.receive.new.input)) (last_length c.receive.new.input) c.in-Some.found.head c.all_seen-seen.result (found_object g at) (named g at c.if-ne.false)
+    (g.R.Read.remaining (source c.args.input.now)) (g.R.Read.remaining (source c.receive.new.input)) (last_length c.receive.new.input)
+    c.in-Some.found.head c.all_seen-seen.result (found_object g at) (named g at c.if-ne.false)
     c.in_err-write_object.field-0.0 c.in_err-write_object.ensures.ends)
