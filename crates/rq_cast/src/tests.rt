@@ -6,6 +6,7 @@ use std::alloc::Global;
 use std::io;
 use std::io::{ErrorKind, Read};
 
+mod ending;
 mod sending;
 mod words;
 

@@ -55,7 +55,7 @@ impl Pace for Waits {
 }
 
 // The sender of the object's source symbols whose ids these are, in symbols of two bytes.
-fn sender(alloc: Global, first: u32, step: u32) -> Result<Sender, Error> {
+pub(super) fn sender(alloc: Global, first: u32, step: u32) -> Result<Sender, Error> {
     let table = SystematicTable::built_in(alloc)?;
     let config = ObjectTransmissionInformation::new(3, 2, 1, 1, 1)?;
     Sender::new(
