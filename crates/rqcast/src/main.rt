@@ -7,6 +7,8 @@ ghost use Rattle.std.specs.Prelude.{◌<◌, IfOk};
 ghost use Rattle.rq_cast.specs.Asked.{StepsOn};
 
 mod pace;
+#[cfg(test)]
+mod tests;
 mod watch;
 
 use crate::pace::Pacer;

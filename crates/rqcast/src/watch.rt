@@ -61,14 +61,9 @@ impl<'a, C: Clock, W: Write> Watch<'a, C, W> {
         self.bytes = 0;
         Ok(Some(u64::try_from(rate).unwrap_or(u64::MAX)))
     }
-}
 
-impl<C: Clock, W: Write> Progress for Watch<'_, C, W> {
-    fn tell(&mut self, bytes: usize, seen: &Seen, decoder: Option<&Decoder>) {
-        self.bytes = self.bytes.saturating_add(bytes as u64);
-        let Ok(Some(rate)) = self.past_second() else {
-            return;
-        };
+    // Writes a line over the one before.
+    fn write_line(&mut self, seen: &Seen, decoder: Option<&Decoder>, rate: u64) {
         let Some(out) = &mut self.out else {
             return;
         };
@@ -85,5 +80,18 @@ impl<C: Clock, W: Write> Progress for Watch<'_, C, W> {
             }
             None => write!(out, "\r{cells} cells, {rate} bytes a second{CLEAR}"),
         };
+    }
+}
+
+impl<C: Clock, W: Write> Progress for Watch<'_, C, W> {
+    fn tell(&mut self, bytes: usize, seen: &Seen, decoder: Option<&Decoder>) {
+        // Where nobody is told, the clock isn't asked.
+        if self.out.is_none() {
+            return;
+        }
+        self.bytes = self.bytes.saturating_add(bytes as u64);
+        if let Ok(Some(rate)) = self.past_second() {
+            self.write_line(seen, decoder, rate);
+        }
     }
 }
