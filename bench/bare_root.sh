@@ -19,6 +19,21 @@ listing() {
         -not -name 'ld.so.cache*' -print | sort
 }
 
+# Prints the program or the output in README.md that begins so: WORDS.
+block() {
+    awk -v wanted="$1" 'function end() { if (index(block, wanted) == 1) printf "%s", block; block = gap = "" }
+        /^    / { block = block gap substr($0, 5) "\n"; gap = ""; next }
+        /^$/ { gap = gap (block == "" ? "" : "\n"); next }
+        { end() }
+        END { end() }' README.md
+}
+
+# Asks that README's commands that begin so print what it says: WORDS SENTENCE.
+prints() {
+    block "$1" >commands
+    [ -s commands ] && [ "$(bash -euo pipefail commands)" = "$2" ] || failed "README's commands don't print $2"
+}
+
 # Sends the licence, loses each tenth frame, and receives it: RQ..
 loss_demo() {
     "$@" send 1280 13 <LICENSE >stream
@@ -33,6 +48,12 @@ cell_demo() {
     "$@" send 300 20% <LICENSE >cells 2>/dev/null
     (head -c 5000 cells && tail -c +5500 cells) | "$@" receive >back
     cmp LICENSE back
+}
+
+# README's program in C.
+first_in_c() {
+    block '#include <reamertan.h>' >hello.c
+    prints 'cc hello.c' 'it came back'
 }
 
 # Compiles an example in C and runs it: COMPILER.. -- FLAGS..
@@ -89,6 +110,8 @@ on_processors() {
 
 by_apt() {
     apt-get install --yes --quiet=2 ./out/reamertan_*.deb ./out/libreamertan*_amd64.deb >/dev/null
+    prints printf "$(block ' 00')"
+    first_in_c
     loss_demo reamertan-rq
     cell_demo reamertan-rqcast
     zcat /usr/share/man/man1/reamertan-rq.1.gz | grep -q '^reamertan.-rq ' || failed "the man page has another name"
@@ -118,6 +141,7 @@ unpacked() {
     tar -C /opt/reamertan --strip-components=1 -xzf out/reamertan-*-linux.tar.gz
     loss_demo /opt/reamertan/bin/rq
     cell_demo /opt/reamertan/bin/rqcast
+    PKG_CONFIG_PATH=/opt/reamertan/lib/pkgconfig LD_LIBRARY_PATH=/opt/reamertan/lib first_in_c
     PKG_CONFIG_PATH=/opt/reamertan/lib/pkgconfig in_c /opt/reamertan/lib -Wl,-rpath,/opt/reamertan/lib
     rm -r /opt/reamertan
     say "unpacked, and removed"
@@ -132,6 +156,8 @@ data = open("LICENSE", "rb").read()
 packets = raptorq.Encoder.with_defaults(data, 1280).get_encoded_packets(3)
 decoder = raptorq.Decoder.with_defaults(len(data), 1280)
 assert [decoder.decode(packet) for packet in packets[3:]][-1] == data'
+    block 'import reamertan' >hello.py
+    [ "$(venv/bin/python hello.py)" = "it came back" ] || failed "README's program in Python prints something else"
     venv/bin/pip uninstall --quiet --yes reamertan
     ! venv/bin/python -c 'import reamertan' 2>/dev/null || failed "pip leaves the module"
     say "the wheel, its tests and a script"
@@ -139,23 +165,16 @@ assert [decoder.decode(packet) for packet in packets[3:]][-1] == data'
 
 # A program that names the crate, over the package, also where a lock file names the one of crates.io.
 in_rust() {
-    local rustc
+    local rustc words
     export PATH=/try/rust/bin:$PATH
     rustc=$(rustc --version 2>/dev/null || echo "rustc 1.0")
     rustc=${rustc#rustc 1.}
     [ "${rustc%%.*}" -ge 85 ] || { say "passed over: there is no Rust 1.85" && return; }
     tar -xzf out/raptorq-*.crate
     mkdir -p program/src
-    cat >program/Cargo.toml <<'TEXT'
-[package]
-name = "program"
-version = "0.0.0"
-edition = "2024"
-[dependencies]
-raptorq = "2.0.1"
-[patch.crates-io]
-raptorq = { path = "../raptorq-2.0.1" }
-TEXT
+    printf '[package]\nname = "program"\nversion = "0.0.0"\nedition = "2024"\n' >program/Cargo.toml
+    block '[dependencies]' >>program/Cargo.toml
+    block 'use raptorq::' >program/src/main.rs
     cat >program/Cargo.lock <<'TEXT'
 version = 4
 
@@ -170,19 +189,10 @@ version = "2.0.1"
 source = "registry+https://github.com/rust-lang/crates.io-index"
 checksum = "0000000000000000000000000000000000000000000000000000000000000000"
 TEXT
-    cat >program/src/main.rs <<'TEXT'
-use raptorq::{Decoder, Encoder};
-
-fn main() {
-    let object = vec![7; 50000];
-    let encoder = Encoder::with_defaults(&object, 1280);
-    let mut decoder = Decoder::new(encoder.get_config());
-    let packets = encoder.get_encoded_packets(5);
-    let answer = packets.into_iter().skip(3).find_map(|packet| decoder.decode(packet));
-    assert_eq!(answer, Some(object));
-}
-TEXT
-    (cd program && cargo run --quiet --release --offline && cargo run --quiet --release --offline --locked)
+    for words in --offline "--offline --locked"; do
+        # shellcheck disable=SC2086 # options of cargo
+        [ "$(cd program && cargo run --quiet $words)" = "it came back" ] || failed "README's program in Rust prints something else"
+    done
     (cd raptorq-2.0.1 && cargo test --quiet --release --offline >/dev/null)
     say "a program in Rust, over the package and an old lock, and the package's tests"
 }
