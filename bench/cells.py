@@ -239,12 +239,14 @@ def places_in(data):
 
 
 class Received(NamedTuple):
-    """How a receiver ends: how many bytes it read, the lines that it prints, the object that it writes, and its status."""
+    """How a receiver ends: how many bytes it read, the lines that it prints, the object that it writes, its status, and the cells of the
+    object that it took."""
 
     read: int
     lines: list
     written: bytes
     status: int
+    cells: int = 0
 
 
 def is_wanted(head, name):
@@ -292,10 +294,11 @@ def receive(data, name, ends, objects):
             break
     later = [place for place in places if place.at >= first.at and place.at + HEAD <= end]
     damaged += sum(place.head == told.head and place.end <= end and not place.is_cell for place in later)
-    others += sum(place.head != told.head for place in later) + sum(place.block >= len(ids) for place in cells)
+    known = sum(place.block < len(ids) for place in cells)
+    others += sum(place.head != told.head for place in later) + len(cells) - known
     missing = sum(missing_of(told.configuration, ids))
     if missing:
-        return Received(len(data), counted(damaged, others, f"incomplete {missing}"), b"", 2)
+        return Received(len(data), counted(damaged, others, f"incomplete {missing}"), b"", 2, known)
     if not told.is_right:
-        return Received(end, counted(damaged, others, "another object"), b"", 5)
-    return Received(end, counted(damaged, others, None), told.data, 0)
+        return Received(end, counted(damaged, others, "another object"), b"", 5, known)
+    return Received(end, counted(damaged, others, None), told.data, 0, known)

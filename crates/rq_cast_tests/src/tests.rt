@@ -1,0 +1,4 @@
+//! The tests, by what they are of.
+
+mod runs;
+mod stored_runs;

@@ -1,0 +1,75 @@
+//! Cells that are lost, damaged, mixed and cut, as reads bring them.
+use crate::compare::same;
+use crate::tests::stored_runs::RUNS;
+use raptorq::error::Error;
+use raptorq::systematic_constants::SystematicTable;
+use rq_cast::{Ending, Input, Seen, Silent, run_receive};
+use rq_streams::{Counted, Stop};
+use std::alloc::Global;
+use std::io;
+use std::io::{ErrorKind, Read};
+
+/// A run, and what it makes of its bytes.
+pub struct Run {
+    /// What name and configuration begin with.
+    pub name: &'static [u8],
+    /// What each read brings. The last one is needed, or the input ends behind it.
+    pub pieces: &'static [&'static [u8]],
+    /// How it ends.
+    pub ending: Ending,
+    /// What was seen.
+    pub seen: Seen,
+    /// What is written.
+    pub object: &'static [u8],
+}
+
+// A reader that brings a piece a call. Behind the last one it is at its end, or stays open: then no
+// further call may come.
+#[derive(Drop)]
+struct Pieces<'a> {
+    rest: &'a [&'a [u8]],
+    is_open: bool,
+}
+
+impl<'a> Read for Pieces<'a> {
+    fn read(&mut self, buf: &mut [u8]) -> io::Result<usize> {
+        let Some((piece, rest)) = self.rest.split_first() else {
+            return if self.is_open {
+                Err(io::Error::from(ErrorKind::Other))
+            } else {
+                Ok(0)
+            };
+        };
+        self.rest = rest;
+        let mut piece = *piece;
+        piece.read(buf)
+    }
+}
+
+type Ended = (Result<(Ending, Seen), Stop>, Vec<u8>);
+
+// How a run ends, and what it writes.
+fn ended(alloc: Global, table: &SystematicTable, run: &Run) -> Ended {
+    let reader = Pieces {
+        rest: run.pieces,
+        is_open: !matches!(run.ending, Ending::Incomplete { .. }),
+    };
+    let mut input = Input::new(Counted::new(reader));
+    let mut out: Vec<u8> = Vec::new(alloc);
+    let mut writer = Counted::new(&mut out);
+    let ended = run_receive(alloc, table, run.name, &mut input, &mut writer, &mut Silent);
+    drop(writer);
+    (ended, out)
+}
+
+#[test]
+fn runs_end_as_by_the_model(rt: HostRuntime) -> Result<(), Error> {
+    let alloc = rt.alloc();
+    let table = SystematicTable::built_in(alloc)?;
+    for (number, run) in RUNS.iter().enumerate() {
+        let wanted = Vec::from_slice(alloc, run.object)?;
+        let found = ended(alloc, &table, run);
+        same!(rt; found, (Ok((run.ending, run.seen)), wanted), number);
+    }
+    Ok(())
+}
