@@ -60,6 +60,7 @@ CALLS: dict[str, tuple[Any, ...]] = {
     "write_block_packets": (c_uint8, HANDLE, c_uint32, c_uint32, *BYTES),
     "open_decoder": (c_uint8, *ROWS, c_char_p, HANDLE),
     "add_packet": (c_uint8, HANDLE, *BYTES),
+    "add_packets": (c_uint8, HANDLE, *BYTES),
     "is_complete": (c_uint8, HANDLE),
     "write_object": (c_uint8, HANDLE, *BYTES),
     "write_block": (c_uint8, HANDLE, c_uint8, *BYTES),

@@ -259,6 +259,18 @@ class Decoder(Coder):
             return None
         return self.get_result() if self._is_there(answer) else None
 
+    def add_packets(self, packets: bytes) -> None:
+        """Takes packets that lie one behind another, in one call. `get_result` has the object once they determine it.
+
+        Raises an `Error` where they are no whole number of packets, and then none is taken, or where one is refused: those before it are
+        taken, and those behind it aren't.
+        """
+        packets = exact(packets)
+        # Counted before they are taken, and where one is refused too many: then `decode` asks sooner.
+        for _ in range(len(packets) // (PAYLOAD_ID_BYTES + self._config.symbol_size)):
+            next(self._handed)
+        must(self._ask(calls.add_packets, packets, len(packets)))
+
     def is_complete(self) -> bool:
         """Whether the packets that were taken determine the object."""
         return self._is_there(self._ask(calls.is_complete))

@@ -62,6 +62,16 @@ class Refusals(unittest.TestCase):
             with self.subTest(number, words=words):
                 self.refused(number, call, *words)
 
+    def test_packets_behind_another(self):
+        encoder = reamertan.Encoder(object_of(80), reamertan.ObjectTransmissionInformation(80, 8, 1, 1, 1))
+        decoder = reamertan.Decoder(encoder.get_config())
+        first, second, *others = encoder.packets(0, 0, 10)
+        self.refused(reamertan.Answer.WRONG_PAYLOAD_SIZE, decoder.add_packets, first + second[:-1])
+        self.assertEqual(decoder.missing_packets(0), 10)
+        self.refused(reamertan.Answer.UNKNOWN_BLOCK, decoder.add_packets, first + b"\1" + second[1:] + others[0])
+        self.assertEqual(decoder.missing_packets(0), 9)
+        self.assertRaises(TypeError, decoder.add_packets, bytearray(first))
+
     def test_contradiction(self):
         """Ten packets that don't determine a block of ten symbols, one of them damaged, are met by those that would determine it."""
         encoder = reamertan.Encoder(object_of(80), reamertan.ObjectTransmissionInformation(80, 8, 1, 1, 1))

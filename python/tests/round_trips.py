@@ -86,6 +86,18 @@ class RoundTrips(unittest.TestCase):
         self.assertEqual((decoder.is_complete(), decoder.get_result(), decoder.block_bytes(1)), (True, data, data[5000:]))
         self.assertTrue(decoder.decode(encoder.packet(0, 77)) == data)
 
+    def test_packets_behind_another(self):
+        data = object_of(9990)
+        encoder = reamertan.Encoder(data, reamertan.ObjectTransmissionInformation(9990, 100, 2, 1, 1))
+        packets = shuffled(encoder.get_encoded_packets(10), 0.05)
+        decoder = reamertan.Decoder(encoder.get_config())
+        decoder.add_packets(b"")
+        decoder.add_packets(b"".join(packets[:90]))
+        self.assertEqual((decoder.is_complete(), decoder.get_result()), (False, None))
+        self.assertTrue(received(decoder, packets[90:]) == data)
+        decoder.add_packets(b"".join(packets))
+        self.assertTrue(decoder.get_result() == data)
+
     def test_blocks_without_symbols(self):
         config = reamertan.ObjectTransmissionInformation(3, 2, 5, 1, 1)
         encoder = reamertan.Encoder(b"abc", config)
