@@ -193,6 +193,7 @@ unsafe extern "C" {
         handle: *mut Handle,
     ) -> u8;
     fn reamertan_add_packets(handle: *mut Handle, packets: *const u8, length: usize) -> u8;
+    fn reamertan_copy_decoder(handle: *mut Handle, twin: *mut Handle) -> u8;
     fn reamertan_is_complete(handle: *mut Handle) -> u8;
     fn reamertan_write_block(handle: *mut Handle, block: u8, bytes: *mut u8, length: usize) -> u8;
     fn reamertan_close(handle: *mut Handle);
@@ -406,6 +407,14 @@ impl Handle {
         // SAFETY: as above.
         let number = unsafe { reamertan_add_packets(self, packets.as_ptr(), packets.len()) };
         answered(number, ())
+    }
+
+    /// A further decoder that stands where this one does.
+    pub fn copy_decoder(&mut self) -> Result<Handle, Refusal> {
+        let mut twin = Handle::empty();
+        // SAFETY: the handles are two, and each is used by one call at a time.
+        let number = unsafe { reamertan_copy_decoder(self, &mut twin) };
+        answered(number, twin)
     }
 
     /// Whether the packets that were taken determine the object.

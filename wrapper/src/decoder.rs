@@ -8,6 +8,7 @@ use crate::calls::{
 };
 use std::collections::BTreeMap;
 use std::fmt;
+use std::sync::{Mutex, PoisonError};
 
 /// Up to how many symbols the crate solves by dense matrices, where nobody sets another number.
 const SPARSE_THRESHOLD: u32 = 250;
@@ -135,7 +136,7 @@ impl SourceBlockDecoder {
             contradictory: false,
             answer: None,
             sparse_threshold: SPARSE_THRESHOLD,
-            solver: Solver(None),
+            solver: Solver::default(),
         }
     }
 
@@ -202,7 +203,7 @@ impl SourceBlockDecoder {
 
     // The block, where the packets that came determine it. The solver is handed those that it hasn't.
     fn solve(&mut self) -> Result<Option<Vec<u8>>, Refusal> {
-        let (mut handle, taken) = match self.solver.0.take() {
+        let (mut handle, taken) = match self.solver.begun().take() {
             Some(begun) => begun,
             None => (Handle::decoder(&self.configuration)?, 0),
         };
@@ -224,7 +225,7 @@ impl SourceBlockDecoder {
             handle.write_block(0, &mut bytes)?;
             return Ok(Some(bytes));
         }
-        self.solver = Solver(Some((handle, self.packets.len())));
+        *self.solver.begun() = Some((handle, self.packets.len()));
         Ok(None)
     }
 
@@ -282,11 +283,24 @@ impl Ids {
 }
 
 // The library's decoder of a block, and how many of its packets it has. There is one while enough
-// packets came to determine the block perhaps, and it has no answer. A clone begins without one.
-struct Solver(Option<(Handle, usize)>);
+// packets came to determine the block perhaps, and it has no answer. A clone asks it for a copy: the lock
+// is for clones that threads make at a time.
+#[derive(Default)]
+struct Solver(Mutex<Option<(Handle, usize)>>);
 
+impl Solver {
+    fn begun(&mut self) -> &mut Option<(Handle, usize)> {
+        self.0.get_mut().unwrap_or_else(PoisonError::into_inner)
+    }
+}
+
+/// Where the library gets no memory for a copy, the clone begins anew.
 impl Clone for Solver {
     fn clone(&self) -> Solver {
-        Solver(None)
+        let mut begun = self.0.lock().unwrap_or_else(PoisonError::into_inner);
+        let copied = begun
+            .as_mut()
+            .and_then(|(handle, taken)| Some((handle.copy_decoder().ok()?, *taken)));
+        Solver(Mutex::new(copied))
     }
 }
