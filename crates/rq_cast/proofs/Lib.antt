@@ -1,3 +1,4 @@
+mod CountedCalls
 pub mod Answering
 pub mod Ended
 pub mod Hashed

@@ -14,9 +14,12 @@ use Rattle.rq_cast.specs.Sent.{sending_of, object_head, IsSeries}
 use Rattle.rq_cast.specs.Preparing.{IsFitting, IsPrepared, RefusesObject, StopsPreparing}
 
 -- a sender over a configuration that fits
-pub prepared_by : (order : Order) (object : List ℕ) (table : List TableRow) (c : Configuration) (r : Result Sender Error) → IsFitting (length object) order.symbol_size table c
-    → OnOk r (HasNonsingularRows table c) → IfOk r (λ s. IsEncoderOf table object (sending_of s).encoded) → IfOk r (λ s. (sending_of s).encoded.configuration ≡ c)
-    → IfOk r (λ s. (sending_of s).head ≡ object_head object c) → IfOk r (λ s. IsSeries order.ids.first order.ids.step (id_end (largest_block c) order.repair) (sending_of s).series)
+pub prepared_by : (order : Order) (object : List ℕ) (table : List TableRow) (c : Configuration) (r : Result Sender Error)
+    → IsFitting (length object) order.symbol_size table c
+    → OnOk r (HasNonsingularRows table c) → IfOk r (λ s. IsEncoderOf table object (sending_of s).encoded)
+    → IfOk r (λ s. (sending_of s).encoded.configuration ≡ c)
+    → IfOk r (λ s. (sending_of s).head ≡ object_head object c)
+    → IfOk r (λ s. IsSeries order.ids.first order.ids.step (id_end (largest_block c) order.repair) (sending_of s).series)
     → IfOk r (λ s. IsPrepared order object (sending_of s))
 prepared_by order object table c (Err e) fits nonsingular encoder is head series = tt
 prepared_by order object table c (Ok s) fits nonsingular encoder is head series = record {
@@ -29,7 +32,8 @@ prepared_by order object table c (Ok s) fits nonsingular encoder is head series 
 }
 
 -- a refusal of what was read
-pub stops_preparing : {X : Type 0} (order : Order) (bytes : List ℕ) (e : Error) (input : Option (List ℕ)) (r : Result X Stop) → r ≡ Err (Refused e) → RefusesObject order bytes e → IfSome input (λ object. bytes ≡ object)
+pub stops_preparing : {X : Type 0} (order : Order) (bytes : List ℕ) (e : Error) (input : Option (List ℕ)) (r : Result X Stop) → r ≡ Err (Refused e)
+    → RefusesObject order bytes e → IfSome input (λ object. bytes ≡ object)
     → IfErr r (λ stop. IfSome input (λ object. StopsPreparing order object stop))
 stops_preparing order bytes e None r is refused read = subst (λ r. IfErr r (λ stop. IfSome None (λ object. StopsPreparing order object stop))) (sym is) tt
 stops_preparing order bytes e (Some object) r is refused read =

@@ -1,5 +1,6 @@
 -- Numbers among the program's words.
-use Rattle.std.proofs.Common.{◌≡◌, inl, inr, ℕ, ◌*◌, ◌^◌, ◌<◌, ◌≤◌, ◌-◌, ◌==◌, Bool, true, false, cond, drop, take, Vec, slice_index, map, get_or, Global, List, [], ◌∷◌, ◌++◌, length, Option, Some, None, Result, Ok, Err, refl, sym, ap, ◌∙◌, subst, arith}
+use Rattle.std.proofs.Common.{◌≡◌, inl, inr, ℕ, ◌*◌, ◌^◌, ◌<◌, ◌≤◌, ◌-◌, ◌==◌, Bool, true, false, cond, refl, sym, ap, ◌∙◌, subst, arith}
+use Rattle.std.proofs.Common.{drop, take, Vec, slice_index, map, get_or, Global, List, [], ◌∷◌, ◌++◌, length, Option, Some, None, Result, Ok, Err}
 use Rattle.std.specs.Prelude.{codes, option_map, string_bytes}
 use Rattle.std.specs.declared.string.String.{String}
 use Rattle.std.proofs.lemmas.List.{take_rest}
@@ -66,19 +67,30 @@ split_same text a b f g (inr (inr (inr (s, x, none)))) (inr (inr (inl (t, y)))) 
 split_same text a b f g (inr (inr (inr (s, x, none)))) (inr (inr (inr (t, y, other)))) = (sym s ∙ t, x ∙ sym y)
 
 -- the rate of a text is the product of what it is split into
-pub rate_same : (text number : List ℕ) (factor : ℕ) (o : Option ℕ) → IsSplit text number factor → ((n : ℕ) → (o ≡ Some n → IsNumberOf 64 number n) × (IsNumberOf 64 number n → o ≡ Some n))
+pub rate_same : (text number : List ℕ) (factor : ℕ) (o : Option ℕ) → IsSplit text number factor
+    → ((n : ℕ) → (o ≡ Some n → IsNumberOf 64 number n) × (IsNumberOf 64 number n → o ≡ Some n))
     → (n : ℕ) → IsRate text n → (count : ℕ) × (o ≡ Some count) × (n ≡ count * factor)
 rate_same text number factor o split known n h =
     let same = split_same text h.number number h.factor factor h.split split in
     (h.count, (known h.count).1 (subst (λ t. IsNumberOf 64 t h.count) same.0 h.spelled), h.product ∙ ap (λ f. h.count * f) same.1)
 
 -- what a number and its letter make
-pub rate_found : (text number : List ℕ) (factor count rate : ℕ) → IsSplit text number factor → ((n : ℕ) → (wanted count ≡ Some n → IsNumberOf 64 number n) × (IsNumberOf 64 number n → wanted count ≡ Some n))
+pub rate_found : (text number : List ℕ) (factor count rate : ℕ) → IsSplit text number factor
+    → ((n : ℕ) → (wanted count ≡ Some n → IsNumberOf 64 number n) × (IsNumberOf 64 number n → wanted count ≡ Some n))
     → rate ≡ count * factor → rate < 2 ^ 64 → 0 < rate → (n : ℕ) → (wanted rate ≡ Some n → IsRate text n) × (IsRate text n → wanted rate ≡ Some n)
 rate_found text number factor count rate split known product fits some n = (
   λ e.
       let same : rate ≡ n = cc e in
-      subst (IsRate text) same (record { number = number; factor = factor; split = split; count = count; spelled = (known count).0 refl; product = product; some = some; fits = fits }),
+      subst (IsRate text) same (record {
+        number = number;
+        factor = factor;
+        split = split;
+        count = count;
+        spelled = (known count).0 refl;
+        product = product;
+        some = some;
+        fits = fits;
+      }),
   λ h.
       let (other, is, made) = rate_same text number factor (Some count) split known n h in
       let same : count ≡ other = cc is in
@@ -86,8 +98,10 @@ rate_found text number factor count rate split known product fits some n = (
 )
 
 -- there is no rate where there is no number, or where the product is 0 or too large
-pub rate_missed : (text number : List ℕ) (factor : ℕ) (o : Option ℕ) → IsSplit text number factor → ((n : ℕ) → (o ≡ Some n → IsNumberOf 64 number n) × (IsNumberOf 64 number n → o ≡ Some n))
-    → ((count : ℕ) → o ≡ Some count → 0 < count * factor → count * factor < 2 ^ 64 → ⊥) → (n : ℕ) → (unwanted ≡ Some n → IsRate text n) × (IsRate text n → unwanted ≡ Some n)
+pub rate_missed : (text number : List ℕ) (factor : ℕ) (o : Option ℕ) → IsSplit text number factor
+    → ((n : ℕ) → (o ≡ Some n → IsNumberOf 64 number n) × (IsNumberOf 64 number n → o ≡ Some n))
+    → ((count : ℕ) → o ≡ Some count → 0 < count * factor → count * factor < 2 ^ 64 → ⊥) → (n : ℕ)
+    → (unwanted ≡ Some n → IsRate text n) × (IsRate text n → unwanted ≡ Some n)
 rate_missed text number factor o split known never n = (
   λ e. absurd (cc e),
   λ h.
@@ -134,7 +148,8 @@ percent_is_none true (x ∷ xs) (some, all) = absurd (omega (arith, last_digit x
 
 -- a number ends in no percent sign
 pub no_percent : (bits n : ℕ) (text front : List ℕ) → IsNumberOf bits text n → text ≡ front ++ (37 ∷ []) → ⊥
-no_percent bits n text front h e = percent_is_none (slice_index (front ++ (37 ∷ [])) 0 == 43) front (subst (λ t. IsNumeral 10 (without_leading_plus t)) e h.digits)
+no_percent bits n text front h e = percent_is_none (slice_index (front ++ (37 ∷ [])) 0 == 43) front
+    (subst (λ t. IsNumeral 10 (without_leading_plus t)) e h.digits)
 
 -- `all` is no number
 pub all_is_none : (bits n : ℕ) → IsNumberOf bits (codes "all") n → ⊥
@@ -177,7 +192,8 @@ packets_not_all : (o : Option ℕ) → option_map Packets o ≡ Some All → ⊥
 packets_not_all None e = absurd (cc e)
 packets_not_all (Some m) e = absurd (cc e)
 
-pub asks_percent : (text number : List ℕ) (o : Option ℕ) → text ≡ number ++ codes "%" → Reads32 number o → (asked : Option Repair) → asked ≡ option_map Percent o → (r : Repair) → AsksRepair text asked r
+pub asks_percent : (text number : List ℕ) (o : Option ℕ) → text ≡ number ++ codes "%" → Reads32 number o → (asked : Option Repair)
+    → asked ≡ option_map Percent o → (r : Repair) → AsksRepair text asked r
 asks_percent text number None is reads asked e (Percent n) = (
   λ f. absurd (let none : option_map Percent None ≡ Some (Percent n) = sym e ∙ f in cc none),
   λ (other, g, h).
@@ -198,7 +214,8 @@ asks_percent text number (Some m) is reads asked e (Percent n) = (
 asks_percent text number o is reads asked e (Packets n) = (λ f. absurd (percent_alone o n (sym e ∙ f)), λ h. absurd (no_percent 32 n text number h is))
 asks_percent text number o is reads asked e All = (λ f. absurd (percent_not_all o (sym e ∙ f)), λ h. absurd (all_has_no_percent number (sym h ∙ is)))
 
-pub asks_packets : (text : List ℕ) (o : Option ℕ) → (text ≡ codes "all" → ⊥) → ((front : List ℕ) → text ≡ front ++ codes "%" → ⊥) → Reads32 text o → (asked : Option Repair) → asked ≡ option_map Packets o → (r : Repair) → AsksRepair text asked r
+pub asks_packets : (text : List ℕ) (o : Option ℕ) → (text ≡ codes "all" → ⊥) → ((front : List ℕ) → text ≡ front ++ codes "%" → ⊥) → Reads32 text o
+    → (asked : Option Repair) → asked ≡ option_map Packets o → (r : Repair) → AsksRepair text asked r
 asks_packets text o other none reads asked e (Percent n) = (λ f. absurd (packets_alone o n (sym e ∙ f)), λ (number, g, h). absurd (none number g))
 asks_packets text o other none reads asked e All = (λ f. absurd (packets_not_all o (sym e ∙ f)), λ h. absurd (other h))
 asks_packets text None other none reads asked e (Packets n) = (
@@ -235,7 +252,8 @@ pub record IsTested (P G Q : ℕ → Type 0) (f : ℕ → ℕ) : Type 0 where
   pub into : (x : ℕ) → P x → G x → Q (f x)
   pub out : (n : ℕ) → Q n → (x : ℕ) × P x × G x × (n ≡ f x)
 
-pub gives_tested : (P G Q : ℕ → Type 0) (f : ℕ → ℕ) → IsTested P G Q f → (o : Option ℕ) → Gives o P → (x : ℕ) → o ≡ Some x → G x → (r : ℕ) → r ≡ f x → Gives (wanted r) Q
+pub gives_tested : (P G Q : ℕ → Type 0) (f : ℕ → ℕ) → IsTested P G Q f → (o : Option ℕ) → Gives o P → (x : ℕ) → o ≡ Some x → G x → (r : ℕ) → r ≡ f x
+    → Gives (wanted r) Q
 gives_tested P G Q f t o known x is passed r made n = (
   λ e. let same : r ≡ n = cc e in subst Q (sym made ∙ same) (t.into x ((known x).0 is) passed),
   λ h.
@@ -268,7 +286,8 @@ abbrev pub Word : Type 0
 Word = String Global
 
 -- a list of two words
-pub two_words : (words : List Word) (a b : Word) → length words ≡ 2 → a ≡ get_or words 0 a → b ≡ get_or words 1 b → map string_bytes words ≡ string_bytes a ∷ string_bytes b ∷ []
+pub two_words : (words : List Word) (a b : Word) → length words ≡ 2 → a ≡ get_or words 0 a → b ≡ get_or words 1 b
+    → map string_bytes words ≡ string_bytes a ∷ string_bytes b ∷ []
 two_words [] a b long x y = absurd (omega (arith, long))
 two_words (p ∷ []) a b long x y = absurd (omega (arith, long))
 two_words (p ∷ q ∷ []) a b long x y = λ i. string_bytes (sym x i) ∷ string_bytes (sym y i) ∷ []
@@ -276,17 +295,21 @@ two_words (p ∷ q ∷ r ∷ words) a b long x y = absurd (omega (arith, long))
 
 -- the ids that are made of their parts
 abbrev pub AreIdsAt : Option Ids → Option ℕ → Option ℕ → Option ℕ → Type 0
-AreIdsAt asked first step rate = (ids : Ids) → (asked ≡ Some ids → (first ≡ Some ids.first) × (step ≡ Some ids.step) × (rate ≡ ids.rate)) × ((first ≡ Some ids.first) × (step ≡ Some ids.step) × (rate ≡ ids.rate) → asked ≡ Some ids)
+AreIdsAt asked first step rate = (ids : Ids) → (asked ≡ Some ids → (first ≡ Some ids.first) × (step ≡ Some ids.step) × (rate ≡ ids.rate)) ×
+    ((first ≡ Some ids.first) × (step ≡ Some ids.step) × (rate ≡ ids.rate) → asked ≡ Some ids)
 
 pub asks_two : (words : List (List ℕ)) (f s : List ℕ) → words ≡ f ∷ s ∷ [] → (first step : Option ℕ) → Gives first (IsId f) → Gives step (IsStep s)
-    → (asked : Option Ids) → AreIdsAt asked first step unwanted → (ids : Ids) → (asked ≡ Some ids → AsksForIds ids words) × (AsksForIds ids words → asked ≡ Some ids)
+    → (asked : Option Ids) → AreIdsAt asked first step unwanted → (ids : Ids)
+    → (asked ≡ Some ids → AsksForIds ids words) × (AsksForIds ids words → asked ≡ Some ids)
 asks_two words f s is first step known stepped asked made ids = (
   λ e. let (a, b, d) = (made ids).0 e in subst (AsksForIds ids) (sym is) ((known ids.first).0 a, (stepped ids.step).0 b, sym d),
   λ h. let (a, b, d) : AsksForIds ids (f ∷ s ∷ []) = subst (AsksForIds ids) is h in (made ids).1 ((known ids.first).1 a, (stepped ids.step).1 b, sym d),
 )
 
-pub asks_three : (words : List (List ℕ)) (f s r : List ℕ) → words ≡ f ∷ s ∷ r ∷ [] → (first step rate : Option ℕ) (n : ℕ) → Gives first (IsId f) → Gives step (IsStep s) → Gives rate (IsRate r) → rate ≡ Some n
-    → (asked : Option Ids) → AreIdsAt asked first step (wanted n) → (ids : Ids) → (asked ≡ Some ids → AsksForIds ids words) × (AsksForIds ids words → asked ≡ Some ids)
+pub asks_three : (words : List (List ℕ)) (f s r : List ℕ) → words ≡ f ∷ s ∷ r ∷ [] → (first step rate : Option ℕ) (n : ℕ) → Gives first (IsId f)
+    → Gives step (IsStep s) → Gives rate (IsRate r) → rate ≡ Some n
+    → (asked : Option Ids) → AreIdsAt asked first step (wanted n) → (ids : Ids)
+    → (asked ≡ Some ids → AsksForIds ids words) × (AsksForIds ids words → asked ≡ Some ids)
 asks_three words f s r is first step rate n known stepped rated some asked made ids = (
   λ e. let (a, b, d) = (made ids).0 e in subst (AsksForIds ids) (sym is) ((known ids.first).0 a, (stepped ids.step).0 b, (n, sym d, (rated n).0 some)),
   λ h.
@@ -311,25 +334,34 @@ first_of : (words : List Word) (a : Word) → 1 ≤ length words → a ≡ get_o
 first_of [] a long x = absurd (omega (arith, long))
 first_of (p ∷ words) a long x = λ i. string_bytes (sym x i) ∷ map string_bytes words
 
-pub word_first : (words : List Word) (a : Word) → 1 ≤ length words → a ≡ get_or words 0 a → map string_bytes words ≡ string_bytes a ∷ map string_bytes (behind 1 words)
+pub word_first : (words : List Word) (a : Word) → 1 ≤ length words → a ≡ get_or words 0 a
+    → map string_bytes words ≡ string_bytes a ∷ map string_bytes (behind 1 words)
 word_first words a long x = first_of words a long x ∙ ap (λ w. string_bytes a ∷ map string_bytes w) (sym (take_rest words 1))
 
-first_two_of : (words : List Word) (a b : Word) → 2 ≤ length words → a ≡ get_or words 0 a → b ≡ get_or words 1 b → map string_bytes words ≡ string_bytes a ∷ string_bytes b ∷ map string_bytes (drop 2 words)
+first_two_of : (words : List Word) (a b : Word) → 2 ≤ length words → a ≡ get_or words 0 a → b ≡ get_or words 1 b
+    → map string_bytes words ≡ string_bytes a ∷ string_bytes b ∷ map string_bytes (drop 2 words)
 first_two_of [] a b long x y = absurd (omega (arith, long))
 first_two_of (p ∷ []) a b long x y = absurd (omega (arith, long))
 first_two_of (p ∷ q ∷ words) a b long x y = λ i. string_bytes (sym x i) ∷ string_bytes (sym y i) ∷ map string_bytes words
 
-pub two_first : (words : List Word) (a b : Word) → 2 ≤ length words → a ≡ get_or words 0 a → b ≡ get_or words 1 b → map string_bytes words ≡ string_bytes a ∷ string_bytes b ∷ map string_bytes (behind 2 words)
+pub two_first : (words : List Word) (a b : Word) → 2 ≤ length words → a ≡ get_or words 0 a → b ≡ get_or words 1 b
+    → map string_bytes words ≡ string_bytes a ∷ string_bytes b ∷ map string_bytes (behind 2 words)
 two_first words a b long x y = first_two_of words a b long x y ∙ ap (λ w. string_bytes a ∷ string_bytes b ∷ map string_bytes w) (sym (take_rest words 2))
 
 -- the order that is made of its parts
-pub asks_order : (words : List (List ℕ)) (s r : List ℕ) (behind : List (List ℕ)) → words ≡ s ∷ r ∷ behind → (size : Option ℕ) (repair : Option Repair) (ids : Option Ids) → Gives size (IsSize s)
+abbrev pub IsOrderAt : Option Order → Option ℕ → Option Repair → Option Ids → Type 0
+IsOrderAt asked size repair ids = (o : Order) → (asked ≡ Some o → (size ≡ Some o.symbol_size) × (repair ≡ Some o.repair) × (ids ≡ Some o.ids))
+    × ((size ≡ Some o.symbol_size) × (repair ≡ Some o.repair) × (ids ≡ Some o.ids) → asked ≡ Some o)
+
+pub asks_order : (words : List (List ℕ)) (s r : List ℕ) (behind : List (List ℕ)) → words ≡ s ∷ r ∷ behind
+    → (size : Option ℕ) (repair : Option Repair) (ids : Option Ids) → Gives size (IsSize s)
     → ((x : Repair) → AsksRepair r repair x) → ((x : Ids) → (ids ≡ Some x → AsksForIds x behind) × (AsksForIds x behind → ids ≡ Some x))
-    → (asked : Option Order) → ((o : Order) → (asked ≡ Some o → (size ≡ Some o.symbol_size) × (repair ≡ Some o.repair) × (ids ≡ Some o.ids)) × ((size ≡ Some o.symbol_size) × (repair ≡ Some o.repair) × (ids ≡ Some o.ids) → asked ≡ Some o))
+    → (asked : Option Order) → IsOrderAt asked size repair ids
     → (o : Order) → (asked ≡ Some o → AsksForOrder o words) × (AsksForOrder o words → asked ≡ Some o)
 asks_order words s r behind is size repair ids sized repaired known asked made o = (
   λ e. let (a, b, d) = (made o).0 e in subst (AsksForOrder o) (sym is) ((sized o.symbol_size).0 a, (repaired o.repair).0 b, (known o.ids).0 d),
-  λ h. let (a, b, d) : AsksForOrder o (s ∷ r ∷ behind) = subst (AsksForOrder o) is h in (made o).1 ((sized o.symbol_size).1 a, (repaired o.repair).1 b, (known o.ids).1 d),
+  λ h. let (a, b, d) : AsksForOrder o (s ∷ r ∷ behind) = subst (AsksForOrder o) is h in (made o).1
+      ((sized o.symbol_size).1 a, (repaired o.repair).1 b, (known o.ids).1 d),
 )
 
 cons_head : {X : Type 0} {x y : X} {xs ys : List X} → x ∷ xs ≡ y ∷ ys → x ≡ y
@@ -345,10 +377,12 @@ not_to_receive words behind is name (other, e, h) = let same : codes "send" ≡ 
 pub not_to_send : (words behind : List (List ℕ)) → words ≡ codes "receive" ∷ behind → (o : Order) → AsksToSend o words → ⊥
 not_to_send words behind is o (other, e, h) = let same : codes "receive" ≡ codes "send" = cons_head (sym is ∙ e) in absurd (omega (arith, ap length same))
 
-pub asks_no_order : (words behind : List (List ℕ)) → words ≡ codes "send" ∷ behind → (asked : Option Order) → asked ≡ None → ((o : Order) → (asked ≡ Some o → AsksForOrder o behind) × (AsksForOrder o behind → asked ≡ Some o)) → (o : Order) → AsksToSend o words → ⊥
+pub asks_no_order : (words behind : List (List ℕ)) → words ≡ codes "send" ∷ behind → (asked : Option Order) → asked ≡ None
+    → ((o : Order) → (asked ≡ Some o → AsksForOrder o behind) × (AsksForOrder o behind → asked ≡ Some o)) → (o : Order) → AsksToSend o words → ⊥
 asks_no_order words behind is asked none known o (other, e, h) = never_none asked o none ((known o).1 (subst (AsksForOrder o) (cons_tail (sym e ∙ is)) h))
 
-pub asks_no_name : (words behind : List (List ℕ)) → words ≡ codes "receive" ∷ behind → (asked : Option (Vec ℕ Global)) → asked ≡ None → MatchOption asked ((name : List ℕ) → AsksForName name behind → ⊥) (λ v. AsksForName v.items behind) → (name : List ℕ) → AsksToReceive name words → ⊥
+pub asks_no_name : (words behind : List (List ℕ)) → words ≡ codes "receive" ∷ behind → (asked : Option (Vec ℕ Global)) → asked ≡ None
+    → MatchOption asked ((name : List ℕ) → AsksForName name behind → ⊥) (λ v. AsksForName v.items behind) → (name : List ℕ) → AsksToReceive name words → ⊥
 asks_no_name words behind is asked none known name (other, e, h) = none_case _ asked known none name (subst (AsksForName name) (cons_tail (sym e ∙ is)) h)
 
 -- each order has a step that isn't 0

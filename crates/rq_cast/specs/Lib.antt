@@ -3,6 +3,7 @@ pub mod Endings
 pub mod Ids
 pub mod Input
 pub mod Missing
+pub mod Output
 pub mod Preparing
 pub mod Reading
 pub mod Received

@@ -12,6 +12,8 @@ use Rattle.rq_cells.specs.declared.head.Head.{Head}
 use Rattle.rq_cells.specs.Cells.{name_of, cell_bytes}
 use Rattle.rq_cast.specs.declared.series.Series.{Series}
 use Rattle.rq_cast.specs.declared.sending.Sender.{Sender}
+use Rattle.rq_cast.specs.declared.output.Output.{Output}
+use Rattle.rq_cast.specs.Output.{CountsLost}
 
 -- ---- which cells
 
@@ -77,12 +79,12 @@ abbrev pub StopsBehind : Sending → ℕ → List ℕ → Stop → Type 0
 StopsBehind s n bytes Fault = (bytes ≡ []) ⊎ IsBegun s n bytes
 StopsBehind s n bytes (Refused e) = (e ≡ OutOfMemory) × (bytes ≡ [])
 
--- Some of the first cells are written or lost, where so many calls had failed before and after: one for each that was lost, and the one that ended it.
-pub record StopsSending (s : Sending) (before after : ℕ) (there then : Option (List ℕ)) (stop : Stop) : Type 0 where
+-- Some of the first cells are written or lost: one for each call that was refused, and one call beside these failed where that ended it.
+pub record StopsSending {W : Type 0} (s : Sending) (old new : Output W) (there then : Option (List ℕ)) (stop : Stop) : Type 0 where
   pub number : ℕ
   pub within : number ≤ cell_count s
   pub lost : ℕ
   pub behind : List ℕ
   pub sends : SendsFirst s number lost behind there then
   pub stopped : StopsBehind s number behind stop
-  pub counts : after ≡ before + lost + failed_calls {X = ℕ} (Err stop)
+  pub counts : CountsLost old new lost (failed_calls {X = ℕ} (Err stop))

@@ -13,3 +13,9 @@ abbrev pub failed_writes : Result Bool Stop → ℕ
 failed_writes (Ok true) = 0
 failed_writes (Ok false) = 1
 failed_writes (Err stop) = 1
+
+-- how many cells are lost
+abbrev pub lost_cells : Result Bool Stop → ℕ
+lost_cells (Ok true) = 0
+lost_cells (Ok false) = 1
+lost_cells (Err stop) = 0

@@ -1,16 +1,18 @@
 //! How an object's cells are sent.
-ghost use Rattle.std.specs.Prelude.{◌≡◌, ℕ, ◌+◌, ◌-◌, ◌^◌, ◌<◌, OnOk, OnErr, IfOk, IfErr, Ok, [], take, length};
+ghost use Rattle.std.specs.Prelude.{◌≡◌, ℕ, ◌+◌, ◌-◌, ◌^◌, ◌<◌, OnOk, OnErr, IfOk, IfErr, Ok, [], take, length, true};
 ghost use Rattle.std.specs.Io.KnownBytes.{Appends};
-ghost use Rattle.rq_streams.specs.Counted.{failed_count, inner};
-ghost use Rattle.rq_cast.specs.Writing.{WritesCell, failed_writes};
+ghost use Rattle.rq_streams.specs.Counted.{failed_count};
+ghost use Rattle.rq_cast.specs.Output.{counting, sink, refused_count, flushed};
+ghost use Rattle.rq_cast.specs.Writing.{WritesCell, failed_writes, lost_cells};
 
+use crate::output::Output;
 use crate::series::{Repair, Series};
 use raptorq::base::PayloadId;
 use raptorq::error::Error;
 use raptorq::systematic_constants::SystematicTable;
 use raptorq::{Encoder, ObjectTransmissionInformation};
 use rq_cells::{Head, fill_cell, name_of};
-use rq_streams::{Counted, Stop, flush, write_bytes};
+use rq_streams::Stop;
 use std::alloc::Global;
 use std::io::{ErrorKind, Write};
 
@@ -22,19 +24,20 @@ pub trait Pace {
 
 // Writes a cell, by one call so that a datagram is one, and of a short write the rest behind it.
 // Answers whether it is written: a datagram that nobody listens for is lost.
-fn write_cell<W: Write>(writer: &mut Counted<W>, cell: &[u8]) -> Result<bool, Stop>
+fn write_cell<W: Write>(output: &mut Output<W>, cell: &[u8]) -> Result<bool, Stop>
     requires some { 0 < length cell.now }
-    requires room { failed_count writer.old < 2 ^ 64 - 1 }
-    ensures writes { IfOk result (WritesCell (W.contents (inner writer.old)) (W.contents (inner writer.new)) cell.now) }
-    ensures counts { failed_count writer.new ≡ failed_count writer.old + failed_writes result }
+    requires room { failed_count (counting output.old) < 2 ^ 64 - 1 }
+    ensures writes { IfOk result (WritesCell (W.contents (sink output.old)) (W.contents (sink output.new)) cell.now) }
+    ensures counts { failed_count (counting output.new) ≡ failed_count (counting output.old) + failed_writes result }
+    ensures refused { refused_count output.new ≡ refused_count output.old + lost_cells result }
     ensures stops { IfErr result (λ stop. stop ≡ Stop.Fault) }
     ensures beginning { OnErr result ((n : ℕ)
-        × Appends (W.contents (inner writer.old)) (W.contents (inner writer.new)) (take n cell.now)) }
+        × Appends (W.contents (sink output.old)) (W.contents (sink output.new)) (take n cell.now)) }
 {
-    match writer.write(cell) {
+    match output.begin(cell) {
         Ok(0) => Err(Stop::Fault),
         Ok(n) => {
-            write_bytes(writer, &cell[n..])?;
+            output.write_rest(&cell[n..])?;
             Ok(true)
         }
         Err(error) if error.kind() == ErrorKind::ConnectionRefused => Ok(false),
@@ -59,6 +62,7 @@ impl Sender {
     ghost use Rattle.rq_cells.specs.Cells.{head_bytes};
     ghost use Rattle.rq_cast.specs.Ids.{id_end};
     ghost use Rattle.rq_cast.specs.Sent.{IsSeries, sending_of, object_head, cell_count, IsSentCell, SendsFirst, StopsSending};
+    ghost use Rattle.rq_cast.specs.Output.{CountsLost};
 
     /// The sender of an object, in bytes. It sends the symbols whose ids are `first`, `first + step`,
     /// .. up to the last source symbol of the largest block, and to so many repair symbols behind it.
@@ -135,15 +139,16 @@ impl Sender {
     pub fn send<W: Write, P: Pace>(
         &self,
         alloc: Global,
-        writer: &mut Counted<W>,
+        output: &mut Output<W>,
         pace: &mut P,
     ) -> Result<u64, Stop>
-        requires { failed_count writer.old < 2 ^ 64 - 2 ^ 32 }
+        requires { failed_count (counting output.old) < 2 ^ 64 - 2 ^ 32 }
         ensures sends { IfOk result (λ lost. SendsFirst (sending_of self.now) (cell_count (sending_of self.now)) lost []
-            (W.contents (inner writer.old)) (W.contents (inner writer.new))) }
-        ensures counts { IfOk result (λ lost. failed_count writer.new ≡ failed_count writer.old + lost) }
-        ensures stops { IfErr result (StopsSending (sending_of self.now) (failed_count writer.old) (failed_count writer.new)
-            (W.contents (inner writer.old)) (W.contents (inner writer.new))) }
+            (W.contents (sink output.old)) (W.contents (sink output.new))) }
+        ensures counts { IfOk result (λ lost. CountsLost output.old output.new lost 0) }
+        ensures flushes { OnOk result (flushed output.new ≡ true) }
+        ensures stops { IfErr result (StopsSending (sending_of self.now) output.old output.new
+            (W.contents (sink output.old)) (W.contents (sink output.new))) }
     {
         let head = self.head.serialize(alloc)?;
         let mut cell = Vec::new(alloc);
@@ -151,11 +156,11 @@ impl Sender {
         for number in 0..self.cells() {
             self.fill(head.as_slice(), number, &mut cell)?;
             pace.wait(cell.len());
-            if !write_cell(writer, cell.as_slice())? {
+            if !write_cell(output, cell.as_slice())? {
                 lost += 1;
             }
         }
-        flush(writer)?;
+        output.flush()?;
         Ok(lost)
     }
 }

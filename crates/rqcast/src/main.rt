@@ -13,7 +13,9 @@ mod watch;
 
 use crate::pace::Pacer;
 use crate::watch::Watch;
-use rq_cast::{Input, Job, Order, ProgramEnd, announce, job, read_sender, report, run_receive};
+use rq_cast::{
+    Input, Job, Order, Output, ProgramEnd, announce, job, read_sender, report, run_receive,
+};
 use rq_rows::full_table;
 use rq_streams::{Counted, Stop};
 use std::alloc::AllocError;
@@ -56,8 +58,8 @@ fn send(rt: &HostRuntime, order: Order) -> Result<ProgramEnd, Stop>
     let mut reader = Counted::new(rt.stdin());
     let sender = read_sender(rt.alloc(), &order, &mut reader)?;
     let _ = announce(&sender, &mut rt.stderr());
-    let mut writer = Counted::new(rt.stdout());
-    let lost = sender.send(rt.alloc(), &mut writer, &mut Pacer::new(rt, order.ids.rate))?;
+    let mut output = Output::new(Counted::new(rt.stdout()));
+    let lost = sender.send(rt.alloc(), &mut output, &mut Pacer::new(rt, order.ids.rate))?;
     Ok(ProgramEnd::Sent(lost))
 }
 

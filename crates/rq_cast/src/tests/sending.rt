@@ -1,6 +1,6 @@
 //! What a sender writes.
 use super::{FIRST, OBJECT, SECOND, joined};
-use crate::{Pace, Repair, Sender};
+use crate::{Output, Pace, Repair, Sender};
 use raptorq::ObjectTransmissionInformation;
 use raptorq::error::Error;
 use raptorq::systematic_constants::SystematicTable;
@@ -75,9 +75,9 @@ type Sent = (Result<u64, Stop>, Vec<u8>, usize);
 fn sent(alloc: Global, sender: &Sender, link: Link) -> Sent {
     let mut link = link;
     let mut waits = Waits { bytes: 0 };
-    let mut writer = Counted::new(&mut link);
-    let ended = sender.send(alloc, &mut writer, &mut waits);
-    drop(writer);
+    let mut output = Output::new(Counted::new(&mut link));
+    let ended = sender.send(alloc, &mut output, &mut waits);
+    drop(output);
     (ended, link.bytes, waits.bytes)
 }
 

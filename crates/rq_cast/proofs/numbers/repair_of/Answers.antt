@@ -12,25 +12,29 @@ returns-then-eq c = asks_all c.args.text.now (text_is c.eq.result c.args.text.no
 pub returns-in_err-short_number-in-Some : goal.returns-in_err-short_number-in-Some
 returns-in_err-short_number-in-Some c =
     let split = strip_suffix_char 37 c.args.text.now c.strip_suffix.result c.strip_suffix.ensures.cases (omega arith) in
-    asks_percent c.args.text.now c.in-Some.number.now c.short_number.result (some_case _ _ c.strip_suffix.result c.in-Some.number split c.in-Some.is) c.short_number.ensures c.from_residual.result
+    asks_percent c.args.text.now c.in-Some.number.now c.short_number.result (some_case _ _ c.strip_suffix.result c.in-Some.number split c.in-Some.is)
+    c.short_number.ensures c.from_residual.result
     (c.from_residual.ensures ∙ sym (ap (option_map Percent) (c.in_err-short_number-in-Some.was)))
 
 pub returns-in_err-short_number-in-None : goal.returns-in_err-short_number-in-None
 returns-in_err-short_number-in-None c =
     let split = strip_suffix_char 37 c.args.text.now c.strip_suffix.result c.strip_suffix.ensures.cases (omega arith) in
-    asks_packets c.args.text.now c.short_number-in-None.result (text_isnt c.eq.result c.args.text.now (codes "all") c.eq.ensures c.if-eq.false) (none_case _ c.strip_suffix.result split c.in-None.is)
+    asks_packets c.args.text.now c.short_number-in-None.result (text_isnt c.eq.result c.args.text.now (codes "all") c.eq.ensures c.if-eq.false)
+    (none_case _ c.strip_suffix.result split c.in-None.is)
     c.short_number-in-None.ensures c.from_residual-in_err-short_number-in-None.result
     (c.from_residual-in_err-short_number-in-None.ensures ∙ sym (ap (option_map Packets) (c.in_err-short_number-in-None.was)))
 
 pub returns-in_ok-short_number-in-Some : goal.returns-in_ok-short_number-in-Some
 returns-in_ok-short_number-in-Some c =
     let split = strip_suffix_char 37 c.args.text.now c.strip_suffix.result c.strip_suffix.ensures.cases (omega arith) in
-    asks_percent c.args.text.now c.in-Some.number.now c.short_number.result (some_case _ _ c.strip_suffix.result c.in-Some.number split c.in-Some.is) c.short_number.ensures _
+    asks_percent c.args.text.now c.in-Some.number.now c.short_number.result (some_case _ _ c.strip_suffix.result c.in-Some.number split c.in-Some.is)
+    c.short_number.ensures _
     (sym (ap (option_map Percent) (c.in_ok-short_number-in-Some.was)))
 
 pub returns-in_ok-short_number-in-None : goal.returns-in_ok-short_number-in-None
 returns-in_ok-short_number-in-None c =
     let split = strip_suffix_char 37 c.args.text.now c.strip_suffix.result c.strip_suffix.ensures.cases (omega arith) in
-    asks_packets c.args.text.now c.short_number-in-None.result (text_isnt c.eq.result c.args.text.now (codes "all") c.eq.ensures c.if-eq.false) (none_case _ c.strip_suffix.result split c.in-None.is)
+    asks_packets c.args.text.now c.short_number-in-None.result (text_isnt c.eq.result c.args.text.now (codes "all") c.eq.ensures c.if-eq.false)
+    (none_case _ c.strip_suffix.result split c.in-None.is)
     c.short_number-in-None.ensures _
     (sym (ap (option_map Packets) (c.in_ok-short_number-in-None.was)))

@@ -1,9 +1,9 @@
 use Rattle.std.proofs.Common.{◌+◌, ◌≤◌, ◌<◌, [], sym, ap, subst, arith, Ok, Err}
 use Rattle.std.proofs.lemmas.Result.{err_from_is_err_and}
 use Rattle.std.proofs.KnownBytes.{Keeps-refl}
-use Rattle.rq_streams.specs.Counted.{failed_count, inner}
 use Rattle.rq_streams.specs.Ends.{failed_calls}
-use Rattle.rq_cast.specs.Writing.{WritesCell, failed_writes}
+use Rattle.rq_cast.specs.Output.{sink, CountsLost}
+use Rattle.rq_cast.specs.Writing.{WritesCell, failed_writes, lost_cells}
 use Rattle.rq_cast.specs.Sent.{sending_of, cell_count, IsSentCell, SendsFirst, StopsSending}
 use Rattle.rq_cast.proofs.SentCells.{sends_none, sends_more, sends_but_one, stops_within, stops_behind, stops_wanting}
 use Rattle.rq_cast.proofs.sending.Sender.send.Goals as goal
@@ -12,58 +12,74 @@ use Rattle.rq_cast.proofs.sending.Sender.send.Goals.{then-not-branch, else-not-b
 pub returns-in_err-head-clause-stops : goal.returns-in_err-head-clause-stops
 returns-in_err-head-clause-stops g c =
     let s = sending_of c.args.self.now in
-    let there = g.W.Write.contents (inner c.args.writer.now) in
-    let failed = failed_count c.args.writer.now in
+    let out = c.args.output.now in
+    let there = g.W.Write.contents (sink out) in
     let p = err_from_is_err_and c.from_residual.result c.from_residual.ensures.1 in
-    rw (p.1, p.2) (stops_wanting s 0 0 there there there (sends_none s there) failed failed c.in_err-head.field-0.0 c.in_err-head.ensures (omega arith) (Keeps-refl there) (omega arith))
+    let counts : CountsLost out out 0 0 = record { refused = omega arith; failed = omega arith } in
+    rw (p.1, p.2) (stops_wanting s 0 0 there there there (sends_none s there) out out c.in_err-head.field-0.0 c.in_err-head.ensures (omega arith)
+    (Keeps-refl there) counts)
 
 pub returns-in_err-fill-clause-stops : goal.returns-in_err-fill-clause-stops
 returns-in_err-fill-clause-stops g c =
     let s = sending_of c.args.self.now in
-    let there = g.W.Write.contents (inner c.args.writer.now) in
-    let mid = g.W.Write.contents (inner c.loop-number.writer) in
+    let mid = g.W.Write.contents (sink c.loop-number.output) in
     let kept = c.loop-number.invariant in
     let within : c.loop-number.number ≤ cell_count s = omega (arith, c.loop-number.auto.number-end, c.cells-number-end.ensures.value) in
     let p = err_from_is_err_and c.from_residual-in_err-fill.result c.from_residual-in_err-fill.ensures.1 in
-    rw (p.1, p.2) (stops_wanting s c.loop-number.number c.loop-number.lost there mid mid kept.sends
-    (failed_count c.args.writer.now) (failed_count c.loop-number.writer) c.in_err-fill.field-0.0 c.in_err-fill.ensures.memory within (Keeps-refl mid) (omega (arith, kept.counts)))
+    rw (p.1, p.2) (stops_wanting s c.loop-number.number c.loop-number.lost (g.W.Write.contents (sink c.args.output.now)) mid mid kept.sends
+    c.args.output.now c.loop-number.output c.in_err-fill.field-0.0 c.in_err-fill.ensures.memory within (Keeps-refl mid) kept.counts)
 
 pub returns-in_err-write_cell-clause-stops : goal.returns-in_err-write_cell-clause-stops
 returns-in_err-write_cell-clause-stops g c =
     let s = sending_of c.args.self.now in
-    let there = g.W.Write.contents (inner c.args.writer.now) in
-    let then = g.W.Write.contents (inner c.write_cell.new.writer) in
+    let old = c.args.output.now in
+    let new = c.write_cell.new.output in
+    let there = g.W.Write.contents (sink old) in
+    let then = g.W.Write.contents (sink new) in
     let kept = c.loop-number.invariant in
     let bytes = c.as_slice-in-loop-number.result.now in
-    let cell : IsSentCell s c.loop-number.number bytes = subst (IsSentCell s c.loop-number.number) (sym c.as_slice-in-loop-number.ensures.value) c.in_ok-fill.ensures.cell in
+    let cell : IsSentCell s c.loop-number.number bytes = subst (IsSentCell s c.loop-number.number) (sym c.as_slice-in-loop-number.ensures.value)
+    c.in_ok-fill.ensures.cell in
     let below : c.loop-number.number < cell_count s = omega (arith, c.loop-number-test.true, c.cells-number-end.ensures.value) in
     let stopped = c.in_err-write_cell.ensures.beginning in
     let p = err_from_is_err_and c.from_residual-in_err-write_cell.result c.from_residual-in_err-write_cell.ensures.1 in
-    rw (p.1, p.2) (subst (StopsSending s (failed_count c.args.writer.now) (failed_count c.write_cell.new.writer) there then) (sym c.in_err-write_cell.ensures.stops)
-    (stops_within s c.loop-number.number c.loop-number.lost there (g.W.Write.contents (inner c.loop-number.writer)) then kept.sends
-    (failed_count c.args.writer.now) (failed_count c.write_cell.new.writer) stopped.0 bytes below cell stopped.1 (omega (arith, kept.counts, c.in_err-write_cell.ensures.counts))))
+    let counts : CountsLost old new c.loop-number.lost 1 = record {
+      refused = omega (arith, kept.counts.refused, c.in_err-write_cell.ensures.refused);
+      failed = omega (arith, kept.counts.failed, c.in_err-write_cell.ensures.counts);
+    } in
+    rw (p.1, p.2) (subst (StopsSending s old new there then) (sym c.in_err-write_cell.ensures.stops)
+    (stops_within s c.loop-number.number c.loop-number.lost there (g.W.Write.contents (sink c.loop-number.output)) then kept.sends
+    old new stopped.0 bytes below cell stopped.1 counts))
 
 pub loop-number-preserved : goal.loop-number-preserved
 loop-number-preserved g c =
     let s = sending_of c.args.self.now in
     let n = c.loop-number.number in
     let lost = c.loop-number.lost in
-    let there = g.W.Write.contents (inner c.args.writer.now) in
-    let mid = g.W.Write.contents (inner c.loop-number.writer) in
-    let then = g.W.Write.contents (inner c.write_cell.new.writer) in
+    let there = g.W.Write.contents (sink c.args.output.now) in
+    let mid = g.W.Write.contents (sink c.loop-number.output) in
+    let then = g.W.Write.contents (sink c.write_cell.new.output) in
     let kept = c.loop-number.invariant in
     let bytes = c.as_slice-in-loop-number.result.now in
     let cell : IsSentCell s n bytes = subst (IsSentCell s n) (sym c.as_slice-in-loop-number.ensures.value) c.in_ok-fill.ensures.cell in
-    let writes = c.in_ok-write_cell.ensures.writes in
+    let done = c.in_ok-write_cell.ensures in
     elim c.if-not-branch.branch [
       | then-not-branch w ↦ record {
-        sends = subst (λ k. SendsFirst s (n + 1) k [] there then) (sym w.lost-is) (sends_but_one s n lost there mid then kept.sends (subst (WritesCell mid then bytes) w.if-not-branch.true writes));
-        counts = omega (arith, kept.counts, w.lost-is, c.in_ok-write_cell.ensures.counts, ap (λ b. failed_writes (Ok b)) w.if-not-branch.true);
+        sends = subst (λ k. SendsFirst s (n + 1) k [] there then) (sym w.lost-is) (sends_but_one s n lost there mid then kept.sends
+            (subst (WritesCell mid then bytes) w.if-not-branch.true done.writes));
+        counts = record {
+          refused = omega (arith, kept.counts.refused, w.lost-is, done.refused, ap (λ b. lost_cells (Ok b)) w.if-not-branch.true);
+          failed = omega (arith, kept.counts.failed, w.lost-is, done.counts, ap (λ b. failed_writes (Ok b)) w.if-not-branch.true);
+        };
         few = omega (arith, kept.few, w.lost-is);
       }
       | else-not-branch w ↦ record {
-        sends = subst (λ k. SendsFirst s (n + 1) k [] there then) (sym w.lost-is) (sends_more s n lost there mid then kept.sends bytes cell (subst (WritesCell mid then bytes) w.if-not-branch.false writes));
-        counts = omega (arith, kept.counts, w.lost-is, c.in_ok-write_cell.ensures.counts, ap (λ b. failed_writes (Ok b)) w.if-not-branch.false);
+        sends = subst (λ k. SendsFirst s (n + 1) k [] there then) (sym w.lost-is) (sends_more s n lost there mid then kept.sends bytes cell
+            (subst (WritesCell mid then bytes) w.if-not-branch.false done.writes));
+        counts = record {
+          refused = omega (arith, kept.counts.refused, w.lost-is, done.refused, ap (λ b. lost_cells (Ok b)) w.if-not-branch.false);
+          failed = omega (arith, kept.counts.failed, w.lost-is, done.counts, ap (λ b. failed_writes (Ok b)) w.if-not-branch.false);
+        };
         few = omega (arith, kept.few, w.lost-is);
       }
     ]
@@ -71,11 +87,18 @@ loop-number-preserved g c =
 pub returns-in_err-flush-clause-stops : goal.returns-in_err-flush-clause-stops
 returns-in_err-flush-clause-stops g c =
     let s = sending_of c.args.self.now in
-    let there = g.W.Write.contents (inner c.args.writer.now) in
-    let then = g.W.Write.contents (inner c.flush.new.writer) in
+    let old = c.args.output.now in
+    let new = c.flush.new.self in
+    let there = g.W.Write.contents (sink old) in
+    let then = g.W.Write.contents (sink new) in
     let kept = c.loop-number.invariant in
     let within : c.loop-number.number ≤ cell_count s = omega (arith, c.loop-number.auto.number-end, c.cells-number-end.ensures.value) in
     let p = err_from_is_err_and c.from_residual-in_err-flush.result c.from_residual-in_err-flush.ensures.1 in
-    rw (p.1, p.2) (subst (StopsSending s (failed_count c.args.writer.now) (failed_count c.flush.new.writer) there then) (sym c.in_err-flush.ensures.err)
-    (stops_behind s c.loop-number.number c.loop-number.lost there (g.W.Write.contents (inner c.loop-number.writer)) then kept.sends
-    (failed_count c.args.writer.now) (failed_count c.flush.new.writer) within c.in_err-flush.ensures.bytes (omega (arith, kept.counts, c.in_err-flush.ensures.counts, ap (λ e. failed_calls {X = Unit {0}} (Err e)) c.in_err-flush.ensures.err))))
+    let failed = c.in_err-flush.ensures in
+    let counts : CountsLost old new c.loop-number.lost 1 = record {
+      refused = omega (arith, kept.counts.refused, failed.refused);
+      failed = omega (arith, kept.counts.failed, failed.counts, ap (λ e. failed_calls {X = Unit {0}} (Err e)) failed.err);
+    } in
+    rw (p.1, p.2) (subst (StopsSending s old new there then) (sym failed.err)
+    (stops_behind s c.loop-number.number c.loop-number.lost there (g.W.Write.contents (sink c.loop-number.output)) then kept.sends
+    old new within failed.bytes counts))

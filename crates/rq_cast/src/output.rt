@@ -1,0 +1,90 @@
+//! A writer that knows which of its calls failed since nobody listens, and whether it is flushed.
+ghost use Rattle.std.specs.Prelude.{◌≡◌, ℕ, ◌+◌, ◌-◌, ◌^◌, ◌<◌, ◌≤◌, OnOk, OnErr, IfErr, take, true, false};
+ghost use Rattle.std.specs.Io.{WritesAtMost};
+ghost use Rattle.std.specs.Io.KnownBytes.{Appends, Keeps, WriteAppends};
+ghost use Rattle.rq_streams.specs.Counted.{failed_count, CountsWrite};
+ghost use Rattle.rq_streams.specs.Ends.{failed_calls};
+
+use rq_streams::{Counted, Stop, flush, write_bytes};
+use std::io;
+use std::io::{ErrorKind, Write};
+
+/// A writer that counts its failed calls, and apart those that should have begun a cell and failed with
+/// [`ErrorKind::ConnectionRefused`], as datagrams do that nobody listens for.
+#[derive(Drop)]
+pub struct Output<W> {
+    writer: Counted<W>,
+    refused: u64,
+    is_flushed: bool,
+    pub ghost failed: { refused ≤ failed_count writer },
+}
+
+impl<W> Output<W> {
+    ghost use Rattle.rq_cast.specs.Output.{counting, refused_count};
+
+    /// Writes to this writer from now on.
+    pub fn new(writer: Counted<W>) -> Output<W>
+        ensures writer { counting result ≡ writer }
+        ensures none { refused_count result ≡ 0 }
+    {
+        Output {
+            writer,
+            refused: 0,
+            is_flushed: false,
+        }
+    }
+}
+
+impl<W: Write> Output<W> {
+    ghost use Rattle.rq_cast.specs.Output.{counting, sink, refused_count, flushed, IsRefused};
+
+    /// Begins a cell by one call.
+    pub(crate) fn begin(&mut self, cell: &[u8]) -> io::Result<usize>
+        requires { failed_count (counting self.old) < 2 ^ 64 - 1 }
+        ensures bound { WritesAtMost result cell.now }
+        ensures bytes { WriteAppends (W.contents (sink self.old)) (W.contents (sink self.new)) result cell.now }
+        ensures counts { CountsWrite (failed_count (counting self.old)) (failed_count (counting self.new)) result cell.now }
+        ensures refused { IsRefused result → refused_count self.new ≡ refused_count self.old + 1 }
+        ensures others { ¬ IsRefused result → refused_count self.new ≡ refused_count self.old }
+        ensures unflushed { flushed self.new ≡ false }
+    {
+        self.is_flushed = false;
+        let result = self.writer.write(cell);
+        if let Err(error) = &result
+            && error.kind() == ErrorKind::ConnectionRefused
+        {
+            self.refused += 1;
+        }
+        result
+    }
+
+    /// Writes the rest of a cell that is begun, by as many calls as it takes. The first failed call ends
+    /// it with [`Stop::Fault`].
+    pub(crate) fn write_rest(&mut self, rest: &[u8]) -> Result<(), Stop>
+        requires { failed_count (counting self.old) < 2 ^ 64 - 1 }
+        ensures bytes { OnOk result (Appends (W.contents (sink self.old)) (W.contents (sink self.new)) rest.now) }
+        ensures counts { failed_count (counting self.new) ≡ failed_count (counting self.old) + failed_calls result }
+        ensures err { IfErr result (λ stop. stop ≡ Stop.Fault) }
+        ensures beginning { OnErr result ((n : ℕ)
+            × Appends (W.contents (sink self.old)) (W.contents (sink self.new)) (take n rest.now)) }
+        ensures refused { refused_count self.new ≡ refused_count self.old }
+        ensures unflushed { flushed self.new ≡ false }
+    {
+        self.is_flushed = false;
+        write_bytes(&mut self.writer, rest)
+    }
+
+    /// Flushes all that is written. A failed call is [`Stop::Fault`].
+    pub(crate) fn flush(&mut self) -> Result<(), Stop>
+        requires { failed_count (counting self.old) < 2 ^ 64 - 1 }
+        ensures bytes { Keeps (W.contents (sink self.old)) (W.contents (sink self.new)) }
+        ensures counts { failed_count (counting self.new) ≡ failed_count (counting self.old) + failed_calls result }
+        ensures err { IfErr result (λ stop. stop ≡ Stop.Fault) }
+        ensures refused { refused_count self.new ≡ refused_count self.old }
+        ensures done { OnOk result (flushed self.new ≡ true) }
+    {
+        flush(&mut self.writer)?;
+        self.is_flushed = true;
+        Ok(())
+    }
+}
