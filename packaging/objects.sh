@@ -173,6 +173,6 @@ make_all() {
     three_bytes >"$2/three"
     for program in "${PROGRAMS[@]}"; do
         read -ra words <<<"$program"
-        "$2/${words[0]}" "${words[@]:1}" <"$2/three" >/dev/null || fail "$program doesn't run"
+        "$2/${words[0]}" "${words[@]:1}" <"$2/three" >/dev/null 2>"$2/told" || { cat "$2/told" >&2 && fail "$program doesn't run"; }
     done
 }
