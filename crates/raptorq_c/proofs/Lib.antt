@@ -2,6 +2,7 @@ pub mod Boxes
 pub mod Ending
 pub mod FrameSteps
 pub mod HandleAnswers
+pub mod Held
 pub mod PacketFrames
 pub mod PacketLengths
 pub mod PlannedBlocks

@@ -1,9 +1,11 @@
 -- Further handles on one encoder or plan.
-use Rattle.std.specs.Prelude.{◌≡◌, ◌≢◌, ◌⊎◌, ◌↔◌, ℕ, Bool, true, false, Option, Some, None}
+use Rattle.std.specs.Prelude.{◌≡◌, ◌≢◌, ◌⊎◌, ◌↔◌, ℕ, List, Bool, true, false, Option, Some, None, option_and_then}
+use Rattle.rq_block.specs.SourceBlockDecoder.{Solving}
+use Rattle.raptorq.specs.Decoder.{solving_of_blocks}
 use Rattle.raptorq_c.specs.Handles.{coder_of, decoder_of, encoder_of, block_encoder_of, plan_of_handle}
 use Rattle.raptorq_c.specs.declared.handle.Handle.{Handle}
 use Rattle.raptorq_c.specs.declared.owned.Coder.{Coder}
-use Rattle.raptorq_c.specs.declared.owned.Coder.TheVariants.{Sender, Planner, BlockSender}
+use Rattle.raptorq_c.specs.declared.owned.Coder.TheVariants.{Sender, Receiver, Planner, BlockSender}
 
 -- whether several handles may hold it: encoders and plans, which no call changes
 abbrev pub is_shared : Coder → Bool
@@ -25,10 +27,19 @@ pub record Shares (answer : ℕ) (held before after : Handle) : Type 0 where
   pub plan : answer ≡ 0 → plan_of_handle after ≡ plan_of_handle held
   pub kept : answer ≢ 0 → coder_of after ≡ coder_of before
 
--- What a call answers and does to a further handle: it holds a decoder that stands where that of the first one does (0), or what it held.
--- 26 says that no decoder is held.
+-- how the blocks of a decoder are solved: their sparse thresholds, and what the last attempts found
+abbrev pub solving_in : Coder → Option (List Solving)
+solving_in (Receiver d) = Some (solving_of_blocks d)
+solving_in _ = None
+
+abbrev pub solving_of_handle : Handle → Option (List Solving)
+solving_of_handle h = option_and_then solving_in (coder_of h)
+
+-- What a call answers and does to a further handle: it holds a decoder that stands where that of the first one does, and solves its blocks as that one
+-- does (0), or what it held. 26 says that no decoder is held.
 pub record CopiesDecoder (answer : ℕ) (held before after : Handle) : Type 0 where
   pub none : (answer ≡ 26) ↔ (decoder_of held ≡ None)
   pub number : (answer ≡ 0) ⊎ (answer ≡ 21) ⊎ (answer ≡ 26)
   pub decoder : answer ≡ 0 → decoder_of after ≡ decoder_of held
+  pub solving : answer ≡ 0 → solving_of_handle after ≡ solving_of_handle held
   pub kept : answer ≢ 0 → coder_of after ≡ coder_of before

@@ -1,8 +1,8 @@
 //! A further decoder that stands where another does.
 ghost use Rattle.std.specs.Prelude.{◌≡◌, ◌⊎◌, Some, None, IsSome, IfOk, IfErr, OnErr, OnOk};
-ghost use Rattle.raptorq.specs.Decoder.{state_of};
+ghost use Rattle.raptorq.specs.Decoder.{state_of, solving_of_blocks};
 ghost use Rattle.raptorq_c.specs.Handles.{coder_of, decoder_in, decoder_of};
-ghost use Rattle.raptorq_c.specs.Sharing.{CopiesDecoder};
+ghost use Rattle.raptorq_c.specs.Sharing.{solving_in, solving_of_handle, CopiesDecoder};
 
 use crate::call_end::{CallEnd, number};
 use crate::handle::Handle;
@@ -13,7 +13,8 @@ use std::alloc::{AllocError, Global};
 
 // A clone of a decoder.
 fn copied(alloc: Global, decoder: &Decoder) -> Result<Box<Coder>, AllocError>
-    ensures { IfOk result (λ b. decoder_in b.value ≡ Some (state_of decoder.now)) }
+    ensures decoder { IfOk result (λ b. decoder_in b.value ≡ Some (state_of decoder.now)) }
+    ensures solving { IfOk result (λ b. solving_in b.value ≡ Some (solving_of_blocks decoder.now)) }
 {
     Coder::Receiver(decoder.clone()?).boxed(alloc)
 }
@@ -21,6 +22,7 @@ fn copied(alloc: Global, decoder: &Decoder) -> Result<Box<Coder>, AllocError>
 // A clone of the decoder that a coder is, if it is one.
 fn copy_of(alloc: Global, coder: &Coder) -> Result<Box<Coder>, CallEnd>
     ensures decoder { IfOk result (λ b. decoder_in b.value ≡ decoder_in coder.now) }
+    ensures solving { IfOk result (λ b. solving_in b.value ≡ solving_in coder.now) }
     ensures held { OnOk result (IsSome (decoder_in coder.now)) }
     ensures refused { IfErr result (λ end. ((end ≡ CallEnd.NoCoder) × (decoder_in coder.now ≡ None))
         ⊎ ((end ≡ CallEnd.Refused Error.OutOfMemory) × IsSome (decoder_in coder.now))) }
@@ -32,18 +34,6 @@ fn copy_of(alloc: Global, coder: &Coder) -> Result<Box<Coder>, CallEnd>
         Ok(boxed) => Ok(boxed),
         Err(_) => Err(CallEnd::Refused(Error::OutOfMemory)),
     }
-}
-
-// Puts a clone of a decoder into a handle.
-fn copy(alloc: Global, coder: &Coder, twin: &mut Handle) -> Result<(), CallEnd>
-    ensures decoder { OnOk result (decoder_of twin.new ≡ decoder_in coder.now) }
-    ensures held { OnOk result (IsSome (decoder_in coder.now)) }
-    ensures refused { IfErr result (λ end. ((end ≡ CallEnd.NoCoder) × (decoder_in coder.now ≡ None))
-        ⊎ ((end ≡ CallEnd.Refused Error.OutOfMemory) × IsSome (decoder_in coder.now))) }
-    ensures kept { OnErr result (coder_of twin.new ≡ coder_of twin.old) }
-{
-    twin.replace(alloc, copy_of(alloc, coder)?);
-    Ok(())
 }
 
 /// Makes a further decoder that stands where the one does that a handle holds, which the further handle
@@ -60,10 +50,5 @@ pub extern "C" fn reamertan_copy_decoder(
     ensures copies { CopiesDecoder result handle.old twin.old twin.new }
     ensures same { coder_of handle.new ≡ coder_of handle.old }
 {
-    let Some(coder) = handle.take(alloc) else {
-        return number(Err(CallEnd::NoCoder));
-    };
-    let ended = copy(alloc, coder.as_ref(), twin);
-    handle.put(coder);
-    number(ended)
+    number(twin.replace_by(alloc, handle, |coder| copy_of(alloc, coder)))
 }

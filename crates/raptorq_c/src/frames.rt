@@ -62,10 +62,5 @@ pub extern "C" fn reamertan_add_packets(alloc: Global, handle: &mut Handle, pack
     ensures takes { TakesFrames packets.now result (decoder_of handle.old) (decoder_of handle.new) }
     ensures other { encoder_of handle.new ≡ encoder_of handle.old }
 {
-    let Some(mut coder) = handle.take(alloc) else {
-        return number(Err(CallEnd::NoCoder));
-    };
-    let ended = add_all(alloc, coder.as_mut(), packets);
-    handle.put(coder);
-    number(ended)
+    number(handle.change(alloc, |coder| add_all(alloc, coder, packets)))
 }

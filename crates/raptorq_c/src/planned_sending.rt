@@ -79,7 +79,7 @@ fn open(
 ///
 /// Answers 26 where the first handle holds no plan. Refuses a symbol size of 0, an alignment of 0 and one
 /// that doesn't divide the symbol size, bytes that aren't whole symbols, and then another number of them
-/// than the plan is for. Want of memory may come before any of these. Where it refuses, the other handle
+/// than the plan is for. Want of memory may come before any but the first. Where it refuses, the other handle
 /// holds what it held.
 #[unsafe(no_mangle)]
 pub extern "C" fn reamertan_open_planned_encoder(

@@ -90,12 +90,7 @@ pub extern "C" fn reamertan_add_packet(alloc: Global, handle: &mut Handle, packe
     ensures takes { TakesBytes packet.now result (decoder_of handle.old) (decoder_of handle.new) }
     ensures other { encoder_of handle.new ≡ encoder_of handle.old }
 {
-    let Some(mut coder) = handle.take(alloc) else {
-        return number(Err(CallEnd::NoCoder));
-    };
-    let ended = add(alloc, coder.as_mut(), packet);
-    handle.put(coder);
-    number(ended)
+    number(handle.change(alloc, |coder| add(alloc, coder, packet)))
 }
 
 // Fills a buffer with the object, where the coder is a decoder.
@@ -123,12 +118,7 @@ pub extern "C" fn reamertan_write_object(
     ensures fills { FillsWithAnswer (decoder_of handle.old) result object.old object.new }
     ensures same { coder_of handle.new ≡ coder_of handle.old }
 {
-    let Some(coder) = handle.take(alloc) else {
-        return number(Err(CallEnd::NoCoder));
-    };
-    let ended = write(coder.as_ref(), object);
-    handle.put(coder);
-    number(ended)
+    number(handle.fill(alloc, object, |coder, object| write(coder, object)))
 }
 
 // Fills a buffer with the object's bytes in a block, where the coder is a decoder.
@@ -160,12 +150,7 @@ pub extern "C" fn reamertan_write_block(
     ensures fills { FillsWithBlock (decoder_of handle.old) block result bytes.old bytes.new }
     ensures same { coder_of handle.new ≡ coder_of handle.old }
 {
-    let Some(coder) = handle.take(alloc) else {
-        return number(Err(CallEnd::NoCoder));
-    };
-    let ended = write_part(coder.as_ref(), block, bytes);
-    handle.put(coder);
-    number(ended)
+    number(handle.fill(alloc, bytes, |coder, bytes| write_part(coder, block, bytes)))
 }
 
 // Writes how many packets more a block needs at least, where the coder is a decoder.
@@ -197,12 +182,18 @@ pub extern "C" fn reamertan_missing_packets(
     ensures writes { WritesMissing (decoder_of handle.old) block result missing.old missing.new }
     ensures same { coder_of handle.new ≡ coder_of handle.old }
 {
-    let Some(coder) = handle.take(alloc) else {
-        return number(Err(CallEnd::NoCoder));
-    };
-    let ended = count_missing(coder.as_ref(), block, missing);
-    handle.put(coder);
-    number(ended)
+    let answer = handle.ask(alloc, |coder| {
+        let mut count = 0;
+        count_missing(coder, block, &mut count)?;
+        Ok(count)
+    });
+    match answer {
+        Ok(count) => {
+            *missing = count;
+            0
+        }
+        Err(end) => number(Err(end)),
+    }
 }
 
 // Tells whether the object is there, where the coder is a decoder.
@@ -227,10 +218,5 @@ pub extern "C" fn reamertan_is_complete(alloc: Global, handle: &mut Handle) -> u
     ensures tells { TellsComplete (decoder_of handle.old) result }
     ensures same { coder_of handle.new ≡ coder_of handle.old }
 {
-    let Some(coder) = handle.take(alloc) else {
-        return number(Err(CallEnd::NoCoder));
-    };
-    let ended = tell_complete(coder.as_ref());
-    handle.put(coder);
-    number(ended)
+    number(handle.ask(alloc, |coder| tell_complete(coder)))
 }

@@ -123,12 +123,12 @@ pub extern "C" fn reamertan_write_packets(
     ensures fills { FillsHeldRun (run_of_object block first count) (encoder_of handle.old) first count result packets.old packets.new }
     ensures same { coder_of handle.new ≡ coder_of handle.old }
 {
-    let Some(coder) = handle.take(alloc) else {
-        return number(Err(CallEnd::NoCoder));
-    };
-    let ended = write(alloc, coder.as_ref(), block, Ids { first, count }, packets);
-    handle.put(coder);
-    number(ended)
+    let ids = Ids { first, count };
+    number(handle.fill(
+        alloc,
+        packets,
+        |coder, packets| write(alloc, coder, block, ids, packets),
+    ))
 }
 
 // Does so with packets of a block, where the coder is its encoder.
@@ -158,10 +158,10 @@ pub extern "C" fn reamertan_write_block_packets(
     ensures fills { FillsHeldRun (run_of_block first count) (block_encoder_of handle.old) first count result packets.old packets.new }
     ensures same { coder_of handle.new ≡ coder_of handle.old }
 {
-    let Some(coder) = handle.take(alloc) else {
-        return number(Err(CallEnd::NoCoder));
-    };
-    let ended = write_of_block(alloc, coder.as_ref(), Ids { first, count }, packets);
-    handle.put(coder);
-    number(ended)
+    let ids = Ids { first, count };
+    number(handle.fill(
+        alloc,
+        packets,
+        |coder, packets| write_of_block(alloc, coder, ids, packets),
+    ))
 }

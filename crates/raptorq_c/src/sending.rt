@@ -109,10 +109,9 @@ pub extern "C" fn reamertan_write_packet(
     ensures fills { FillsWithPacket (encoder_of handle.old) block esi result packet.old packet.new }
     ensures same { coder_of handle.new ≡ coder_of handle.old }
 {
-    let Some(coder) = handle.take(alloc) else {
-        return number(Err(CallEnd::NoCoder));
-    };
-    let ended = write(alloc, coder.as_ref(), block, esi, packet);
-    handle.put(coder);
-    number(ended)
+    number(handle.fill(
+        alloc,
+        packet,
+        |coder, packet| write(alloc, coder, block, esi, packet),
+    ))
 }

@@ -5,7 +5,6 @@ ghost use Rattle.raptorq.specs.Encoder.{encoded_of};
 ghost use Rattle.rq_block.specs.SourceBlockEncoder.{block_encoded_of};
 ghost use Rattle.rq_block.specs.SourceBlockEncodingPlan.{plan_of};
 ghost use Rattle.raptorq_c.specs.Handles.{block_encoder_in, block_encoder_of, coder_of, encoder_in, encoder_of, plan_in, plan_of_handle};
-ghost use Rattle.raptorq_c.specs.Numbers.{number_of};
 ghost use Rattle.raptorq_c.specs.Sharing.{is_shared, Shares};
 
 use crate::call_end::{CallEnd, number};
@@ -85,20 +84,6 @@ fn twin_of(alloc: Global, coder: &Coder) -> Result<Box<Coder>, CallEnd>
     }
 }
 
-// Puts a further owner of what a coder shares into a handle.
-fn share(alloc: Global, coder: &Coder, twin: &mut Handle) -> Result<(), CallEnd>
-    ensures encoder { OnOk result (encoder_of twin.new ≡ encoder_in coder.now) }
-    ensures block_encoder { OnOk result (block_encoder_of twin.new ≡ block_encoder_in coder.now) }
-    ensures plan { OnOk result (plan_of_handle twin.new ≡ plan_in coder.now) }
-    ensures shared { OnOk result (is_shared coder.now ≡ true) }
-    ensures refused { IfErr result (λ end. ((end ≡ CallEnd.NoCoder) × (is_shared coder.now ≡ false))
-        ⊎ ((end ≡ CallEnd.Refused Error.OutOfMemory) × (is_shared coder.now ≡ true))) }
-    ensures kept { OnErr result (coder_of twin.new ≡ coder_of twin.old) }
-{
-    twin.replace(alloc, twin_of(alloc, coder)?);
-    Ok(())
-}
-
 /// Makes a further handle on the encoder or the plan that a handle holds. What it held before is freed.
 /// Each of the two goes on when the other is closed, and either may be used while another thread uses
 /// the other.
@@ -110,10 +95,5 @@ pub extern "C" fn reamertan_share(alloc: Global, handle: &mut Handle, twin: &mut
     ensures shares { Shares result handle.old twin.old twin.new }
     ensures same { coder_of handle.new ≡ coder_of handle.old }
 {
-    let Some(coder) = handle.take(alloc) else {
-        return number(Err(CallEnd::NoCoder));
-    };
-    let ended = share(alloc, coder.as_ref(), twin);
-    handle.put(coder);
-    number(ended)
+    number(twin.replace_by(alloc, handle, |coder| twin_of(alloc, coder)))
 }
