@@ -114,8 +114,14 @@ fn median(numbers: impl Iterator<Item = f64>) -> f64 {
     sorted[sorted.len() / 2]
 }
 
-/// Lets both codecs do a work, here and there. Prints the medians, and answers that of the ratios.
-fn measure(codecs: [&dyn Fn() -> Duration; 2]) -> f64 {
+/// Medians of a work: of the ratios, and of the microseconds here.
+struct Medians {
+    ratio: f64,
+    here: f64,
+}
+
+/// Lets both codecs do a work, here and there, and prints the medians.
+fn measure(codecs: [&dyn Fn() -> Duration; 2]) -> Medians {
     let samplers = codecs.map(Sampler::new);
     let mut rounds = [[0.0; 2]; ROUNDS];
     for (number, round) in rounds.iter_mut().enumerate() {
@@ -126,11 +132,11 @@ fn measure(codecs: [&dyn Fn() -> Duration; 2]) -> f64 {
     let ratio = median(rounds.iter().map(|[here, there]| there / here));
     let [here, there] = [0, 1].map(|codec| median(rounds.iter().map(|round| round[codec] / 1e3)));
     println!("{ratio:.2}, here {here:.2} microseconds, the crate {there:.2}");
-    ratio
+    Medians { ratio, here }
 }
 
 /// Measures blocks of so many symbols: the median of each work.
-fn measure_blocks(symbols: u16, size: u16) -> Vec<f64> {
+fn measure_blocks(symbols: u16, size: u16) -> Vec<Medians> {
     let (here, there) = (here::Block::new(symbols, size), there::Block::new(symbols, size));
     let works: [[&dyn Fn() -> Duration; 2]; WORKS.len()] = [
         [&|| here.planned(), &|| there.planned()],
@@ -144,12 +150,18 @@ fn measure_blocks(symbols: u16, size: u16) -> Vec<f64> {
     named.collect()
 }
 
+/// A cell of the table: the ratio, and MB of the block a second here.
+fn cell(medians: &Medians, symbols: u16, size: u16) -> String {
+    format!("{:.2}, {:.0}", medians.ratio, f64::from(symbols) * f64::from(size) / medians.here)
+}
+
 /// Measures blocks of each size, and prints the rows of the table behind the lines.
 pub fn print() {
     let columns = SIZES.map(|size| COUNTS.map(|symbols| measure_blocks(symbols, size)));
     let rows = (0..WORKS.len()).flat_map(|work| (0..SIZES.len()).map(move |size| (work, size)));
     for (work, size) in rows {
-        let cells = columns[size].each_ref().map(|medians| format!("{:.2}", medians[work]));
+        let medians = columns[size].iter().zip(COUNTS);
+        let cells: Vec<_> = medians.map(|(medians, symbols)| cell(&medians[work], symbols, SIZES[size])).collect();
         println!("| {} | {} | {} |", WORKS[work], SIZES[size], cells.join(" | "));
     }
 }
