@@ -15,7 +15,6 @@ use Rattle.raptorq.specs.Decoder.{state_of}
 use Rattle.rq_cells.specs.Found.{packets_in}
 use Rattle.rq_cast.specs.declared.reading.Found.{Found}
 use Rattle.rq_cast.specs.declared.receiver.Receiver.{Receiver}
-use Rattle.rq_cast.specs.declared.receiver.Seen.{Seen}
 use Rattle.rq_cast.specs.Taken.{known_packets}
 use Rattle.rq_cast.specs.Receiving.{IsNewReceiver, HasTaken}
 use Rattle.rq_cast.specs.Missing.{TellsMissingPackets, NeedsPackets}
@@ -27,7 +26,7 @@ pub run_of_none : (table : List TableRow) (c : Configuration) (object : List ℕ
     → IsHonestRun table c object []
 run_of_none table c object packets run = record { long = run.long; nonsingular = run.nonsingular; honest = tt }
 
-module _ (table : List TableRow) (found : Found) (seen : Seen) (old : Receiver) (new : IsNewReceiver table found seen old) (now : Receiver)
+module _ (table : List TableRow) (found : Found) (old : Receiver) (new : IsNewReceiver table found old) (now : Receiver)
     (all : List ℕ) (has : HasTaken old now all) where
   abbrev c : Configuration
   c = found.head.configuration

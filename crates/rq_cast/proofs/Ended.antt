@@ -2,7 +2,7 @@
 use Rattle.std.proofs.Common.{◌≡◌, ◌⊎◌, inl, inr, ℕ, List, [], ◌++◌, take, drop, refl, sym, ap, subst, ◌∙◌, Option, Some, None, true, Result, Ok, Err, append-nil, append_assoc, arith, length, length-append}
 use Rattle.std.specs.Prelude.{is_ok, unwrap_or, IsSome}
 use Rattle.std.specs.Io.KnownBytes.{Consumes, Appends}
-use Rattle.std.proofs.KnownBytes.{Consumes-trans, Keeps-refl}
+use Rattle.std.proofs.KnownBytes.{Consumes-nil, Consumes-trans, Keeps-refl}
 use Rattle.std.proofs.lemmas.Bool.{and_parts, true≢false}
 use Rattle.std.specs.List.{starts_with, AllByRecursion}
 use Rattle.std.specs.Prelude.{nat_eq}
@@ -33,9 +33,10 @@ use Rattle.rq_cast.specs.declared.receiver.Receiver.{Receiver}
 use Rattle.rq_cast.specs.declared.receiver.Seen.{Seen}
 use Rattle.rq_cast.specs.Taken.{known_packets, unknown_count, StopsAmong}
 use Rattle.rq_cast.specs.Missing.{TellsMissingPackets, NeedsPackets}
-use Rattle.rq_cast.specs.Searching.{FindsFirst}
-use Rattle.rq_cast.specs.Receiving.{SeesAll, IsNewReceiver, HasTaken, EndsDetermined, EndsUndetermined, RefusesPackets, StopsReceiving}
-use Rattle.rq_cast.specs.Received.{received_packets, IsReceived, IsAnswered, IsSeen, Determines, DoesntDetermine, RefusesReceived, EndsReceiving}
+use Rattle.rq_cast.specs.Reading.{IsStopOfReads}
+use Rattle.rq_cast.specs.Searching.{SeesNoneYet, FindsFirst}
+use Rattle.rq_cast.specs.Receiving.{SeesAll, IsNewReceiver, StopsBeginning, HasSeen, HasTaken, EndsDetermined, EndsUndetermined, RefusesPackets, StopsReceiving, SeesBehind}
+use Rattle.rq_cast.specs.Received.{received_packets, IsReceived, IsAnswered, IsSeen, SeesSoFar, Determines, DoesntDetermine, RefusesReceived, EndsReceiving}
 use Rattle.rq_cast.proofs.Answering.{answered_by, needs_by, run_of_none}
 
 -- coders take what was found
@@ -43,19 +44,19 @@ accepted : (r : Result (Unit {0}) Error) → is_ok r ≡ true → r ≡ Ok tt
 accepted (Ok u) e = refl
 accepted (Err w) e = absurd (true≢false (sym e))
 
-pub only_memory : (table : List TableRow) (name : List ℕ) (before after : Option (List ℕ)) (found : Found) (seen : Seen) (n : ℕ)
-    → FindsFirst (greatest_size table) name before after n found.head found.bytes.items seen
+pub only_memory : (table : List TableRow) (name : List ℕ) (before after : Option (List ℕ)) (found : Found) (n : ℕ)
+    → FindsFirst (greatest_size table) name before after n found.head found.bytes.items found.seen
     → (e : Error) → IsRefusal e (checked_configuration (greatest_size table) found.head.configuration) → e ≡ OutOfMemory
-only_memory table name before after found seen n f e refused =
+only_memory table name before after found n f e refused =
     let greatest = greatest_size table in
     let cell = wanted_cell greatest name (drop f.at (f.earlier ++ f.last)) found.head f.first.found in
     let both = and_parts (is_ok (checked_configuration greatest found.head.configuration))
     (starts_with nat_eq (found.head.name ++ header_bytes found.head.configuration) name) cell.wanted in
     subst (IsRefusal e) (accepted (checked_configuration greatest found.head.configuration) both.0) refused
 
-module _ (table : List TableRow) (name : List ℕ) (before mid after : Option (List ℕ)) (found : Found) (first_seen : Seen) (n : ℕ)
-    (f : FindsFirst (greatest_size table) name before mid n found.head found.bytes.items first_seen)
-    (old : Receiver) (made : IsNewReceiver table found first_seen old) where
+module _ (table : List TableRow) (name : List ℕ) (before mid after : Option (List ℕ)) (found : Found) (n : ℕ)
+    (f : FindsFirst (greatest_size table) name before mid n found.head found.bytes.items found.seen)
+    (old : Receiver) (made : IsNewReceiver table found old) where
   abbrev h : Head
   h = found.head
 
@@ -76,7 +77,7 @@ module _ (table : List TableRow) (name : List ℕ) (before mid after : Option (L
       → result_of (state_of now.decoder) ≡ answer → IsAnswered table h (front ++ rest) answer
   answered now rest has answer is =
       let one : IsAnswered table h (old.bytes.items ++ rest) answer = subst (IsAnswered table h (old.bytes.items ++ rest)) is
-      (answered_by table found first_seen old made now (old.bytes.items ++ rest) has) in
+      (answered_by table found old made now (old.bytes.items ++ rest) has) in
       record {
         whoever = subst (λ ps. IsAnswerAfter table h.configuration ps answer) (same_packets rest) one.whoever;
         honest = subst (λ ps. AnswersExactly table h.configuration ps answer) (same_packets rest) one.honest;
@@ -84,20 +85,25 @@ module _ (table : List TableRow) (name : List ℕ) (before mid after : Option (L
       }
 
   -- more was read
-  abbrev received : (more : List ℕ) → Consumes mid after more → IsReceived (greatest_size table) name before after (front ++ more) h
-  received more read = record {
-    read = Consumes-trans before mid after front more f.read read;
-    front = front;
+  abbrev received : (more : List ℕ) → IsReceived (greatest_size table) name (front ++ more) h
+  received more = record {
+    earlier = f.earlier;
+    last = f.last;
     later = more;
     cut = refl;
+    few = omega (arith, f.few, f.brought);
+    none_earlier = f.none_earlier;
     at = f.at;
     first = f.first;
   }
 
+  all_read : (more : List ℕ) → Consumes mid after more → Consumes before after (front ++ more)
+  all_read more read = Consumes-trans before mid after front more f.read read
+
   -- what was seen
-  all_of : (now : Receiver) (more : List ℕ) (read : Consumes mid after more) → HasTaken old now (old.bytes.items ++ more) → (s : Seen) → SeesAll now s
-      → IsSeen (received more read) s
-  all_of now more read has s sees =
+  all_of : (now : Receiver) (more : List ℕ) → now.scanner ≡ old.scanner → HasSeen old now (old.bytes.items ++ more) → (s : Seen) → SeesAll now s
+      → IsSeen (received more) s
+  all_of now more head has s sees =
       let all : old.bytes.items ++ more ≡ drop f.at front ++ more = ap (λ xs. xs ++ more) kept_is in
       let damaged_is : damaged_in old.scanner (old.bytes.items ++ more) ≡ damaged_in h (drop f.at front ++ more) = λ i. damaged_in (made.head i) (all i) in
       let others_is : others_in old.scanner (old.bytes.items ++ more) ≡ others_in h (drop f.at front ++ more) = λ i. others_in (made.head i) (all i) in
@@ -109,24 +115,25 @@ module _ (table : List TableRow) (name : List ℕ) (before mid after : Option (L
       let cells_are : length (known_packets (state_of old.decoder).configuration (packets_in old.scanner (old.bytes.items ++ more))) ≡ length
       (received_packets h (front ++ more)) =
       λ i. length (known_packets (made.configuration i) (packets_are i)) in
-      let left_is : others_in now.scanner now.bytes.items ≡ others_in old.scanner now.bytes.items = ap (λ k. others_in k now.bytes.items) has.head in
+      let left_is : others_in now.scanner now.bytes.items ≡ others_in old.scanner now.bytes.items = ap (λ k. others_in k now.bytes.items) head in
       let flat = ap (others_in old.scanner) (append-nil (old.bytes.items ++ more)) in
       let flat_left = ap (others_in old.scanner) (append-nil now.bytes.items) in
       let cells_before : old.seen.cells ≡ 0 = ap (λ (x : Seen). x.cells) made.seen_is ∙ f.seen.no_cells in
       let damaged_before_is = ap (λ (x : Seen). x.damaged) made.seen_is ∙ f.seen.damaged in
       let others_before = ap (λ (x : Seen). x.others) made.seen_is ∙ f.seen.others in
       record {
-        cells = omega (arith, sees.cells, has.cells_seen, cells_before, cells_are);
-        damaged = omega (arith, sees.damaged, has.damaged_seen, damaged_before_is, damaged_is);
-        others = omega (arith, sees.others, has.others_seen, others_before, has.others_found [], flat, flat_left, others_is, unknown_is, left_is);
+        cells = omega (arith, sees.cells, has.cells, cells_before, cells_are);
+        damaged = omega (arith, sees.damaged, has.damaged, damaged_before_is, damaged_is);
+        others = omega (arith, sees.others, has.others, others_before, has.found [], flat, flat_left, others_is, unknown_is, left_is);
       }
 
-  pub determined : (now : Receiver) (object : List ℕ) (s : Seen) (n' : ℕ) → SeesAll now s → EndsDetermined old now mid after n n'
+  pub determined : (now : Receiver) (object : List ℕ) (s : Seen) (n' : ℕ) → SeesAll now s → EndsDetermined old old.bytes.items now mid after n n'
       → result_of (state_of now.decoder) ≡ Some object → Determines table name before after n' h object s
   determined now object s n' sees e is = record {
-    seen = all_of now (e.earlier ++ e.last) e.read e.taken s sees;
     past = front ++ (e.earlier ++ e.last);
-    received = received (e.earlier ++ e.last) e.read;
+    read = all_read (e.earlier ++ e.last) e.read;
+    received = received (e.earlier ++ e.last);
+    seen = all_of now (e.earlier ++ e.last) e.taken.head e.taken.seen s sees;
     answered = answered now (e.earlier ++ e.last) e.taken (Some object) is;
     not_earlier = elim e.not_earlier [
       | inl none ↦ record {
@@ -151,22 +158,23 @@ module _ (table : List TableRow) (name : List ℕ) (before mid after : Option (L
   }
 
   pub undetermined : (now : Receiver) (missing : ℕ) → TellsMissingPackets now.decoder missing → (s : Seen) → SeesAll now s
-      → EndsUndetermined old now mid after → DoesntDetermine table name before after missing s
+      → EndsUndetermined old old.bytes.items now mid after → DoesntDetermine table name before after missing s
   undetermined now missing told s sees e = record {
-    seen = all_of now e.past e.read e.taken s sees;
     past = front ++ e.past;
     head = h;
-    received = received e.past e.read;
+    read = all_read e.past e.read;
+    received = received e.past;
+    seen = all_of now e.past e.taken.head e.taken.seen s sees;
     answered = answered now e.past e.taken None e.undetermined;
     needs = subst (λ ps. NeedsPackets table h.configuration ps missing) (same_packets e.past)
-        (needs_by table found first_seen old made now (old.bytes.items ++ e.past) e.taken missing told);
+        (needs_by table found old made now (old.bytes.items ++ e.past) e.taken missing told);
     ended = elim e.ended [
       | inl at_end ↦ inl at_end
       | inr many ↦ inr (omega (arith, many, length-append front e.past))
     ];
   }
 
-  pub refuses : (e : Error) → RefusesPackets old mid after e → RefusesReceived table name before after e
+  pub refuses : (e : Error) → RefusesPackets old old.bytes.items mid after e → RefusesReceived table name before after e
   refuses e r =
       let c = h.configuration in
       let stops : StopsAmong (state_of old.decoder) (received_packets h (front ++ r.past)) e =
@@ -175,7 +183,8 @@ module _ (table : List TableRow) (name : List ℕ) (before mid after : Option (L
       record {
         past = front ++ r.past;
         head = h;
-        received = received r.past r.read;
+        read = all_read r.past r.read;
+        received = received r.past;
         refused = subst (λ k. (e ≡ OutOfMemory) ⊎ IsRefusalBehind table k [] (received_packets h (front ++ r.past)) (Err e)) made.configuration
             (stops.refused table [] made.follows);
         honest = λ object run.
@@ -183,12 +192,56 @@ module _ (table : List TableRow) (name : List ℕ) (before mid after : Option (L
             (subst (λ k. AllByRecursion (IsPacketOf table k object) (received_packets h (front ++ r.past))) (sym made.configuration) run.honest);
       }
 
+  -- what was seen before the last read
+  seen_so_far : (now : Receiver) (s : Seen) → SeesAll now s → SeesBehind old old.bytes.items now mid after → SeesSoFar (greatest_size table) name before after s
+  seen_so_far now s sees e = record {
+    past = front ++ e.past;
+    last = e.last;
+    read = subst (Consumes before after) (sym (append_assoc front e.past e.last)) (all_read (e.past ++ e.last) e.read);
+    few = e.few;
+    seen_there = inr (h, received e.past, all_of now e.past e.head e.seen s sees);
+  }
+
   -- where it stops nothing is written
-  pub not_received : (n' : ℕ) (there : Option (List ℕ)) (stop : Stop) → StopsReceiving old mid after stop
-      → EndsReceiving table name (Err stop) before after n' there there
-  not_received n' there Fault stops = inl (Keeps-refl there)
-  not_received n' there (Refused e) (inl memory) = (inl memory, Keeps-refl there)
-  not_received n' there (Refused e) (inr r) = (inr (refuses e r), Keeps-refl there)
+  pub not_received : (n' : ℕ) (there : Option (List ℕ)) (now : Receiver) (s : Seen) → SeesAll now s → SeesBehind old old.bytes.items now mid after
+      → (begun : Receiver) → HasTaken old begun old.bytes.items → (stop : Stop) → StopsReceiving begun mid after stop
+      → EndsReceiving table name (Err stop) s before after n' there there
+  not_received n' there now s sees e begun taken Fault stops = inl (seen_so_far now s sees e, Keeps-refl there)
+  not_received n' there now s sees e begun taken (Refused w) (inl memory) = (inl memory, seen_so_far now s sees e, Keeps-refl there)
+  not_received n' there now s sees e begun taken (Refused w) (inr r) =
+      (inr (refuses w (r old old.bytes.items taken)), seen_so_far now s sees e, Keeps-refl there)
+
+-- ---- a run that is stopped before there is a receiver
+
+pub sees_so_far : (greatest : ℕ) (name : List ℕ) (before after : Option (List ℕ)) (s : Seen) → SeesNoneYet greatest name before after s
+    → SeesSoFar greatest name before after s
+sees_so_far greatest name before after s sees = record { past = sees.past; last = sees.last; read = sees.read; few = sees.few; seen_there = inl sees.sees }
+
+pub not_found : (table : List TableRow) (name : List ℕ) (before after : Option (List ℕ)) (s : Seen) → SeesNoneYet (greatest_size table) name before after s
+    → (n : ℕ) (there : Option (List ℕ)) (stop : Stop) → IsStopOfReads stop → EndsReceiving table name (Err stop) s before after n there there
+not_found table name before after s sees n there Fault stops = inl (sees_so_far (greatest_size table) name before after s sees, Keeps-refl there)
+not_found table name before after s sees n there (Refused e) (inl fault) = absurd (cc fault)
+not_found table name before after s sees n there (Refused e) (inr memory) =
+    let same : e ≡ OutOfMemory = cc memory in
+    (inl same, sees_so_far (greatest_size table) name before after s sees, Keeps-refl there)
+
+-- the first of its cells are refused, or memory is
+pub not_begun : (table : List TableRow) (name : List ℕ) (before mid : Option (List ℕ)) (found : Found) (n : ℕ)
+    → FindsFirst (greatest_size table) name before mid n found.head found.bytes.items found.seen
+    → (s : Seen) → SeesNoneYet (greatest_size table) name before mid s → (there : Option (List ℕ)) (e : Error) → StopsBeginning table found e
+    → EndsReceiving table name (Err (Refused e)) s before mid n there there
+not_begun table name before mid found n f s sees there e (inl refused) =
+    (inl (only_memory table name before mid found n f e refused), sees_so_far (greatest_size table) name before mid s sees, Keeps-refl there)
+not_begun table name before mid found n f s sees there e (inr (first, made, inl memory)) =
+    (inl memory, sees_so_far (greatest_size table) name before mid s sees, Keeps-refl there)
+not_begun table name before mid found n f s sees there e (inr (first, made, inr stops)) =
+    let among : RefusesPackets first first.bytes.items mid mid e = record {
+      past = [];
+      read = Consumes-nil mid;
+      stops = subst (λ xs. StopsAmong (state_of first.decoder) (known_packets (state_of first.decoder).configuration (packets_in first.scanner xs)) e)
+          (sym (append-nil first.bytes.items)) stops;
+    } in
+    (inr (refuses table name before mid mid found n f first made e among), sees_so_far (greatest_size table) name before mid s sees, Keeps-refl there)
 
 -- ---- the object that is answered, and what is written of it
 
@@ -197,6 +250,16 @@ answered_object (Some xs) is = refl
 answered_object None is = absurd (cc is)
 
 module _ (answer : Option (List ℕ)) (object : List ℕ) (is : answer ≡ Some object) (there then : Option (List ℕ)) where
+  seen_all : (table : List TableRow) (name : List ℕ) (before after : Option (List ℕ)) (n : ℕ) (h : Head) (seen : Seen)
+      → Determines table name before after n h object seen → SeesSoFar (greatest_size table) name before after seen
+  seen_all table name before after n h seen d = record {
+    past = d.past;
+    last = [];
+    read = subst (Consumes before after) (sym (append-nil d.past)) d.read;
+    few = omega arith;
+    seen_there = inr (h, d.received, d.seen);
+  }
+
   pub written : (o : Outcome) → Ends (Ok o) there then (Ok answer) → Appends there then object
   written Written (bytes, wanted, more) =
       let same : answer ≡ Some bytes = cc wanted in
@@ -205,10 +268,10 @@ module _ (answer : Option (List ℕ)) (object : List ℕ) (is : answer ≡ Some 
 
   pub not_written : (table : List TableRow) (name : List ℕ) (before after : Option (List ℕ)) (n : ℕ) (h : Head) (seen : Seen)
       → Determines table name before after n h object seen → name_of object ≡ h.name
-      → (stop : Stop) → Ends (Err stop) there then (Ok answer) → EndsReceiving table name (Err stop) before after n there then
-  not_written table name before after n h seen d named (Refused e) (inl memory, kept) = (inl memory, kept)
+      → (stop : Stop) → Ends (Err stop) there then (Ok answer) → EndsReceiving table name (Err stop) seen before after n there then
+  not_written table name before after n h seen d named (Refused e) (inl memory, kept) = (inl memory, seen_all table name before after n h seen d, kept)
   not_written table name before after n h seen d named (Refused e) (inr wanted, kept) = absurd (cc wanted)
-  not_written table name before after n h seen d named Fault (inl kept) = inl kept
+  not_written table name before after n h seen d named Fault (inl kept) = inl (seen_all table name before after n h seen d, kept)
   not_written table name before after n h seen d named Fault (inr (bytes, count, wanted, more)) =
       let same : answer ≡ Some bytes = cc wanted in
-      inr (h, object, seen, d, named, (count, subst (λ xs. Appends there then (take count xs)) (same_Some bytes object (sym same ∙ is)) more))
+      inr (h, object, d, named, (count, subst (λ xs. Appends there then (take count xs)) (same_Some bytes object (sym same ∙ is)) more))

@@ -1,6 +1,7 @@
 mod CountedCalls
 pub mod Answering
 pub mod Ended
+pub mod Failing
 pub mod Hashed
 pub mod Needed
 pub mod Prepared

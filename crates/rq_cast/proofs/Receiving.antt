@@ -1,12 +1,11 @@
 -- The cells that are whole in what was read.
-use Rattle.std.proofs.Common.{◌≡◌, ◌⊎◌, inl, inr, ℕ, ◌+◌, ◌-◌, ◌^◌, ◌≤◌, ◌<◌, List, [], ◌++◌, length, drop, refl, sym, ap, subst, ◌∙◌, arith, append-nil, append_assoc, length-append, Option, None, Some, Bool, true, false, Vec, Global}
+use Rattle.std.proofs.Common.{◌≡◌, inl, inr, ℕ, ◌+◌, ◌-◌, ◌^◌, ◌≤◌, ◌<◌, List, [], ◌++◌, length, drop, refl, sym, ap, subst, ◌∙◌, arith, append-nil, append_assoc, length-append, Option, None, Some, Bool, true, false, Vec, Global}
 use Rattle.std.specs.Prelude.{IsSome, is_some}
 use Rattle.std.proofs.lemmas.Bool.{true≢false}
 use Rattle.std.specs.Io.KnownBytes.{Consumes, IsAtEnd}
 use Rattle.std.proofs.KnownBytes.{Consumes-nil, Consumes-trans}
 use Rattle.std.proofs.lemmas.List.{nil_from_length}
 use Rattle.rq_bytes.specs.declared.error.Error.{Error}
-use Rattle.rq_bytes.specs.declared.error.Error.TheVariants.{OutOfMemory}
 use Rattle.rq_standard.specs.Configuration.{Configuration}
 use Rattle.rq_standard.specs.DecoderState.{result_of}
 use Rattle.raptorq.specs.Decoder.{state_of}
@@ -16,9 +15,10 @@ use Rattle.rq_cells.specs.declared.scanner.Scan.{Scan}
 use Rattle.rq_cells.specs.Found.{packets_in, damaged_in, others_in}
 use Rattle.rq_cells.specs.Scans.{Settles}
 use Rattle.rq_cast.specs.declared.receiver.Receiver.{Receiver}
+use Rattle.rq_cast.specs.declared.receiver.Seen.{Seen}
 use Rattle.rq_cast.specs.Taken.{known_packets, unknown_count, TakesAll, StopsAmong}
-use Rattle.rq_cast.specs.Reading.{chunk_length}
-use Rattle.rq_cast.specs.Receiving.{counted, TakesFrom, TakesCells, HasTaken, IsLast, EndsDetermined, EndsUndetermined, RefusesPackets, StopsInCells, Receives}
+use Rattle.rq_cast.specs.Reading.{chunk_length, ReadsFew}
+use Rattle.rq_cast.specs.Receiving.{counted, TakesFrom, TakesCells, HasSeen, HasTaken, IsLast, EndsDetermined, EndsUndetermined, RefusesPackets, ReceivesBehind, SeesBehind}
 use Rattle.rq_cast.proofs.TakenPackets.{takes_both, stops_behind, known_both, unknown_both}
 
 -- what a scan takes is all that is there
@@ -55,13 +55,30 @@ taken_first old new cells =
       head = cells.head;
       found = λ rest. t.found rest ∙ ap (λ ps. ps ++ packets_in h (new.bytes.items ++ rest)) (sym all);
       takes = subst (λ ps. TakesAll (state_of old.decoder) (known_packets c ps) (state_of new.decoder)) (sym all) t.takes;
-      cells_seen = t.cells_seen ∙ ap (λ ps. counted (old.seen.cells + length (known_packets c ps))) (sym all);
       damaged_found = λ rest. t.damaged_found rest ∙ ap (λ n. n + damaged_in h (new.bytes.items ++ rest)) (sym damaged);
-      damaged_seen = t.damaged_seen ∙ ap (λ n. counted (old.seen.damaged + n)) (sym damaged);
-      others = t.others;
-      others_found = t.others_found;
-      others_seen = t.others_seen ∙ ap (λ ps. counted (old.seen.others + (t.others + unknown_count c ps))) (sym all);
+      seen = record {
+        cells = t.cells_seen ∙ ap (λ ps. counted (old.seen.cells + length (known_packets c ps))) (sym all);
+        damaged = t.damaged_seen ∙ ap (λ n. counted (old.seen.damaged + n)) (sym damaged);
+        heads = t.others;
+        found = t.others_found;
+        others = t.others_seen ∙ ap (λ ps. counted (old.seen.others + (t.others + unknown_count c ps))) (sym all);
+      };
     }
+
+-- what was seen, where that and what is kept stay
+pub seen_still : (first now new : Receiver) (all : List ℕ) → HasSeen first now all → new.seen ≡ now.seen → new.bytes.items ≡ now.bytes.items
+    → HasSeen first new all
+seen_still first now new all has seen bytes = record {
+  cells = ap (λ (s : Seen). s.cells) seen ∙ has.cells;
+  damaged = ap (λ (s : Seen). s.damaged) seen ∙ has.damaged;
+  heads = has.heads;
+  found = λ rest. has.found rest ∙ ap (λ xs. has.heads + others_in first.scanner (xs ++ rest)) (sym bytes);
+  others = ap (λ (s : Seen). s.others) seen ∙ has.others;
+}
+
+-- a receiver that keeps other bytes
+abbrev pub with_bytes : Receiver → Vec ℕ Global → Receiver
+with_bytes r bytes = record { scanner = r.scanner; decoder = r.decoder; bytes = bytes; seen = r.seen }
 
 -- a piece more, and its cells
 module _ (old now : Receiver) (all : List ℕ) (has : HasTaken old now all) (bytes : Vec ℕ Global) (piece : List ℕ)
@@ -112,15 +129,17 @@ module _ (old now : Receiver) (all : List ℕ) (has : HasTaken old now all) (byt
             (sym (ap (known_packets c) whole ∙ known_both c (packets_in h all) t.packets))
             (takes_both (state_of old.decoder) (state_of now.decoder) (state_of new.decoder) (known_packets c (packets_in h all))
             (known_packets c t.packets) has.takes takes);
-        cells_seen = omega (arith, t.cells_seen, has.cells_seen, known, known_here);
         damaged_found = λ rest. let all_of = damaged rest in omega (arith, all_of, damaged_whole);
-        damaged_seen = omega (arith, t.damaged_seen, has.damaged_seen, damaged_whole);
-        others = has.others + t.others;
-        others_found = λ rest.
-            let all_of = ap (others_in h) (append_assoc all piece rest) ∙ has.others_found (piece ++ rest)
-            ∙ ap (λ xs. has.others + others_in h xs) (later rest) ∙ ap (λ n. has.others + n) (t.others_found rest) in
-            omega (arith, all_of);
-        others_seen = omega (arith, t.others_seen, has.others_seen, unknown, unknown_here);
+        seen = record {
+          cells = omega (arith, t.cells_seen, has.seen.cells, known, known_here);
+          damaged = omega (arith, t.damaged_seen, has.seen.damaged, damaged_whole);
+          heads = has.seen.heads + t.others;
+          found = λ rest.
+              let all_of = ap (others_in h) (append_assoc all piece rest) ∙ has.seen.found (piece ++ rest)
+              ∙ ap (λ xs. has.seen.heads + others_in h xs) (later rest) ∙ ap (λ n. has.seen.heads + n) (t.others_found rest) in
+              omega (arith, all_of);
+          others = omega (arith, t.others_seen, has.seen.others, unknown, unknown_here);
+        };
       }
 
   -- nothing more came
@@ -131,62 +150,50 @@ module _ (old now : Receiver) (all : List ℕ) (has : HasTaken old now all) (byt
         head = has.head;
         found = λ rest. has.found rest ∙ ap (λ xs. packets_in h all ++ packets_in h (xs ++ rest)) (sym same);
         takes = has.takes;
-        cells_seen = has.cells_seen;
         damaged_found = λ rest. has.damaged_found rest ∙ ap (λ xs. damaged_in h all + damaged_in h (xs ++ rest)) (sym same);
-        damaged_seen = has.damaged_seen;
-        others = has.others;
-        others_found = λ rest. has.others_found rest ∙ ap (λ xs. has.others + others_in h (xs ++ rest)) (sym same);
-        others_seen = has.others_seen;
+        seen = seen_still old now longer all has.seen refl same;
       }
 
   -- or what came is refused
-  pub stops_next : (e : Error) → StopsInCells longer e → (e ≡ OutOfMemory) ⊎ StopsAmong (state_of old.decoder) (known_packets c (packets_in h (all ++ piece))) e
-  stops_next e (inl memory) = inl memory
-  stops_next e (inr stops) =
+  pub stops_next : (e : Error) → StopsAmong (state_of now.decoder) (known_packets (state_of now.decoder).configuration (packets_in now.scanner bytes.items)) e
+      → StopsAmong (state_of old.decoder) (known_packets c (packets_in h (all ++ piece))) e
+  stops_next e stops =
       let same : (state_of now.decoder).configuration ≡ c = has.takes.configuration in
       let here : StopsAmong (state_of now.decoder) (known_packets c (packets_in h bytes.items)) e =
       subst (λ k. StopsAmong (state_of now.decoder) (known_packets c (packets_in k bytes.items)) e) has.head
       (subst (λ k. StopsAmong (state_of now.decoder) (known_packets k (packets_in now.scanner bytes.items)) e) same stops) in
       let whole : packets_in h (all ++ piece) ≡ packets_in h all ++ packets_in h bytes.items = has.found piece
       ∙ ap (λ xs. packets_in h all ++ packets_in h xs) (sym behind) in
-      inr (subst (λ ps. StopsAmong (state_of old.decoder) ps e) (sym (ap (known_packets c) whole ∙ known_both c (packets_in h all) (packets_in h bytes.items)))
+      subst (λ ps. StopsAmong (state_of old.decoder) ps e)
+      (sym (ap (known_packets c) whole ∙ known_both c (packets_in h all) (packets_in h bytes.items)))
       (stops_behind (state_of old.decoder) (state_of now.decoder) (known_packets c (packets_in h all)) (known_packets c (packets_in h bytes.items)) e
-      has.takes here))
+      has.takes here)
 
 -- ---- read after read
 
 -- So many reads were made, and what they brought before the last one doesn't determine the object. The last read brought so many bytes before them,
 -- and so many now.
-pub record IsReceiving (old now : Receiver) (before after : Option (List ℕ)) (n n' : ℕ) (reads : ℕ) : Type 0 where
+pub record IsReceiving (old : Receiver) (had : List ℕ) (now : Receiver) (before after : Option (List ℕ)) (n n' : ℕ) (reads : ℕ) : Type 0 where
   pub earlier : List ℕ
   pub last : List ℕ
   pub read : Consumes before after (earlier ++ last)
   pub brought : reads ≤ length (earlier ++ last)
-  pub taken : HasTaken old now (old.bytes.items ++ (earlier ++ last))
-  pub not_earlier : IsLast old earlier last n n'
+  pub taken : HasTaken old now (had ++ (earlier ++ last))
+  pub not_earlier : IsLast old had earlier last n n'
 
-module _ (old : Receiver) (before : Option (List ℕ)) (n : ℕ) where
-  pub receiving_first : (new : Receiver) → TakesCells old new → IsReceiving old new before before n n 0
-  receiving_first new cells = record {
+module _ (old : Receiver) (had : List ℕ) (before : Option (List ℕ)) (n : ℕ) where
+  pub receiving_first : (new : Receiver) → HasTaken old new had → IsReceiving old had new before before n n 0
+  receiving_first new taken = record {
     earlier = [];
     last = [];
     read = Consumes-nil before;
     brought = omega arith;
-    taken = subst (HasTaken old new) (sym (append-nil old.bytes.items)) (taken_first old new cells);
+    taken = subst (HasTaken old new) (sym (append-nil had)) taken;
     not_earlier = inl (refl, refl);
   }
 
-  pub stops_first : (e : Error) → StopsInCells old e → (e ≡ OutOfMemory) ⊎ RefusesPackets old before before e
-  stops_first e (inl memory) = inl memory
-  stops_first e (inr stops) = inr (record {
-    past = [];
-    read = Consumes-nil before;
-    stops = subst (λ xs. StopsAmong (state_of old.decoder) (known_packets (state_of old.decoder).configuration (packets_in old.scanner xs)) e)
-        (sym (append-nil old.bytes.items)) stops;
-  })
-
-  pub ends_determined : (now : Receiver) (after : Option (List ℕ)) (n' reads : ℕ) → IsReceiving old now before after n n' reads
-      → IsSome (result_of (state_of now.decoder)) → EndsDetermined old now before after n n'
+  pub ends_determined : (now : Receiver) (after : Option (List ℕ)) (n' reads : ℕ) → IsReceiving old had now before after n n' reads
+      → IsSome (result_of (state_of now.decoder)) → EndsDetermined old had now before after n n'
   ends_determined now after n' reads r some = record {
     earlier = r.earlier;
     last = r.last;
@@ -196,12 +203,12 @@ module _ (old : Receiver) (before : Option (List ℕ)) (n : ℕ) where
     not_earlier = r.not_earlier;
   }
 
-  pub ends_in_many : (now : Receiver) (after : Option (List ℕ)) (n' reads : ℕ) → IsReceiving old now before after n n' reads
-      → result_of (state_of now.decoder) ≡ None → 2 ^ 64 - 1 ≤ reads → EndsUndetermined old now before after
+  pub ends_in_many : (now : Receiver) (after : Option (List ℕ)) (n' reads : ℕ) → IsReceiving old had now before after n n' reads
+      → result_of (state_of now.decoder) ≡ None → 2 ^ 64 - 1 ≤ reads → EndsUndetermined old had now before after
   ends_in_many now after n' reads r none many =
       record { past = r.earlier ++ r.last; read = r.read; taken = r.taken; undetermined = none; ended = inr (omega (arith, many, r.brought)) }
 
-  module _ (now : Receiver) (after after' : Option (List ℕ)) (n' reads : ℕ) (r : IsReceiving old now before after n n' reads)
+  module _ (now : Receiver) (after after' : Option (List ℕ)) (n' reads : ℕ) (r : IsReceiving old had now before after n n' reads)
       (none : result_of (state_of now.decoder) ≡ None)
       (bytes : Vec ℕ Global) (piece : List ℕ) (behind : bytes.items ≡ now.bytes.items ++ piece) (more : Consumes after after' piece)
       (few : length piece ≤ chunk_length) where
@@ -212,42 +219,40 @@ module _ (old : Receiver) (before : Option (List ℕ)) (n : ℕ) where
     all_read = Consumes-trans before after after' past piece r.read more
 
     pub receiving_next : (new : Receiver) (m : ℕ) → length piece ≡ m → 0 < m
-        → TakesCells (longer old now (old.bytes.items ++ past) r.taken bytes piece behind) new → IsReceiving old new before after' n m (reads + 1)
+        → TakesCells (longer old now (had ++ past) r.taken bytes piece behind) new → IsReceiving old had new before after' n m (reads + 1)
     receiving_next new m is some cells = record {
       earlier = past;
       last = piece;
       read = all_read;
       brought = omega (arith, r.brought, is, some, length-append past piece);
-      taken = subst (HasTaken old new) (append_assoc old.bytes.items past piece)
-          (taken_next old now (old.bytes.items ++ past) r.taken bytes piece behind new cells);
+      taken = subst (HasTaken old new) (append_assoc had past piece)
+          (taken_next old now (had ++ past) r.taken bytes piece behind new cells);
       not_earlier = inr (record { brought = is; some = some; few = omega (arith, few, is); mid = now; taken = r.taken; undetermined = none });
     }
 
-    pub ends_at_end : length piece ≡ 0 → IsAtEnd after' → EndsUndetermined old (longer old now (old.bytes.items ++ past) r.taken bytes piece behind)
+    pub ends_at_end : length piece ≡ 0 → IsAtEnd after' → EndsUndetermined old had (longer old now (had ++ past) r.taken bytes piece behind)
         before after'
     ends_at_end zero ended =
         let nothing : piece ≡ [] = nil_from_length piece (omega (arith, zero)) in
         record {
           past = past ++ piece;
           read = all_read;
-          taken = subst (λ xs. HasTaken old (longer old now (old.bytes.items ++ past) r.taken bytes piece behind) (old.bytes.items ++ xs))
+          taken = subst (λ xs. HasTaken old (longer old now (had ++ past) r.taken bytes piece behind) (had ++ xs))
               (sym (ap (λ xs. past ++ xs) nothing ∙ append-nil past))
-              (taken_same old now (old.bytes.items ++ past) r.taken bytes piece behind nothing);
+              (taken_same old now (had ++ past) r.taken bytes piece behind nothing);
           undetermined = none;
           ended = inl ended;
         }
 
-    pub stops_receiving : (e : Error) → StopsInCells (longer old now (old.bytes.items ++ past) r.taken bytes piece behind) e
-        → (e ≡ OutOfMemory) ⊎ RefusesPackets old before after' e
-    stops_receiving e stops = elim (stops_next old now (old.bytes.items ++ past) r.taken bytes piece behind e stops) [
-      | inl memory ↦ inl memory
-      | inr among ↦ inr (record {
-        past = past ++ piece;
-        read = all_read;
-        stops = subst (λ xs. StopsAmong (state_of old.decoder) (known_packets (state_of old.decoder).configuration (packets_in old.scanner xs)) e)
-            (append_assoc old.bytes.items past piece) among;
-      })
-    ]
+    pub refuses_next : (e : Error)
+        → StopsAmong (state_of now.decoder) (known_packets (state_of now.decoder).configuration (packets_in now.scanner bytes.items)) e
+        → RefusesPackets old had before after' e
+    refuses_next e stops = record {
+      past = past ++ piece;
+      read = all_read;
+      stops = subst (λ xs. StopsAmong (state_of old.decoder) (known_packets (state_of old.decoder).configuration (packets_in old.scanner xs)) e)
+          (append_assoc had past piece) (stops_next old now (had ++ past) r.taken bytes piece behind e stops);
+    }
 
 -- ---- whether the object is complete
 
@@ -258,8 +263,22 @@ none_incomplete d = by (result_of (state_of d))
     by None e = refl
     by (Some xs) e = absurd (true≢false e)
 
-pub receives_many : (old : Receiver) (before : Option (List ℕ)) (n : ℕ) (now : Receiver) (after : Option (List ℕ)) (n' reads : ℕ)
-    → IsReceiving old now before after n n' reads → 2 ^ 64 - 1 ≤ reads
-    → (b : Bool) → is_some (result_of (state_of now.decoder)) ≡ b → Receives old now before after n n' b
-receives_many old before n now after n' reads r many true e = ends_determined old before n now after n' reads r e
-receives_many old before n now after n' reads r many false e = ends_in_many old before n now after n' reads r (none_incomplete now.decoder e) many
+pub receives_many : (old : Receiver) (had : List ℕ) (before : Option (List ℕ)) (n : ℕ) (now : Receiver) (after : Option (List ℕ)) (n' reads : ℕ)
+    → IsReceiving old had now before after n n' reads → 2 ^ 64 - 1 ≤ reads
+    → (b : Bool) → is_some (result_of (state_of now.decoder)) ≡ b → ReceivesBehind old had now before after n n' b
+receives_many old had before n now after n' reads r many true e = ends_determined old had before n now after n' reads r e
+receives_many old had before n now after n' reads r many false e = ends_in_many old had before n now after n' reads r (none_incomplete now.decoder e) many
+
+-- ---- what was seen before the last read
+
+pub sees_behind : (first : Receiver) (had : List ℕ) (now new : Receiver) (before after after' : Option (List ℕ)) (n n' reads : ℕ)
+    → IsReceiving first had now before after n n' reads → ReadsFew after after'
+    → new.scanner ≡ now.scanner → new.seen ≡ now.seen → new.bytes.items ≡ now.bytes.items → SeesBehind first had new before after'
+sees_behind first had now new before after after' n n' reads r few head seen bytes = record {
+  past = r.earlier ++ r.last;
+  last = few.piece;
+  read = Consumes-trans before after after' (r.earlier ++ r.last) few.piece r.read few.taken;
+  few = few.few;
+  head = head ∙ r.taken.head;
+  seen = seen_still first now new (had ++ (r.earlier ++ r.last)) r.taken.seen seen bytes;
+}

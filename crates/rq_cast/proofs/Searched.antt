@@ -8,10 +8,10 @@ use Rattle.rq_cells.specs.declared.head.Head.{Head}
 use Rattle.rq_cells.specs.declared.wanted.Heads.{Heads}
 use Rattle.rq_cells.specs.Wanted.{wanted_at, is_wanted_damaged, is_unwanted, AreHeads, IsFirstWanted, HasNoWanted, NoneBefore}
 use Rattle.rq_cells.proofs.WantedCells.{count_further}
-use Rattle.rq_cast.specs.Reading.{chunk_length}
+use Rattle.rq_cast.specs.Reading.{chunk_length, ReadsFew}
 use Rattle.rq_cast.specs.declared.receiver.Seen.{Seen}
 use Rattle.rq_cast.specs.Receiving.{SeesHeads}
-use Rattle.rq_cast.specs.Searching.{SeesBefore, FindsFirst, FindsNone}
+use Rattle.rq_cast.specs.Searching.{SeesBefore, SeesNoneYet, FindsFirst, FindsNone}
 
 -- the heads at the places from one on, behind those before it
 pub sees_more : (greatest : ℕ) (name bytes : List ℕ) (from n : ℕ) (old new : Seen) (heads : Heads)
@@ -40,6 +40,10 @@ pub record IsUnfound (greatest : ℕ) (name : List ℕ) (before after : Option (
   pub seen : (rest : List ℕ) → SeesBefore greatest name (past ++ rest) from settled
   pub all_seen : SeesBefore greatest name past (length past) every
 
+-- no read at all
+pub reads_nothing : (there : Option (List ℕ)) → ReadsFew there there
+reads_nothing there = record { piece = []; taken = Consumes-nil there; few = omega arith }
+
 module _ (greatest : ℕ) (name : List ℕ) (before : Option (List ℕ)) where
   pub unfound_at_first : (s : Seen) → s.cells ≡ 0 → s.damaged ≡ 0 → s.others ≡ 0 → IsUnfound greatest name before before 0 [] s s
   unfound_at_first s no_cells no_damaged no_others = record {
@@ -67,6 +71,16 @@ module _ (greatest : ℕ) (name : List ℕ) (before : Option (List ℕ)) where
     ended = inr (omega (arith, many, u.brought));
     none = u.none;
     seen = u.all_seen;
+  }
+
+  pub sees_none_yet : (after after' : Option (List ℕ)) (reads : ℕ) (kept : List ℕ) (settled every : Seen)
+      → IsUnfound greatest name before after reads kept settled every → ReadsFew after after' → SeesNoneYet greatest name before after' every
+  sees_none_yet after after' reads kept settled every u few = record {
+    past = u.past;
+    last = few.piece;
+    read = Consumes-trans before after after' u.past few.piece u.read few.taken;
+    few = few.few;
+    sees = record { none = u.none; seen_there = u.all_seen };
   }
 
   -- a piece more was read

@@ -1,5 +1,5 @@
 -- The status that the program ends with.
-use Rattle.std.specs.Prelude.{ℕ}
+use Rattle.std.specs.Prelude.{ℕ, Ok, Err}
 use Rattle.rq_streams.specs.declared.run.Stop.{Stop}
 use Rattle.rq_streams.specs.declared.run.Stop.TheVariants.{Fault, Refused}
 use Rattle.rq_cast.specs.declared.run.Ending.{Ending}
@@ -19,5 +19,6 @@ stop_status (Refused e) = 3
 abbrev pub status_of : ProgramEnd → ℕ
 status_of Unasked = 4
 status_of (Sent lost) = 0
-status_of (Received ending seen) = ending_status ending
+status_of (Received (Ok ending) seen) = ending_status ending
+status_of (Received (Err stop) seen) = stop_status stop
 status_of (Stopped stop) = stop_status stop

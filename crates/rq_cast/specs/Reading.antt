@@ -18,6 +18,12 @@ pub record Reads (before after : Option (List ℕ)) (old new : List ℕ) (n : �
   pub few : n ≤ chunk_length
   pub at_end : n ≡ 0 → IsAtEnd after
 
+-- One read brings so few bytes at most, also where what comes of it stops.
+pub record ReadsFew (before after : Option (List ℕ)) : Type 0 where
+  pub piece : List ℕ
+  pub taken : Consumes before after piece
+  pub few : length piece ≤ chunk_length
+
 -- a failed call, or want of memory
 abbrev pub IsStopOfReads : Stop → Type 0
 IsStopOfReads stop = (stop ≡ Fault) ⊎ (stop ≡ Refused OutOfMemory)

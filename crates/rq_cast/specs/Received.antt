@@ -19,7 +19,7 @@ use Rattle.rq_cast.specs.declared.run.Ending.{Ending}
 use Rattle.rq_cast.specs.declared.run.Ending.TheVariants.{Written, Incomplete, AnotherObject}
 use Rattle.rq_cast.specs.declared.receiver.Seen.{Seen}
 use Rattle.rq_cast.specs.Missing.{NeedsPackets}
-use Rattle.rq_cast.specs.Searching.{FindsNone}
+use Rattle.rq_cast.specs.Searching.{SeesNoWanted, FindsNone}
 use Rattle.rq_cast.specs.Reading.{chunk_length}
 use Rattle.rq_cast.specs.Receiving.{counted}
 use Rattle.rq_cast.specs.Taken.{known_packets, unknown_count}
@@ -28,26 +28,39 @@ use Rattle.rq_cast.specs.Taken.{known_packets, unknown_count}
 abbrev pub received_packets : Head → List ℕ → List Packet
 received_packets h bytes = known_packets h.configuration (packets_in h bytes)
 
--- All this was read, and the first wanted cell in a beginning of it, up to the end of a read, says whose cells are received.
-pub record IsReceived (greatest : ℕ) (name : List ℕ) (before after : Option (List ℕ)) (past : List ℕ) (h : Head) : Type 0 where
-  pub read : Consumes before after past
-  pub front : List ℕ
+-- The first wanted cell in a beginning of what was read says whose cells are received: that beginning ends with the read that made a wanted cell whole.
+pub record IsReceived (greatest : ℕ) (name past : List ℕ) (h : Head) : Type 0 where
+  pub earlier : List ℕ
+  pub last : List ℕ
   pub later : List ℕ
-  pub cut : past ≡ front ++ later
+  pub cut : past ≡ earlier ++ last ++ later
+  pub few : length last ≤ chunk_length
+  pub none_earlier : NoneBefore greatest name earlier (length earlier)
   pub at : ℕ
-  pub first : IsFirstWanted greatest name front at h
+  pub first : IsFirstWanted greatest name (earlier ++ last) at h
 
--- the bytes from that cell on
-abbrev pub from_first : {greatest : ℕ} {name : List ℕ} {before after : Option (List ℕ)} {past : List ℕ} {h : Head} → IsReceived greatest name before after past h → List ℕ
-from_first r = drop r.at r.front ++ r.later
+-- that beginning, and the bytes from its first wanted cell on
+abbrev pub beginning : {greatest : ℕ} {name past : List ℕ} {h : Head} → IsReceived greatest name past h → List ℕ
+beginning r = r.earlier ++ r.last
+
+abbrev pub from_first : {greatest : ℕ} {name past : List ℕ} {h : Head} → IsReceived greatest name past h → List ℕ
+from_first r = drop r.at (beginning r) ++ r.later
 
 -- What was seen in all that was read. From the first wanted cell on, its head is the object's and each other one another object's. Before it a wanted
 -- head counts as the object's and one that isn't as another's, since nothing said yet what is received.
-pub record IsSeen {greatest : ℕ} {name : List ℕ} {before after : Option (List ℕ)} {past : List ℕ} {h : Head}
-    (r : IsReceived greatest name before after past h) (seen : Seen) : Type 0 where
+pub record IsSeen {greatest : ℕ} {name past : List ℕ} {h : Head} (r : IsReceived greatest name past h) (seen : Seen) : Type 0 where
   pub cells : seen.cells ≡ counted (length (received_packets h past))
-  pub damaged : seen.damaged ≡ counted (damaged_before greatest name r.front r.at + damaged_in h (from_first r))
-  pub others : seen.others ≡ counted (unwanted_before greatest name r.front r.at + others_in h (from_first r) + unknown_count h.configuration (packets_in h past))
+  pub damaged : seen.damaged ≡ counted (damaged_before greatest name (beginning r) r.at + damaged_in h (from_first r))
+  pub others : seen.others
+      ≡ counted (unwanted_before greatest name (beginning r) r.at + others_in h (from_first r) + unknown_count h.configuration (packets_in h past))
+
+-- What a run that is stopped has seen, in all that was read but what the last read brought at most: as long as no wanted cell was whole, or from one on.
+pub record SeesSoFar (greatest : ℕ) (name : List ℕ) (before after : Option (List ℕ)) (seen : Seen) : Type 0 where
+  pub past : List ℕ
+  pub last : List ℕ
+  pub read : Consumes before after (past ++ last)
+  pub few : length last ≤ chunk_length
+  pub seen_there : SeesNoWanted greatest name past seen ⊎ ((h : Head) × (r : IsReceived greatest name past h) × IsSeen r seen)
 
 -- what is answered of the object's cells among bytes, whoever sent them; where they are an object's, exactly where they determine it, which is where
 -- no other object makes them
@@ -69,7 +82,8 @@ pub record WasntBefore (table : List TableRow) (name : List ℕ) (h : Head) (pas
 -- What was read determines an object, and didn't before the last read.
 pub record Determines (table : List TableRow) (name : List ℕ) (before after : Option (List ℕ)) (n : ℕ) (h : Head) (object : List ℕ) (s : Seen) : Type 0 where
   pub past : List ℕ
-  pub received : IsReceived (greatest_size table) name before after past h
+  pub read : Consumes before after past
+  pub received : IsReceived (greatest_size table) name past h
   pub answered : IsAnswered table h past (Some object)
   pub not_earlier : WasntBefore table name h past n
   pub seen : IsSeen received s
@@ -78,7 +92,8 @@ pub record Determines (table : List TableRow) (name : List ℕ) (before after : 
 pub record DoesntDetermine (table : List TableRow) (name : List ℕ) (before after : Option (List ℕ)) (missing : ℕ) (s : Seen) : Type 0 where
   pub past : List ℕ
   pub head : Head
-  pub received : IsReceived (greatest_size table) name before after past head
+  pub read : Consumes before after past
+  pub received : IsReceived (greatest_size table) name past head
   pub answered : IsAnswered table head past None
   pub needs : NeedsPackets table head.configuration (received_packets head past) missing
   pub ended : IsAtEnd after ⊎ (2 ^ 64 - 1 ≤ length past)
@@ -88,21 +103,26 @@ pub record DoesntDetermine (table : List TableRow) (name : List ℕ) (before aft
 pub record RefusesReceived (table : List TableRow) (name : List ℕ) (before after : Option (List ℕ)) (e : Error) : Type 0 where
   pub past : List ℕ
   pub head : Head
-  pub received : IsReceived (greatest_size table) name before after past head
+  pub read : Consumes before after past
+  pub received : IsReceived (greatest_size table) name past head
   pub refused : (e ≡ OutOfMemory) ⊎ IsRefusalBehind table head.configuration [] (received_packets head past) (Err e)
   pub honest : (object : List ℕ) → IsHonestRun table head.configuration object (received_packets head past) → e ≡ OutOfMemory
 
 -- How a run ends that reads this input, whose last read brought n bytes, and behind whose writer this stood before and after: with the object that the
 -- cells determine, whose name is theirs; with nothing written, where they determine another one or none; with the first refusal, and nothing written;
--- or at a failed call, where a beginning of the object may be written.
-abbrev pub EndsReceiving : List TableRow → List ℕ → Result (Ending × Seen) Stop → Option (List ℕ) → Option (List ℕ) → ℕ → Option (List ℕ) → Option (List ℕ) → Type 0
-EndsReceiving table name (Ok (Written, seen)) before after n there then =
+-- or at a failed call, where a beginning of the object may be written. And what was seen up to then.
+abbrev pub EndsReceiving : List TableRow → List ℕ → Result Ending Stop → Seen → Option (List ℕ) → Option (List ℕ) → ℕ
+    → Option (List ℕ) → Option (List ℕ) → Type 0
+EndsReceiving table name (Ok Written) seen before after n there then =
     (h : Head) × (object : List ℕ) × Determines table name before after n h object seen × (name_of object ≡ h.name) × Appends there then object
-EndsReceiving table name (Ok (AnotherObject, seen)) before after n there then =
+EndsReceiving table name (Ok AnotherObject) seen before after n there then =
     (h : Head) × (object : List ℕ) × Determines table name before after n h object seen × (name_of object ≡ h.name → ⊥) × Keeps there then
-EndsReceiving table name (Ok (Incomplete None, seen)) before after n there then = FindsNone (greatest_size table) name before after seen × Keeps there then
-EndsReceiving table name (Ok (Incomplete (Some missing), seen)) before after n there then = DoesntDetermine table name before after missing seen × Keeps there then
-EndsReceiving table name (Err (Refused e)) before after n there then = ((e ≡ OutOfMemory) ⊎ RefusesReceived table name before after e) × Keeps there then
-EndsReceiving table name (Err Fault) before after n there then =
-    Keeps there then
-    ⊎ ((h : Head) × (object : List ℕ) × (seen : Seen) × Determines table name before after n h object seen × (name_of object ≡ h.name) × ((count : ℕ) × Appends there then (take count object)))
+EndsReceiving table name (Ok (Incomplete None)) seen before after n there then = FindsNone (greatest_size table) name before after seen × Keeps there then
+EndsReceiving table name (Ok (Incomplete (Some missing))) seen before after n there then =
+    DoesntDetermine table name before after missing seen × Keeps there then
+EndsReceiving table name (Err (Refused e)) seen before after n there then =
+    ((e ≡ OutOfMemory) ⊎ RefusesReceived table name before after e) × SeesSoFar (greatest_size table) name before after seen × Keeps there then
+EndsReceiving table name (Err Fault) seen before after n there then =
+    (SeesSoFar (greatest_size table) name before after seen × Keeps there then)
+    ⊎ ((h : Head) × (object : List ℕ) × Determines table name before after n h object seen × (name_of object ≡ h.name)
+    × ((count : ℕ) × Appends there then (take count object)))

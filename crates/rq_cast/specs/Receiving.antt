@@ -7,6 +7,9 @@ use Rattle.rq_streams.specs.declared.run.Stop.TheVariants.{Fault, Refused}
 use Rattle.rq_bytes.specs.declared.error.Error.{Error}
 use Rattle.rq_bytes.specs.declared.error.Error.TheVariants.{OutOfMemory}
 use Rattle.rq_standard.specs.declared.row.TableRow.{TableRow}
+use Rattle.rq_standard.specs.TableRows.{greatest_size}
+use Rattle.rq_bytes.specs.Refusals.{IsRefusal}
+use Rattle.rq_base.specs.RefusedInput.{checked_configuration}
 use Rattle.rq_standard.specs.Packet.{Packet}
 use Rattle.rq_standard.specs.Headline.{IsHonestRun}
 use Rattle.rq_standard.specs.Standing.{StandsFor}
@@ -33,14 +36,14 @@ pub record SeesHeads (old : Seen) (heads : Heads) (new : Seen) : Type 0 where
   pub others : new.others ≡ counted (old.others + heads.others)
 
 -- a receiver of the object that was found, which has taken nothing yet, with what was seen before
-pub record IsNewReceiver (table : List TableRow) (found : Found) (seen : Seen) (r : Receiver) : Type 0 where
+pub record IsNewReceiver (table : List TableRow) (found : Found) (r : Receiver) : Type 0 where
   pub fits : IsHead found.head
   pub head : r.scanner ≡ found.head
   pub configuration : (state_of r.decoder).configuration ≡ found.head.configuration
   pub follows : FollowsRun table [] (state_of r.decoder)
   pub stands : (object : List ℕ) → IsHonestRun table found.head.configuration object [] → StandsFor table object [] (state_of r.decoder)
   pub bytes : r.bytes ≡ found.bytes
-  pub seen_is : r.seen ≡ seen
+  pub seen_is : r.seen ≡ found.seen
 
 -- Of bytes it takes the cells with a head, whatever comes behind them: none is left in what it keeps.
 pub record TakesFrom (h : Head) (bytes : List ℕ) (old new : Receiver) : Type 0 where
@@ -68,6 +71,12 @@ StopsInCells old e =
     (e ≡ OutOfMemory)
     ⊎ StopsAmong (state_of old.decoder) (known_packets (state_of old.decoder).configuration (packets_in old.scanner old.bytes.items)) e
 
+-- It has seen and keeps what it had.
+pub record SeesNothingMore (old new : Receiver) : Type 0 where
+  pub head : new.scanner ≡ old.scanner
+  pub seen : new.seen ≡ old.seen
+  pub bytes : new.bytes.items ≡ old.bytes.items
+
 -- what was seen, with heads of other objects in the bytes that it keeps
 pub record SeesAll (r : Receiver) (seen : Seen) : Type 0 where
   pub cells : seen.cells ≡ r.seen.cells
@@ -76,60 +85,95 @@ pub record SeesAll (r : Receiver) (seen : Seen) : Type 0 where
 
 -- ---- reading
 
--- Of all these bytes, which it had or read, it has taken the cells that are whole in them.
-pub record HasTaken (old new : Receiver) (all : List ℕ) : Type 0 where
-  pub head : new.scanner ≡ old.scanner
-  pub found : (rest : List ℕ) → packets_in old.scanner (all ++ rest) ≡ packets_in old.scanner all ++ packets_in old.scanner (new.bytes.items ++ rest)
-  pub takes : TakesAll (state_of old.decoder) (known_packets (state_of old.decoder).configuration (packets_in old.scanner all)) (state_of new.decoder)
-  pub cells_seen : new.seen.cells ≡ counted (old.seen.cells + length (known_packets (state_of old.decoder).configuration (packets_in old.scanner all)))
-  pub damaged_found : (rest : List ℕ) → damaged_in old.scanner (all ++ rest) ≡ damaged_in old.scanner all + damaged_in old.scanner (new.bytes.items ++ rest)
-  pub damaged_seen : new.seen.damaged ≡ counted (old.seen.damaged + damaged_in old.scanner all)
-  pub others : ℕ
-  pub others_found : (rest : List ℕ) → others_in old.scanner (all ++ rest) ≡ others + others_in old.scanner (new.bytes.items ++ rest)
-  pub others_seen : new.seen.others ≡ counted (old.seen.others + (others + unknown_count (state_of old.decoder).configuration (packets_in old.scanner all)))
+-- A receiver has seen all that stands in these bytes, but for heads of other objects in what it keeps.
+pub record HasSeen (first new : Receiver) (all : List ℕ) : Type 0 where
+  pub cells : new.seen.cells ≡ counted (first.seen.cells + length (known_packets (state_of first.decoder).configuration (packets_in first.scanner all)))
+  pub damaged : new.seen.damaged ≡ counted (first.seen.damaged + damaged_in first.scanner all)
+  pub heads : ℕ
+  pub found : (rest : List ℕ) → others_in first.scanner (all ++ rest) ≡ heads + others_in first.scanner (new.bytes.items ++ rest)
+  pub others : new.seen.others
+      ≡ counted (first.seen.others + (heads + unknown_count (state_of first.decoder).configuration (packets_in first.scanner all)))
 
--- The last read brought n bytes, and what came before them doesn't determine the object.
-pub record NeedsLast (old : Receiver) (earlier last : List ℕ) (n : ℕ) : Type 0 where
+-- Of all these bytes, which it had or read, it has taken the cells that are whole in them.
+pub record HasTaken (first new : Receiver) (all : List ℕ) : Type 0 where
+  pub head : new.scanner ≡ first.scanner
+  pub found : (rest : List ℕ) → packets_in first.scanner (all ++ rest) ≡ packets_in first.scanner all ++ packets_in first.scanner (new.bytes.items ++ rest)
+  pub takes : TakesAll (state_of first.decoder) (known_packets (state_of first.decoder).configuration (packets_in first.scanner all)) (state_of new.decoder)
+  pub damaged_found : (rest : List ℕ) → damaged_in first.scanner (all ++ rest)
+      ≡ damaged_in first.scanner all + damaged_in first.scanner (new.bytes.items ++ rest)
+  pub seen : HasSeen first new all
+
+-- a receiver of the object that was found, which has taken the cells of what was read from the first one on
+pub record HasBegun (table : List TableRow) (found : Found) (r : Receiver) : Type 0 where
+  pub first : Receiver
+  pub made : IsNewReceiver table found first
+  pub taken : HasTaken first r first.bytes.items
+
+-- why there is none: what a decoder refuses, or one of these cells
+abbrev pub StopsBeginning : List TableRow → Found → Error → Type 0
+StopsBeginning table found e =
+    IsRefusal e (checked_configuration (greatest_size table) found.head.configuration)
+    ⊎ ((first : Receiver) × IsNewReceiver table found first × StopsInCells first e)
+
+-- What a receiver that has taken what it had then reads. The last read brought n bytes, and what came before them doesn't determine the object.
+pub record NeedsLast (first : Receiver) (had earlier last : List ℕ) (n : ℕ) : Type 0 where
   pub brought : length last ≡ n
   pub some : 0 < n
   pub few : n ≤ chunk_length
   pub mid : Receiver
-  pub taken : HasTaken old mid (old.bytes.items ++ earlier)
+  pub taken : HasTaken first mid (had ++ earlier)
   pub undetermined : result_of (state_of mid.decoder) ≡ None
 
 -- Nothing was read, so that the last read is the one before, or the last read was needed.
-abbrev pub IsLast : Receiver → List ℕ → List ℕ → ℕ → ℕ → Type 0
-IsLast old earlier last n n' = ((earlier ++ last ≡ []) × (n' ≡ n)) ⊎ NeedsLast old earlier last n'
+abbrev pub IsLast : Receiver → List ℕ → List ℕ → List ℕ → ℕ → ℕ → Type 0
+IsLast first had earlier last n n' = ((earlier ++ last ≡ []) × (n' ≡ n)) ⊎ NeedsLast first had earlier last n'
 
 -- The object is determined by what was read, and wasn't before the last read.
-pub record EndsDetermined (old new : Receiver) (before after : Option (List ℕ)) (n n' : ℕ) : Type 0 where
+pub record EndsDetermined (first : Receiver) (had : List ℕ) (new : Receiver) (before after : Option (List ℕ)) (n n' : ℕ) : Type 0 where
   pub earlier : List ℕ
   pub last : List ℕ
   pub read : Consumes before after (earlier ++ last)
-  pub taken : HasTaken old new (old.bytes.items ++ (earlier ++ last))
+  pub taken : HasTaken first new (had ++ (earlier ++ last))
   pub determined : IsSome (result_of (state_of new.decoder))
-  pub not_earlier : IsLast old earlier last n n'
+  pub not_earlier : IsLast first had earlier last n n'
 
 -- All was read, or more bytes than a u64 counts, and they don't determine the object.
-pub record EndsUndetermined (old new : Receiver) (before after : Option (List ℕ)) : Type 0 where
+pub record EndsUndetermined (first : Receiver) (had : List ℕ) (new : Receiver) (before after : Option (List ℕ)) : Type 0 where
   pub past : List ℕ
   pub read : Consumes before after past
-  pub taken : HasTaken old new (old.bytes.items ++ past)
+  pub taken : HasTaken first new (had ++ past)
   pub undetermined : result_of (state_of new.decoder) ≡ None
   pub ended : IsAtEnd after ⊎ (2 ^ 64 - 1 ≤ length past)
 
 -- what comes of a receiver's reads, where the last read brought so many bytes before and after
+abbrev pub ReceivesBehind : Receiver → List ℕ → Receiver → Option (List ℕ) → Option (List ℕ) → ℕ → ℕ → Bool → Type 0
+ReceivesBehind first had new before after n n' true = EndsDetermined first had new before after n n'
+ReceivesBehind first had new before after n n' false = EndsUndetermined first had new before after
+
 abbrev pub Receives : Receiver → Receiver → Option (List ℕ) → Option (List ℕ) → ℕ → ℕ → Bool → Type 0
-Receives old new before after n n' true = EndsDetermined old new before after n n'
-Receives old new before after n n' false = EndsUndetermined old new before after
+Receives old new before after n n' complete =
+    (first : Receiver) (had : List ℕ) → HasTaken first old had → ReceivesBehind first had new before after n n' complete
 
 -- the first refusal of the packets in what was read
-pub record RefusesPackets (old : Receiver) (before after : Option (List ℕ)) (e : Error) : Type 0 where
+pub record RefusesPackets (first : Receiver) (had : List ℕ) (before after : Option (List ℕ)) (e : Error) : Type 0 where
   pub past : List ℕ
   pub read : Consumes before after past
-  pub stops : StopsAmong (state_of old.decoder) (known_packets (state_of old.decoder).configuration (packets_in old.scanner (old.bytes.items ++ past))) e
+  pub stops : StopsAmong (state_of first.decoder) (known_packets (state_of first.decoder).configuration (packets_in first.scanner (had ++ past))) e
 
 -- what stops it: a failed read, want of memory, or a packet that is refused
 abbrev pub StopsReceiving : Receiver → Option (List ℕ) → Option (List ℕ) → Stop → Type 0
 StopsReceiving old before after Fault = ⊤
-StopsReceiving old before after (Refused e) = (e ≡ OutOfMemory) ⊎ RefusesPackets old before after e
+StopsReceiving old before after (Refused e) =
+    (e ≡ OutOfMemory) ⊎ ((first : Receiver) (had : List ℕ) → HasTaken first old had → RefusesPackets first had before after e)
+
+-- It has seen all that stands in what was read but for the last read's bytes at most.
+pub record SeesBehind (first : Receiver) (had : List ℕ) (new : Receiver) (before after : Option (List ℕ)) : Type 0 where
+  pub past : List ℕ
+  pub last : List ℕ
+  pub read : Consumes before after (past ++ last)
+  pub few : length last ≤ chunk_length
+  pub head : new.scanner ≡ first.scanner
+  pub seen : HasSeen first new (had ++ past)
+
+abbrev pub SeesCells : Receiver → Receiver → Option (List ℕ) → Option (List ℕ) → Type 0
+SeesCells old new before after = (first : Receiver) (had : List ℕ) → HasTaken first old had → SeesBehind first had new before after

@@ -14,6 +14,19 @@ pub record SeesBefore (greatest : ℕ) (name bytes : List ℕ) (n : ℕ) (seen :
   pub damaged : seen.damaged ≡ counted (damaged_before greatest name bytes n)
   pub others : seen.others ≡ counted (unwanted_before greatest name bytes n)
 
+-- No wanted cell is whole in these bytes, in all of which this was seen.
+pub record SeesNoWanted (greatest : ℕ) (name bytes : List ℕ) (seen : Seen) : Type 0 where
+  pub none : NoneBefore greatest name bytes (length bytes)
+  pub seen_there : SeesBefore greatest name bytes (length bytes) seen
+
+-- So it is in what was read but for the last read's bytes at most.
+pub record SeesNoneYet (greatest : ℕ) (name : List ℕ) (before after : Option (List ℕ)) (seen : Seen) : Type 0 where
+  pub past : List ℕ
+  pub last : List ℕ
+  pub read : Consumes before after (past ++ last)
+  pub few : length last ≤ chunk_length
+  pub sees : SeesNoWanted greatest name past seen
+
 -- A wanted cell was whole in what was read, and none before the last read, which brought so many bytes. What is kept are the bytes from that cell on.
 pub record FindsFirst (greatest : ℕ) (name : List ℕ) (before after : Option (List ℕ)) (n : ℕ) (h : Head) (kept : List ℕ) (s : Seen) : Type 0 where
   pub earlier : List ℕ
@@ -36,7 +49,7 @@ pub record FindsNone (greatest : ℕ) (name : List ℕ) (before after : Option (
   pub none : NoneBefore greatest name past (length past)
   pub seen : SeesBefore greatest name past (length past) s
 
--- what a search through all that is read finds
-abbrev pub Searches : ℕ → List ℕ → Option (List ℕ) → Option (List ℕ) → ℕ → Option Found × Seen → Type 0
-Searches greatest name before after n (Some found, seen) = FindsFirst greatest name before after n found.head found.bytes.items seen
-Searches greatest name before after n (None, seen) = FindsNone greatest name before after seen
+-- what a search through all that is read finds, in which this was seen where it finds none
+abbrev pub Searches : ℕ → List ℕ → Option (List ℕ) → Option (List ℕ) → ℕ → Seen → Option Found → Type 0
+Searches greatest name before after n seen (Some found) = FindsFirst greatest name before after n found.head found.bytes.items found.seen
+Searches greatest name before after n seen None = FindsNone greatest name before after seen

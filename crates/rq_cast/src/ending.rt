@@ -16,8 +16,8 @@ pub enum ProgramEnd {
     Unasked,
     /// It has sent an object, but for so many cells that were lost.
     Sent(u64),
-    /// It has received.
-    Received(Ending, Seen),
+    /// It has received, and seen so much, also where something stopped it.
+    Received(Result<Ending, Stop>, Seen),
     /// Something stopped it.
     Stopped(Stop),
 }
@@ -56,7 +56,10 @@ pub fn report<W: Write>(ended: &ProgramEnd, out: &mut W) -> u8
         ProgramEnd::Received(ending, seen) => {
             let _ = write_count("damaged", seen.damaged, out);
             let _ = write_count("other", seen.others, out);
-            report_ending(*ending, out)
+            match ending {
+                Ok(ending) => report_ending(*ending, out),
+                Err(stop) => report_stop(*stop, out),
+            }
         }
         ProgramEnd::Stopped(stop) => report_stop(*stop, out),
     }

@@ -25,6 +25,7 @@ pub use missing::missing_packets;
 pub use output::Output;
 pub use preparing::read_sender;
 pub use progress::{Progress, Silent};
+pub use reading::Wanted;
 pub use receiver::Seen;
 pub use run::{Ending, run_receive};
 pub use sending::{Pace, Sender};

@@ -1,11 +1,11 @@
 //! How bytes are read until cells stand among them.
-ghost use Rattle.std.specs.Prelude.{◌≡◌, ◌+◌, ◌^◌, ◌-◌, ◌<◌, ◌≤◌, length, drop, IfOk, IfErr};
+ghost use Rattle.std.specs.Prelude.{◌≡◌, ◌+◌, ◌^◌, ◌-◌, ◌<◌, ◌≤◌, length, drop, IfOk, IfErr, OnErr};
 ghost use Rattle.rq_standard.specs.TableRows.{greatest_size};
 ghost use Rattle.rq_streams.specs.Counted.{failed_count};
 ghost use Rattle.rq_streams.specs.Ends.{failed_calls};
 ghost use Rattle.rq_cast.specs.Input.{counted_of, source, last_length};
-ghost use Rattle.rq_cast.specs.Reading.{Reads, IsStopOfReads};
-ghost use Rattle.rq_cast.specs.Searching.{Searches};
+ghost use Rattle.rq_cast.specs.Reading.{Reads, ReadsFew, IsStopOfReads};
+ghost use Rattle.rq_cast.specs.Searching.{Searches, SeesNoneYet};
 
 use crate::input::Input;
 use crate::progress::Progress;
@@ -31,6 +31,8 @@ pub(crate) fn read_more<R: Read>(
     ensures last { IfOk result (λ n. last_length input.new ≡ n) }
     ensures counts { failed_count (counted_of input.new) ≡ failed_count (counted_of input.old) + failed_calls result }
     ensures stops { IfErr result IsStopOfReads }
+    ensures few { ReadsFew (R.remaining (source input.old)) (R.remaining (source input.new)) }
+    ensures still { OnErr result (bytes.new.items ≡ bytes.old.items) }
 {
     let Ok(n) = input.read(chunk) else {
         return Err(Stop::Fault);
@@ -49,50 +51,64 @@ pub(crate) fn remove_front(bytes: &mut Vec<u8>, n: usize)
     bytes.truncate(kept);
 }
 
-/// The object that is received, and what was read from its first cell on.
+/// What is wanted: objects whose configuration coders take over a table, and whose name and configuration
+/// begin with some bytes.
+#[derive(Clone, Copy)]
+pub struct Wanted<'a> {
+    /// The table.
+    pub table: &'a SystematicTable,
+    /// How name and configuration begin: any do where there are no bytes.
+    pub name: &'a [u8],
+}
+
+/// The object that is received, what was read from its first cell on, and what was seen before that.
 #[derive(Debug, PartialEq, Eq, Drop)]
 pub(crate) struct Found {
     pub head: Head,
     pub bytes: Vec<u8>,
+    pub seen: Seen,
 }
 
-/// Reads until a wanted cell is whole, at whatever place, or to the end. Answers beside it which heads
-/// were seen before it, or in all that was read.
+/// Reads until a wanted cell is whole, at whatever place, or to the end. `seen` becomes what was seen in
+/// all that was read but the last bytes, which made that cell whole, or in all where there is none.
 pub(crate) fn find<R: Read, P: Progress>(
     alloc: Global,
-    table: &SystematicTable,
-    name: &[u8],
+    wanted: &Wanted<'_>,
     input: &mut Input<R>,
+    seen: &mut Seen,
     progress: &mut P,
-) -> Result<(Option<Found>, Seen), Stop>
+) -> Result<Option<Found>, Stop>
     requires { failed_count (counted_of input.old) < 2 ^ 64 - 1 }
-    ensures searches { IfOk result (Searches (greatest_size table.now) name.now (R.remaining (source input.old)) (R.remaining (source input.new))
-        (last_length input.new)) }
+    ensures searches { IfOk result (Searches (greatest_size wanted.now.table.now) wanted.now.name.now (R.remaining (source input.old))
+        (R.remaining (source input.new)) (last_length input.new) seen.new) }
+    ensures sees { SeesNoneYet (greatest_size wanted.now.table.now) wanted.now.name.now (R.remaining (source input.old))
+        (R.remaining (source input.new)) seen.new }
     ensures counts { failed_count (counted_of input.new) ≡ failed_count (counted_of input.old) + failed_calls result }
     ensures stops { IfErr result IsStopOfReads }
 {
     let mut chunk = [0u8; CHUNK];
     let mut bytes = Vec::new(alloc);
     let mut settled = Seen::default();
-    let mut seen = settled;
+    *seen = settled;
     // More reads than these are never made.
     'reading: for _reads in 0..u64::MAX {
         let n = read_more(input, &mut chunk, &mut bytes)?;
         if n == 0 {
-            return Ok((None, seen));
+            return Ok(None);
         }
-        progress.tell(n, &seen, None);
-        match first_wanted(alloc, table, name, bytes.as_slice())? {
+        progress.tell(n, seen, None);
+        match first_wanted(alloc, wanted.table, wanted.name, bytes.as_slice())? {
             Search::Found { at, head, before } => {
                 remove_front(&mut bytes, at);
-                return Ok((Some(Found { head, bytes }), settled.with(before)));
+                let seen = settled.with(before);
+                return Ok(Some(Found { head, bytes, seen }));
             }
             Search::NotYet { from, before, all } => {
                 remove_front(&mut bytes, from);
-                seen = settled.with(all);
+                *seen = settled.with(all);
                 settled = settled.with(before);
             }
         }
     }
-    Ok((None, seen))
+    Ok(None)
 }

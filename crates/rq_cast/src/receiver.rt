@@ -1,5 +1,5 @@
 //! What a receiver does with an object's cells.
-ghost use Rattle.std.specs.Prelude.{◌≡◌, ◌+◌, ◌^◌, ◌-◌, ◌<◌, OnOk, IfOk, IfErr};
+ghost use Rattle.std.specs.Prelude.{◌≡◌, ◌+◌, ◌^◌, ◌-◌, ◌<◌, OnOk, OnErr, IfOk, IfErr};
 ghost use Rattle.rq_bytes.specs.Refusals.{IsRefusal};
 ghost use Rattle.rq_standard.specs.TableRows.{greatest_size};
 ghost use Rattle.rq_base.specs.RefusedInput.{checked_configuration};
@@ -8,7 +8,7 @@ ghost use Rattle.rq_cast.specs.Taken.{known_packets, unknown_count, TakesAll, St
 ghost use Rattle.rq_streams.specs.Counted.{failed_count};
 ghost use Rattle.rq_streams.specs.Ends.{failed_calls};
 ghost use Rattle.rq_cast.specs.Input.{counted_of, source, last_length};
-ghost use Rattle.rq_cast.specs.Receiving.{SeesHeads, SeesAll, IsNewReceiver, TakesCells, StopsInCells, Receives, StopsReceiving};
+ghost use Rattle.rq_cast.specs.Receiving.{SeesHeads, SeesAll, SeesNothingMore, IsNewReceiver, HasBegun, StopsBeginning, TakesCells, StopsInCells, Receives, StopsReceiving, SeesCells};
 
 use crate::input::Input;
 use crate::progress::Progress;
@@ -75,18 +75,12 @@ fn add_packets(decoder: &mut Decoder, packets: Vec<EncodingPacket>) -> Result<us
 }
 
 impl Receiver {
-    /// A receiver of the object that was found, and of what was read from its first cell on, with what
-    /// was seen before that.
-    pub fn new(
-        alloc: Global,
-        table: &SystematicTable,
-        found: Found,
-        seen: Seen,
-    ) -> Result<Receiver, Error>
-        ensures made { IfOk result (IsNewReceiver table.now found seen) }
+    // A receiver of the object that was found, which has taken nothing yet.
+    fn empty(alloc: Global, table: &SystematicTable, found: Found) -> Result<Receiver, Error>
+        ensures made { IfOk result (IsNewReceiver table.now found) }
         ensures refused { IfErr result (λ e. IsRefusal e (checked_configuration (greatest_size table.now) found.head.configuration)) }
     {
-        let Found { head, bytes } = found;
+        let Found { head, bytes, seen } = found;
         let decoder = Decoder::new(alloc, table, head.configuration)?;
         let scanner = CellScanner::new(alloc, head)?;
         Ok(Receiver {
@@ -97,10 +91,23 @@ impl Receiver {
         })
     }
 
-    /// Takes the cells that are whole in what was read, and keeps what may still become cells.
-    pub fn take_cells(&mut self, alloc: Global) -> Result<(), Error>
+    /// A receiver of the object that was found, which has taken the cells that are whole in what was read
+    /// from its first cell on.
+    pub fn new(alloc: Global, table: &SystematicTable, found: Found) -> Result<Receiver, Error>
+        ensures begun { IfOk result (HasBegun table.now found) }
+        ensures stops { IfErr result (StopsBeginning table.now found) }
+    {
+        let mut receiver = Receiver::empty(alloc, table, found)?;
+        receiver.take_cells(alloc)?;
+        Ok(receiver)
+    }
+
+    // Takes the cells that are whole in what was read, and keeps what may still become cells. Where that
+    // stops, it has seen and keeps what it had.
+    fn take_cells(&mut self, alloc: Global) -> Result<(), Error>
         ensures takes { OnOk result (TakesCells self.old self.new) }
         ensures stops { IfErr result (StopsInCells self.old) }
+        ensures still { OnErr result (SeesNothingMore self.old self.new) }
     {
         let scan = self.scanner.scan(alloc, self.bytes.as_slice())?;
         let packets = scan.packets.len();
@@ -122,8 +129,9 @@ impl Receiver {
     }
 }
 
-/// Takes cells until they determine the object, or to the end of the input. Answers whether they do.
-pub(crate) fn receive<R: Read, P: Progress>(
+// Reads and takes cells until they determine the object, or to the end of the input. Answers whether they
+// do. Where that stops, the receiver has seen what it had before the last read.
+fn take_until_complete<R: Read, P: Progress>(
     alloc: Global,
     input: &mut Input<R>,
     receiver: &mut Receiver,
@@ -133,21 +141,50 @@ pub(crate) fn receive<R: Read, P: Progress>(
     ensures receives { IfOk result (Receives receiver.old receiver.new (R.remaining (source input.old)) (R.remaining (source input.new))
         (last_length input.old) (last_length input.new)) }
     ensures stops { IfErr result (StopsReceiving receiver.old (R.remaining (source input.old)) (R.remaining (source input.new))) }
+    ensures sees { OnErr result (SeesCells receiver.old receiver.new (R.remaining (source input.old)) (R.remaining (source input.new))) }
     ensures counts { failed_count (counted_of input.new) ≡ failed_count (counted_of input.old) + failed_calls result }
 {
     let mut chunk = [0u8; CHUNK];
-    receiver.take_cells(alloc)?;
     // More reads than these are never made.
     'reading: for _reads in 0..u64::MAX {
         if receiver.decoder.is_complete() {
             return Ok(true);
         }
+        let kept = receiver.bytes.len();
         let n = read_more(input, &mut chunk, &mut receiver.bytes)?;
         if n == 0 {
             return Ok(false);
         }
         progress.tell(n, &receiver.seen, Some(&receiver.decoder));
-        receiver.take_cells(alloc)?;
+        match receiver.take_cells(alloc) {
+            Ok(()) => {}
+            Err(refusal) => {
+                receiver.bytes.truncate(kept);
+                return Err(Stop::from(refusal));
+            }
+        }
     }
     Ok(receiver.decoder.is_complete())
+}
+
+/// Reads and takes cells until they determine the object, or to the end of the input. Answers whether
+/// they do. `seen` becomes what was seen, also where that stops: but for the bytes of the last read.
+pub(crate) fn receive<R: Read, P: Progress>(
+    alloc: Global,
+    input: &mut Input<R>,
+    receiver: &mut Receiver,
+    seen: &mut Seen,
+    progress: &mut P,
+) -> Result<bool, Stop>
+    requires { failed_count (counted_of input.old) < 2 ^ 64 - 1 }
+    ensures receives { IfOk result (Receives receiver.old receiver.new (R.remaining (source input.old)) (R.remaining (source input.new))
+        (last_length input.old) (last_length input.new)) }
+    ensures stops { IfErr result (StopsReceiving receiver.old (R.remaining (source input.old)) (R.remaining (source input.new))) }
+    ensures sees { OnErr result (SeesCells receiver.old receiver.new (R.remaining (source input.old)) (R.remaining (source input.new))) }
+    ensures seen { SeesAll receiver.new seen.new }
+    ensures counts { failed_count (counted_of input.new) ≡ failed_count (counted_of input.old) + failed_calls result }
+{
+    let complete = take_until_complete(alloc, input, receiver, progress);
+    *seen = receiver.all_seen();
+    complete
 }

@@ -9,9 +9,8 @@ use crate::input::Input;
 use crate::missing::missing_packets;
 use crate::naming::answered_name;
 use crate::progress::Progress;
-use crate::reading::find;
+use crate::reading::{Wanted, find};
 use crate::receiver::{Receiver, Seen, receive};
-use raptorq::systematic_constants::SystematicTable;
 use rq_streams::{Counted, Stop, write_object};
 use std::alloc::Global;
 use std::io::{Read, Write};
@@ -31,26 +30,25 @@ pub enum Ending {
     AnotherObject,
 }
 
-/// Reads any bytes and writes the object of the cells that stand among them. Answers beside the ending
-/// what was seen.
+/// Reads any bytes and writes the object of the cells that stand among them. `seen` becomes what was seen:
+/// in all that was read, or, where the run is stopped, in all but the bytes of the last read at most.
 ///
-/// The first wanted cell says what is received: one whose configuration coders take over the table,
-/// and whose name and configuration begin with `name`. All cells with its head are taken, at whatever
-/// place they stand. The run ends at the first read with which they determine the object, with the
-/// input still open. The object is written where its name is that of its cells. While it reads,
-/// `progress` is told how far it has come.
+/// The first wanted cell says what is received. All cells with its head are taken, at whatever place they
+/// stand. The run ends at the first read with which they determine the object, with the input still open.
+/// The object is written where its name is that of its cells. While it reads, `progress` is told how far
+/// it has come.
 ///
 /// Refuses what [`Decoder::add_new_packet`](raptorq::Decoder::add_new_packet) refuses of the cells'
 /// packets, and then nothing is written. [`Error::OutOfMemory`](raptorq::error::Error) may come at any
 /// read.
 pub fn run_receive<R: Read, W: Write, P: Progress>(
     alloc: Global,
-    table: &SystematicTable,
-    name: &[u8],
+    wanted: &Wanted<'_>,
     input: &mut Input<R>,
     writer: &mut Counted<W>,
+    seen: &mut Seen,
     progress: &mut P,
-) -> Result<(Ending, Seen), Stop>
+) -> Result<Ending, Stop>
     requires reads { failed_count (counted_of input.old) < 2 ^ 64 - 1 }
     requires writes { failed_count writer.old < 2 ^ 64 - 1 }
 
@@ -59,25 +57,23 @@ pub fn run_receive<R: Read, W: Write, P: Progress>(
         (W.contents (inner writer.old)) (W.contents (inner writer.new)) }
 
     // The object exactly where the cells determine it, and not before the last read that was made.
-    ensures ends { EndsReceiving table.now name.now result
+    ensures ends { EndsReceiving wanted.now.table.now wanted.now.name.now result seen.new
         (R.remaining (source input.old)) (R.remaining (source input.new)) (last_length input.new)
         (W.contents (inner writer.old)) (W.contents (inner writer.new)) }
 {
-    let (found, seen) = find(alloc, table, name, input, progress)?;
-    let Some(found) = found else {
-        return Ok((Ending::Incomplete { missing: None }, seen));
+    let Some(found) = find(alloc, wanted, input, seen, progress)? else {
+        return Ok(Ending::Incomplete { missing: None });
     };
     let head = found.head;
-    let mut receiver = Receiver::new(alloc, table, found, seen)?;
-    let complete = receive(alloc, input, &mut receiver, progress)?;
-    let seen = receiver.all_seen();
+    let mut receiver = Receiver::new(alloc, wanted.table, found)?;
+    let complete = receive(alloc, input, &mut receiver, seen, progress)?;
     if !complete {
         let missing = Some(missing_packets(&receiver.decoder));
-        return Ok((Ending::Incomplete { missing }, seen));
+        return Ok(Ending::Incomplete { missing });
     }
     if answered_name(&receiver.decoder) != head.name {
-        return Ok((Ending::AnotherObject, seen));
+        return Ok(Ending::AnotherObject);
     }
     write_object(writer, &receiver.decoder)?;
-    Ok((Ending::Written, seen))
+    Ok(Ending::Written)
 }

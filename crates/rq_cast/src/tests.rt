@@ -1,4 +1,4 @@
-use crate::{Ending, Input, Seen, Silent, run_receive};
+use crate::{Ending, Input, Seen, Silent, Wanted, run_receive};
 use raptorq::error::Error;
 use raptorq::systematic_constants::SystematicTable;
 use rq_streams::{Counted, Stop};
@@ -59,17 +59,29 @@ impl<'a> Read for Open<'a> {
     }
 }
 
-type Ended = (Result<(Ending, Seen), Stop>, Vec<u8>);
+type Ended = (Result<Ending, Stop>, Seen, Vec<u8>);
 
-// How a run ends, and what it writes.
+// How a run ends, what it has seen, and what it writes.
 fn received<R: Read + Drop>(alloc: Global, name: &[u8], reader: R) -> Result<Ended, Error> {
     let table = SystematicTable::built_in(alloc)?;
     let mut input = Input::new(Counted::new(reader));
     let mut out: Vec<u8> = Vec::new(alloc);
     let mut writer = Counted::new(&mut out);
-    let ended = run_receive(alloc, &table, name, &mut input, &mut writer, &mut Silent);
+    let wanted = Wanted {
+        table: &table,
+        name,
+    };
+    let mut seen = Seen::default();
+    let ended = run_receive(
+        alloc,
+        &wanted,
+        &mut input,
+        &mut writer,
+        &mut seen,
+        &mut Silent,
+    );
     drop(writer);
-    Ok((ended, out))
+    Ok((ended, seen, out))
 }
 
 fn joined(alloc: Global, parts: &[&[u8]]) -> Result<Vec<u8>, Error> {
@@ -105,8 +117,8 @@ fn cells_among_other_bytes_are_received(rt: HostRuntime) {
             rest: bytes.as_slice(),
             most,
         };
-        let (ended, out) = received(alloc, &[187, 194], reader).expect(&rt, "memory");
-        assert_eq!(rt; ended, Ok((Ending::Written, seen)));
+        let (ended, told, out) = received(alloc, &[187, 194], reader).expect(&rt, "memory");
+        assert_eq!(rt; (ended, told), (Ok(Ending::Written), seen));
         assert_eq!(rt; out.as_slice(), OBJECT.as_slice());
     }
 }
@@ -127,20 +139,35 @@ fn other_runs_write_nothing(rt: HostRuntime) {
         (b"", misnamed.as_slice(), Ending::AnotherObject, [2, 0, 0]),
     ];
     for (name, bytes, ending, [cells, damaged, others]) in cases {
-        let (ended, out) = received(alloc, name, bytes).expect(&rt, "memory");
+        let (ended, told, out) = received(alloc, name, bytes).expect(&rt, "memory");
         let seen = Seen {
             cells,
             damaged,
             others,
         };
-        assert_eq!(rt; ended, Ok((ending, seen)));
+        assert_eq!(rt; (ended, told), (Ok(ending), seen));
         assert!(rt; out.is_empty());
     }
-    let reader = Open {
-        rest: &FIRST,
-        most: 9,
+}
+
+#[test]
+fn runs_that_are_stopped_say_what_they_saw(rt: HostRuntime) {
+    let alloc = rt.alloc();
+    let mut damaged = FIRST;
+    damaged[45] ^= 1;
+    let bytes = joined(alloc, &[&FIRST_MISNAMED, &damaged, &FIRST]).expect(&rt, "bytes");
+    let seen = Seen {
+        cells: 1,
+        damaged: 1,
+        others: 1,
     };
-    let (ended, out) = received(alloc, b"", reader).expect(&rt, "memory");
-    assert_eq!(rt; ended, Err(Stop::Fault));
-    assert!(rt; out.is_empty());
+    for most in [1, 9, 65536] {
+        let reader = Open {
+            rest: bytes.as_slice(),
+            most,
+        };
+        let (ended, told, out) = received(alloc, &[187], reader).expect(&rt, "memory");
+        assert_eq!(rt; (ended, told), (Err(Stop::Fault), seen));
+        assert!(rt; out.is_empty());
+    }
 }

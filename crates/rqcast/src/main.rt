@@ -14,7 +14,8 @@ mod watch;
 use crate::pace::Pacer;
 use crate::watch::Watch;
 use rq_cast::{
-    Input, Job, Order, Output, ProgramEnd, announce, job, read_sender, report, run_receive,
+    Input, Job, Order, Output, ProgramEnd, Seen, Wanted, announce, job, read_sender, report,
+    run_receive,
 };
 use rq_rows::full_table;
 use rq_streams::{Counted, Stop};
@@ -66,19 +67,23 @@ fn send(rt: &HostRuntime, order: Order) -> Result<ProgramEnd, Stop>
 // Receives the object on standard input whose name and configuration begin with these bytes.
 fn receive(rt: &HostRuntime, name: &[u8]) -> Result<ProgramEnd, Stop> {
     let table = full_table(rt.alloc())?;
+    let wanted = Wanted {
+        table: &table,
+        name,
+    };
     let mut input = Input::new(Counted::new(rt.stdin()));
     let mut writer = Counted::new(rt.stdout());
+    let mut seen = Seen::default();
     let terminal = rt.stderr();
     let mut watch = Watch::new(rt, terminal.is_terminal().then_some(terminal));
     let ended = run_receive(
         rt.alloc(),
-        &table,
-        name,
+        &wanted,
         &mut input,
         &mut writer,
+        &mut seen,
         &mut watch,
     );
     watch.end();
-    let (ending, seen) = ended?;
-    Ok(ProgramEnd::Received(ending, seen))
+    Ok(ProgramEnd::Received(ended, seen))
 }

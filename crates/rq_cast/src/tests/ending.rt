@@ -13,25 +13,30 @@ fn endings_are_printed(rt: HostRuntime) {
         others: 3,
     };
     let none = Seen::default();
-    let incomplete = |missing| ProgramEnd::Received(Ending::Incomplete { missing }, none);
+    let incomplete = |missing| ProgramEnd::Received(Ok(Ending::Incomplete { missing }), none);
     let usage = "usage: rqcast send SIZE REPAIR [FIRST STEP [RATE]] | rqcast receive [NAME]\n";
-    let cases: [(ProgramEnd, &str, u8); 10] = [
+    let cases: [(ProgramEnd, &str, u8); 11] = [
         (ProgramEnd::Unasked, usage, 4),
         (ProgramEnd::Sent(0), "", 0),
         (ProgramEnd::Sent(3), "lost 3\n", 0),
-        (ProgramEnd::Received(Ending::Written, none), "", 0),
+        (ProgramEnd::Received(Ok(Ending::Written), none), "", 0),
         (
-            ProgramEnd::Received(Ending::AnotherObject, none),
+            ProgramEnd::Received(Ok(Ending::AnotherObject), none),
             "another object\n",
             5,
         ),
         (
-            ProgramEnd::Received(Ending::Written, seen),
+            ProgramEnd::Received(Ok(Ending::Written), seen),
             "damaged 1\nother 3\n",
             0,
         ),
         (incomplete(None), "incomplete\n", 2),
         (incomplete(Some(7)), "incomplete 7\n", 2),
+        (
+            ProgramEnd::Received(Err(Stop::Fault), seen),
+            "damaged 1\nother 3\nfault\n",
+            1,
+        ),
         (ProgramEnd::Stopped(Stop::Fault), "fault\n", 1),
         (
             ProgramEnd::Stopped(Stop::Refused(Error::Contradiction)),

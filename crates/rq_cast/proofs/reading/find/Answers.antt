@@ -2,13 +2,13 @@ use Rattle.std.proofs.Common.{◌≡◌, ◌<◌, ◌++◌, ap, subst, ◌∙◌
 use Rattle.rq_standard.specs.TableRows.{greatest_size}
 use Rattle.rq_cast.specs.Input.{source, last_length}
 use Rattle.rq_cells.specs.Wanted.{IsSearch, AreHeads, IsFirstWanted, HasNoWanted}
-use Rattle.rq_cast.proofs.Searched.{none_in_many, found_first, unfound_more}
+use Rattle.rq_cast.proofs.Searched.{none_in_many, found_first, unfound_more, sees_none_yet, reads_nothing}
 use Rattle.rq_cast.proofs.reading.find.Goals as goal
 
 pub returns-in-Found-clause-searches : goal.returns-in-Found-clause-searches
 returns-in-Found-clause-searches g c =
-    let greatest = greatest_size c.args.table.now in
-    let name = c.args.name.now in
+    let greatest = greatest_size c.args.wanted.now.table.now in
+    let name = c.args.wanted.now.name.now in
     let reads = c.in_ok-n.ensures.reads in
     let all : c.as_slice.result.now ≡ c.reading.bytes.items ++ reads.piece = c.as_slice.ensures.value ∙ reads.behind in
     let search = subst (IsSearch greatest name c.as_slice.result.now) c.in-Found.is c.in_ok-at.ensures.search in
@@ -19,13 +19,13 @@ returns-in-Found-clause-searches g c =
     (g.R.Read.remaining (source c.read_more.new.input))
     c.reading._reads c.reading.bytes.items reads.piece c.reading.settled c.reading.seen c.reading.invariant.unfound reads.taken
     (omega (arith, reads.count, reads.few)) c.in-Found.at c.in-Found.head c.remove_front.new.bytes.items first left
-    c.in-Found.before heads c.with.result c.with.ensures
+    c.in-Found.before heads c.with-seen.result c.with-seen.ensures
     (last_length c.read_more.new.input) (omega (arith, reads.count, c.in_ok-n.ensures.last)) (omega (arith, c.in_ok-n.ensures.last, c.if-n-eq0.false))
 
 pub reading-preserved : goal.reading-preserved
 reading-preserved g c =
-    let greatest = greatest_size c.args.table.now in
-    let name = c.args.name.now in
+    let greatest = greatest_size c.args.wanted.now.table.now in
+    let name = c.args.wanted.now.name.now in
     let reads = c.in_ok-n.ensures.reads in
     let all : c.as_slice.result.now ≡ c.reading.bytes.items ++ reads.piece = c.as_slice.ensures.value ∙ reads.behind in
     let none = subst (λ xs. HasNoWanted greatest name xs c.in-NotYet.from c.in-NotYet.before c.in-NotYet.all) all
@@ -38,12 +38,48 @@ reading-preserved g c =
           c.reading._reads c.reading.bytes.items reads.piece c.reading.settled c.reading.seen c.reading.invariant.unfound reads.taken
           (omega (arith, reads.count, reads.few)) c.in-NotYet.from c.remove_front-in-NotYet.new.bytes.items c.in-NotYet.before c.in-NotYet.all
           none left some
-          c.with-settled.result c.with-seen.result c.with-settled.ensures c.with-seen.ensures;
+          c.with-settled.result c.with.result c.with-settled.ensures c.with.ensures;
       counts = omega (arith, c.reading.invariant.counts, c.in_ok-n.ensures.counts);
     }
 
 pub returns-clause-searches : goal.returns-clause-searches
 returns-clause-searches g c =
-    none_in_many (greatest_size c.args.table.now) c.args.name.now (g.R.Read.remaining (source c.args.input.now)) (g.R.Read.remaining (source c.reading.input))
+    none_in_many (greatest_size c.args.wanted.now.table.now) c.args.wanted.now.name.now (g.R.Read.remaining (source c.args.input.now))
+    (g.R.Read.remaining (source c.reading.input))
     c.reading._reads c.reading.bytes.items c.reading.settled c.reading.seen c.reading.invariant.unfound
     (omega (arith, c.reading-test.false, c.reading.auto._reads-end))
+
+pub returns-in_err-n-clause-sees : goal.returns-in_err-n-clause-sees
+returns-in_err-n-clause-sees g c =
+    sees_none_yet (greatest_size c.args.wanted.now.table.now) c.args.wanted.now.name.now (g.R.Read.remaining (source c.args.input.now))
+    (g.R.Read.remaining (source c.reading.input))
+    (g.R.Read.remaining (source c.read_more.new.input)) c.reading._reads c.reading.bytes.items c.reading.settled c.reading.seen
+    c.reading.invariant.unfound c.read_more.ensures.few
+
+pub returns-then-n-eq0-clause-sees : goal.returns-then-n-eq0-clause-sees
+returns-then-n-eq0-clause-sees g c =
+    sees_none_yet (greatest_size c.args.wanted.now.table.now) c.args.wanted.now.name.now (g.R.Read.remaining (source c.args.input.now))
+    (g.R.Read.remaining (source c.reading.input))
+    (g.R.Read.remaining (source c.read_more.new.input)) c.reading._reads c.reading.bytes.items c.reading.settled c.reading.seen
+    c.reading.invariant.unfound c.read_more.ensures.few
+
+pub returns-in_err-at-clause-sees : goal.returns-in_err-at-clause-sees
+returns-in_err-at-clause-sees g c =
+    sees_none_yet (greatest_size c.args.wanted.now.table.now) c.args.wanted.now.name.now (g.R.Read.remaining (source c.args.input.now))
+    (g.R.Read.remaining (source c.reading.input))
+    (g.R.Read.remaining (source c.read_more.new.input)) c.reading._reads c.reading.bytes.items c.reading.settled c.reading.seen
+    c.reading.invariant.unfound c.read_more.ensures.few
+
+pub returns-in-Found-clause-sees : goal.returns-in-Found-clause-sees
+returns-in-Found-clause-sees g c =
+    sees_none_yet (greatest_size c.args.wanted.now.table.now) c.args.wanted.now.name.now (g.R.Read.remaining (source c.args.input.now))
+    (g.R.Read.remaining (source c.reading.input))
+    (g.R.Read.remaining (source c.read_more.new.input)) c.reading._reads c.reading.bytes.items c.reading.settled c.reading.seen
+    c.reading.invariant.unfound c.read_more.ensures.few
+
+pub returns-clause-sees : goal.returns-clause-sees
+returns-clause-sees g c =
+    sees_none_yet (greatest_size c.args.wanted.now.table.now) c.args.wanted.now.name.now (g.R.Read.remaining (source c.args.input.now))
+    (g.R.Read.remaining (source c.reading.input))
+    (g.R.Read.remaining (source c.reading.input)) c.reading._reads c.reading.bytes.items c.reading.settled c.reading.seen c.reading.invariant.unfound
+    (reads_nothing (g.R.Read.remaining (source c.reading.input)))

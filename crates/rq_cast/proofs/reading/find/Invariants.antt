@@ -6,7 +6,8 @@ use Rattle.rq_cast.proofs.reading.find.Given as goal
 -- no wanted cell is whole in what was read
 abbrev pub invariant-reading : goal.invariant-reading
 invariant-reading g l = record {
-  unfound : IsUnfound (greatest_size l.fn.table) l.fn.name (g.R.Read.remaining l.fn.input.reader.inner) (g.R.Read.remaining l.input.reader.inner)
+  unfound : IsUnfound (greatest_size l.fn.wanted.table.now) l.fn.wanted.name.now (g.R.Read.remaining l.fn.input.reader.inner)
+      (g.R.Read.remaining l.input.reader.inner)
       l._reads l.bytes.items l.settled l.seen;
   counts : l.input.reader.failed ≡ l.fn.input.reader.failed;
 }

@@ -1,87 +1,124 @@
-use Rattle.std.proofs.Common.{◌≡◌, ℕ, List, sym, subst, ◌∙◌, inl, false, Some}
+use Rattle.std.proofs.Common.{◌≡◌, ℕ, List, sym, subst, ◌∙◌, true, false, Some, Ok, Err, arith}
 use Rattle.std.proofs.KnownBytes.{Keeps-refl}
 use Rattle.std.proofs.lemmas.Result.{err_from_is_err_and}
 use Rattle.rq_standard.specs.TableRows.{greatest_size}
 use Rattle.rq_standard.specs.DecoderState.{result_of}
 use Rattle.raptorq.specs.Decoder.{state_of}
 use Rattle.rq_streams.specs.Counted.{inner}
-use Rattle.rq_cast.specs.Input.{source, last_length}
+use Rattle.rq_cast.specs.Input.{counted_of, source, last_length}
 use Rattle.rq_streams.specs.ReceivedStreams.{object_of}
 use Rattle.rq_cells.specs.Cells.{name_of}
 use Rattle.rq_cells.proofs.Beginnings.{differ, same_bytes_by}
+use Rattle.rq_cast.specs.declared.receiver.Receiver.{Receiver}
 use Rattle.rq_cast.specs.Searching.{Searches, FindsFirst}
-use Rattle.rq_cast.specs.Receiving.{Receives, EndsDetermined}
+use Rattle.rq_cast.specs.Receiving.{ReceivesBehind, EndsDetermined}
 use Rattle.rq_cast.specs.Received.{Determines}
-use Rattle.rq_cast.proofs.Ended.{only_memory, not_received, determined, undetermined, answered_object, written, not_written}
+use Rattle.rq_cast.specs.declared.run.Ending.TheVariants.{Written}
+use Rattle.rq_cast.proofs.Failing.{counted_reads, counted_writes}
+use Rattle.rq_cast.proofs.Ended.{not_found, not_begun, not_received, determined, undetermined, answered_object, written, not_written}
 use Rattle.rq_cast.proofs.run.run_receive.Goals as goal
 use Rattle.rq_cast.proofs.run.run_receive.Given.{Over}
-use Rattle.rq_cast.proofs.run.run_receive.Goals.{In-Some, After-ne}
+use Rattle.rq_cast.proofs.run.run_receive.Goals.{In-Some, In_ok-complete, After-ne}
 
 -- the first wanted cell was found
-found_first : (g : Over) (c : In-Some g) → FindsFirst (greatest_size c.args.table.now) c.args.name.now (g.R.Read.remaining (source c.args.input.now))
-    (g.R.Read.remaining (source c.find.new.input)) (last_length c.find.new.input) c.in-Some.found.head c.in-Some.found.bytes.items c.in_ok-found.seen
+found_first : (g : Over) (c : In-Some g) → FindsFirst (greatest_size c.args.wanted.now.table.now) c.args.wanted.now.name.now
+    (g.R.Read.remaining (source c.args.input.now))
+    (g.R.Read.remaining (source c.find.new.input)) (last_length c.find.new.input) c.in-Some.found.head c.in-Some.found.bytes.items c.in-Some.found.seen
 found_first g c = subst
-    (λ o. Searches (greatest_size c.args.table.now) c.args.name.now (g.R.Read.remaining (source c.args.input.now))
-    (g.R.Read.remaining (source c.find.new.input)) (last_length c.find.new.input) (o, c.in_ok-found.seen)) c.in-Some.is c.in_ok-found.ensures.searches
+    (λ o. Searches (greatest_size c.args.wanted.now.table.now) c.args.wanted.now.name.now (g.R.Read.remaining (source c.args.input.now))
+    (g.R.Read.remaining (source c.find.new.input)) (last_length c.find.new.input) c.find.new.seen o) c.in-Some.is c.in_ok-found.ensures.searches
+
+pub returns-in_err-found-clause-ends : goal.returns-in_err-found-clause-ends
+returns-in_err-found-clause-ends g c =
+    let p = err_from_is_err_and c.from_residual.result c.from_residual.ensures.1 in
+    rw (p.1, p.2)
+    (not_found c.args.wanted.now.table.now c.args.wanted.now.name.now (g.R.Read.remaining (source c.args.input.now))
+    (g.R.Read.remaining (source c.find.new.input))
+    c.find.new.seen c.find.ensures.sees (last_length c.find.new.input) (g.W.Write.contents (inner c.args.writer.now)) c.in_err-found.field-0.0
+    c.in_err-found.ensures.stops)
 
 pub returns-in_err-receiver-clause-ends : goal.returns-in_err-receiver-clause-ends
 returns-in_err-receiver-clause-ends g c =
     let first = found_first g (goal.at.returns-in_err-receiver-clause-ends g c).In-Some in
     let p = err_from_is_err_and c.from_residual-in_err-receiver.result c.from_residual-in_err-receiver.ensures.1 in
-    let memory = only_memory c.args.table.now c.args.name.now (g.R.Read.remaining (source c.args.input.now))
-    (g.R.Read.remaining (source c.find.new.input)) c.in-Some.found c.in_ok-found.seen (last_length c.find.new.input) first
-    c.in_err-receiver.field-0.0 c.in_err-receiver.ensures.refused in
-    rw (p.1, p.2) (inl memory, Keeps-refl (g.W.Write.contents (inner c.args.writer.now)))
+    rw (p.1, p.2)
+    (not_begun c.args.wanted.now.table.now c.args.wanted.now.name.now (g.R.Read.remaining (source c.args.input.now))
+    (g.R.Read.remaining (source c.find.new.input))
+    c.in-Some.found (last_length c.find.new.input) first c.find.new.seen c.find.ensures.sees (g.W.Write.contents (inner c.args.writer.now))
+    c.in_err-receiver.field-0.0 c.in_err-receiver.ensures.stops)
 
 pub returns-in_err-complete-clause-ends : goal.returns-in_err-complete-clause-ends
 returns-in_err-complete-clause-ends g c =
     let first = found_first g (goal.at.returns-in_err-complete-clause-ends g c).In-Some in
+    let begun = c.in_ok-receiver.ensures.begun in
     let p = err_from_is_err_and c.from_residual-in_err-complete.result c.from_residual-in_err-complete.ensures.1 in
+    let sees = c.in_err-complete.ensures.sees begun.first begun.first.bytes.items begun.taken in
     rw (p.1, p.2)
-    (not_received c.args.table.now c.args.name.now (g.R.Read.remaining (source c.args.input.now)) (g.R.Read.remaining (source c.find.new.input))
-    (g.R.Read.remaining (source c.receive.new.input))
-    c.in-Some.found c.in_ok-found.seen (last_length c.find.new.input) first c.in_ok-receiver.receiver c.in_ok-receiver.ensures.made
-    (last_length c.receive.new.input) (g.W.Write.contents (inner c.args.writer.now)) c.in_err-complete.field-0.0 c.in_err-complete.ensures.stops)
+    (not_received c.args.wanted.now.table.now c.args.wanted.now.name.now (g.R.Read.remaining (source c.args.input.now))
+    (g.R.Read.remaining (source c.find.new.input))
+    (g.R.Read.remaining (source c.receive.new.input)) c.in-Some.found (last_length c.find.new.input) first begun.first begun.made
+    (last_length c.receive.new.input) (g.W.Write.contents (inner c.args.writer.now)) c.receive.new.receiver c.receive.new.seen c.receive.ensures.seen sees
+    c.in_ok-receiver.receiver begun.taken c.in_err-complete.field-0.0 c.in_err-complete.ensures.stops)
 
 pub returns-then-not-complete-clause-ends : goal.returns-then-not-complete-clause-ends
 returns-then-not-complete-clause-ends g c =
     let first = found_first g (goal.at.returns-then-not-complete-clause-ends g c).In-Some in
+    let begun = c.in_ok-receiver.ensures.begun in
     let mid = g.R.Read.remaining (source c.find.new.input) in
     let after = g.R.Read.remaining (source c.receive.new.input) in
     let ended = subst
-    (Receives c.in_ok-receiver.receiver c.receive.new.receiver mid after (last_length c.find.new.input) (last_length c.receive.new.input))
-    c.if-not-complete.true c.in_ok-complete.ensures.receives in (
-      undetermined c.args.table.now c.args.name.now (g.R.Read.remaining (source c.args.input.now)) mid after c.in-Some.found c.in_ok-found.seen
-          (last_length c.find.new.input) first c.in_ok-receiver.receiver c.in_ok-receiver.ensures.made c.receive.new.receiver c.missing_packets.result
-          c.missing_packets.ensures c.all_seen-seen.result c.all_seen-seen.ensures ended,
+    (ReceivesBehind begun.first begun.first.bytes.items c.receive.new.receiver mid after (last_length c.find.new.input) (last_length c.receive.new.input))
+    c.if-not-complete.true (c.in_ok-complete.ensures.receives begun.first begun.first.bytes.items begun.taken) in (
+      undetermined c.args.wanted.now.table.now c.args.wanted.now.name.now (g.R.Read.remaining (source c.args.input.now)) mid after c.in-Some.found
+          (last_length c.find.new.input) first begun.first begun.made c.receive.new.receiver c.missing_packets.result
+          c.missing_packets.ensures c.receive.new.seen c.receive.ensures.seen ended,
       Keeps-refl (g.W.Write.contents (inner c.args.writer.now)),
     )
+
+-- the object is determined
+ended_by : (g : Over) (c : In_ok-complete g) → c.in_ok-complete.complete ≡ true
+    → EndsDetermined c.in_ok-receiver.ensures.begun.first c.in_ok-receiver.ensures.begun.first.bytes.items c.receive.new.receiver
+    (g.R.Read.remaining (source c.find.new.input)) (g.R.Read.remaining (source c.receive.new.input)) (last_length c.find.new.input)
+    (last_length c.receive.new.input)
+ended_by g c is =
+    let begun = c.in_ok-receiver.ensures.begun in
+    subst
+    (ReceivesBehind begun.first begun.first.bytes.items c.receive.new.receiver (g.R.Read.remaining (source c.find.new.input))
+    (g.R.Read.remaining (source c.receive.new.input)) (last_length c.find.new.input) (last_length c.receive.new.input)) is
+    (c.in_ok-complete.ensures.receives begun.first begun.first.bytes.items begun.taken)
+
+pub answered_name-requires : goal.answered_name-requires
+answered_name-requires g c = (ended_by g (goal.at.answered_name-requires g c).In_ok-complete c.if-not-complete.false).determined
 
 -- the cells determine an object
 module _ (g : Over) (c : After-ne g) where
   abbrev object : List ℕ
   object = object_of c.receive.new.receiver.decoder
 
-  ended : EndsDetermined c.in_ok-receiver.receiver c.receive.new.receiver (g.R.Read.remaining (source c.find.new.input))
+  abbrev first : Receiver
+  first = c.in_ok-receiver.ensures.begun.first
+
+  ended : EndsDetermined first first.bytes.items c.receive.new.receiver (g.R.Read.remaining (source c.find.new.input))
       (g.R.Read.remaining (source c.receive.new.input)) (last_length c.find.new.input) (last_length c.receive.new.input)
-  ended = subst
-      (Receives c.in_ok-receiver.receiver c.receive.new.receiver (g.R.Read.remaining (source c.find.new.input))
+  ended =
+      subst
+      (ReceivesBehind first first.bytes.items c.receive.new.receiver (g.R.Read.remaining (source c.find.new.input))
       (g.R.Read.remaining (source c.receive.new.input)) (last_length c.find.new.input) (last_length c.receive.new.input)) c.if-not-complete.false
-      c.in_ok-complete.ensures.receives
+      (c.in_ok-complete.ensures.receives first first.bytes.items c.in_ok-receiver.ensures.begun.taken)
 
   answer_is : result_of (state_of c.receive.new.receiver.decoder) ≡ Some object
   answer_is = answered_object (result_of (state_of c.receive.new.receiver.decoder)) ended.determined
 
-  found_object : Determines c.args.table.now c.args.name.now (g.R.Read.remaining (source c.args.input.now))
-      (g.R.Read.remaining (source c.receive.new.input)) (last_length c.receive.new.input) c.in-Some.found.head object c.all_seen-seen.result
+  found_object : Determines c.args.wanted.now.table.now c.args.wanted.now.name.now (g.R.Read.remaining (source c.args.input.now))
+      (g.R.Read.remaining (source c.receive.new.input)) (last_length c.receive.new.input) c.in-Some.found.head object c.receive.new.seen
   found_object =
-      let first = subst
-      (λ o. Searches (greatest_size c.args.table.now) c.args.name.now (g.R.Read.remaining (source c.args.input.now))
-      (g.R.Read.remaining (source c.find.new.input)) (last_length c.find.new.input) (o, c.in_ok-found.seen)) c.in-Some.is c.in_ok-found.ensures.searches in
-      determined c.args.table.now c.args.name.now (g.R.Read.remaining (source c.args.input.now)) (g.R.Read.remaining (source c.find.new.input))
-      (g.R.Read.remaining (source c.receive.new.input))
-      c.in-Some.found c.in_ok-found.seen (last_length c.find.new.input) first c.in_ok-receiver.receiver c.in_ok-receiver.ensures.made
-      c.receive.new.receiver object c.all_seen-seen.result (last_length c.receive.new.input) c.all_seen-seen.ensures ended answer_is
+      let is = subst
+      (Searches (greatest_size c.args.wanted.now.table.now) c.args.wanted.now.name.now (g.R.Read.remaining (source c.args.input.now))
+      (g.R.Read.remaining (source c.find.new.input)) (last_length c.find.new.input) c.find.new.seen) c.in-Some.is c.in_ok-found.ensures.searches in
+      determined c.args.wanted.now.table.now c.args.wanted.now.name.now (g.R.Read.remaining (source c.args.input.now))
+      (g.R.Read.remaining (source c.find.new.input)) (g.R.Read.remaining (source c.receive.new.input))
+      c.in-Some.found (last_length c.find.new.input) is first c.in_ok-receiver.ensures.begun.made
+      c.receive.new.receiver object c.receive.new.seen (last_length c.receive.new.input) c.receive.ensures.seen ended answer_is
 
 pub returns-then-ne-clause-ends : goal.returns-then-ne-clause-ends
 returns-then-ne-clause-ends g c =
@@ -118,7 +155,30 @@ returns-in_err-write_object-clause-ends g c =
     let then = g.W.Write.contents (inner c.write_object.new.writer) in
     let answer = result_of (state_of c.receive.new.receiver.decoder) in
     let p = err_from_is_err_and c.from_residual-in_err-write_object.result c.from_residual-in_err-write_object.ensures.1 in
-    rw (p.1, p.2) (not_written answer (object g at) (answer_is g at) there then c.args.table.now c.args.name.now
+    rw (p.1, p.2) (not_written answer (object g at) (answer_is g at) there then c.args.wanted.now.table.now c.args.wanted.now.name.now
     (g.R.Read.remaining (source c.args.input.now)) (g.R.Read.remaining (source c.receive.new.input)) (last_length c.receive.new.input)
-    c.in-Some.found.head c.all_seen-seen.result (found_object g at) (named g at c.if-ne.false)
+    c.in-Some.found.head c.receive.new.seen (found_object g at) (named g at c.if-ne.false)
     c.in_err-write_object.field-0.0 c.in_err-write_object.ensures.ends)
+
+-- ---- failed calls
+
+pub returns-in_err-complete-clause-failures : goal.returns-in_err-complete-clause-failures
+returns-in_err-complete-clause-failures g c =
+    let p = err_from_is_err_and c.from_residual-in_err-complete.result c.from_residual-in_err-complete.ensures.1 in
+    rw (p.1, p.2)
+    (counted_reads (counted_of c.args.input.now) (counted_of c.receive.new.input) c.args.writer.now (Err c.in_err-complete.field-0.0)
+    (g.W.Write.contents (inner c.args.writer.now)) (omega (arith, c.in_ok-found.ensures.counts, c.in_err-complete.ensures.counts)))
+
+pub returns-in_err-write_object-clause-failures : goal.returns-in_err-write_object-clause-failures
+returns-in_err-write_object-clause-failures g c =
+    let p = err_from_is_err_and c.from_residual-in_err-write_object.result c.from_residual-in_err-write_object.ensures.1 in
+    rw (p.1, p.2)
+    (counted_writes (counted_of c.args.input.now) (counted_of c.receive.new.input) c.args.writer.now c.write_object.new.writer
+    (Err c.in_err-write_object.field-0.0) (g.W.Write.contents (inner c.args.writer.now)) (g.W.Write.contents (inner c.write_object.new.writer))
+    (omega (arith, c.in_ok-found.ensures.counts, c.in_ok-complete.ensures.counts)) c.in_err-write_object.ensures.counts)
+
+pub returns-clause-failures : goal.returns-clause-failures
+returns-clause-failures g c =
+    counted_writes (counted_of c.args.input.now) (counted_of c.receive.new.input) c.args.writer.now c.write_object.new.writer
+    (Ok Written) (g.W.Write.contents (inner c.args.writer.now)) (g.W.Write.contents (inner c.write_object.new.writer))
+    (omega (arith, c.in_ok-found.ensures.counts, c.in_ok-complete.ensures.counts)) c.in_ok-write_object.ensures.counts
