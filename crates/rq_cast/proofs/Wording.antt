@@ -1,7 +1,7 @@
 -- Numbers among the program's words.
 use Rattle.std.proofs.Common.{◌≡◌, inl, inr, ℕ, ◌*◌, ◌^◌, ◌<◌, ◌≤◌, ◌-◌, ◌==◌, Bool, true, false, cond, refl, sym, ap, ◌∙◌, subst, arith}
 use Rattle.std.proofs.Common.{drop, take, Vec, slice_index, map, get_or, Global, List, [], ◌∷◌, ◌++◌, length, Option, Some, None, Result, Ok, Err}
-use Rattle.std.specs.Prelude.{codes, option_map, string_bytes}
+use Rattle.std.specs.Prelude.{codes, option_map, string_bytes, IsSomeAnd}
 use Rattle.std.specs.declared.string.String.{String}
 use Rattle.std.proofs.lemmas.List.{take_rest}
 use Rattle.std.specs.Option.{MatchOption, SomeIff}
@@ -12,10 +12,11 @@ use Rattle.std.specs.Char.{digit_value}
 use Rattle.std.specs.Str.Parse.{AllDigits, ParsesUnsigned, IsNumeral, without_leading_plus}
 use Rattle.rq_cast.specs.declared.jobs.Ids.{Ids}
 use Rattle.rq_cast.specs.declared.jobs.Order.{Order}
+use Rattle.rq_cast.specs.declared.jobs.Job.TheVariants.{Send, Receive}
 use Rattle.rq_cast.specs.declared.series.Repair.{Repair}
 use Rattle.rq_cast.specs.declared.series.Repair.TheVariants.{Packets, Percent, All}
 use Rattle.rq_streams.specs.Asked.{IsNumberOf}
-use Rattle.rq_cast.specs.Asked.{IsSplit, IsRate, IsRepair, IsSize, IsId, IsStep, AsksForIds, AsksForOrder, AsksForName, AsksToSend, AsksToReceive}
+use Rattle.rq_cast.specs.Asked.{IsSplit, IsRate, IsRepair, IsSize, IsId, IsStep, AsksForIds, AsksForOrder, AsksForName, AsksToSend, AsksToReceive, IsJobOf, StepsOn}
 
 abbrev wanted : ℕ → Option ℕ
 wanted n = Some n
@@ -394,3 +395,26 @@ order_steps o (s ∷ r ∷ first ∷ []) h = absurd h.2
 order_steps o (s ∷ r ∷ first ∷ step ∷ []) h = h.2.1.1
 order_steps o (s ∷ r ∷ first ∷ step ∷ rate ∷ []) h = h.2.1.1
 order_steps o (s ∷ r ∷ first ∷ step ∷ rate ∷ word ∷ words) h = absurd h.2
+
+-- what a function makes of an option's value
+pub mapped : {X Y : Type 0} (f : X → Y) (P : X → Y → Type 0) (o : Option X) (r : Option Y) → MatchOption o (r ≡ None) (λ x. IsSomeAnd r (P x))
+    → ((x : X) (y : Y) → P x y → y ≡ f x) → r ≡ option_map f o
+mapped f P None r none same = none
+mapped f P (Some x) (Some y) made same = ap (λ z. Some z) (same x y made)
+mapped f P (Some x) None made same = absurd made
+
+-- Behind a verb stands what all words ask for.
+pub asks_to_send : (words behind : List (List ℕ)) → words ≡ codes "send" ∷ behind → (asked : Option Order)
+    → ((o : Order) → (asked ≡ Some o → AsksForOrder o behind) × (AsksForOrder o behind → asked ≡ Some o)) → IsJobOf (option_map Send asked) words
+asks_to_send words behind is None known = (asks_no_order words behind is None refl known, not_to_receive words behind is)
+asks_to_send words behind is (Some order) known = (behind, is, (known order).0 refl)
+
+pub asks_to_receive : (words behind : List (List ℕ)) → words ≡ codes "receive" ∷ behind → (asked : Option (Vec ℕ Global))
+    → MatchOption asked ((name : List ℕ) → AsksForName name behind → ⊥) (λ v. AsksForName v.items behind) → IsJobOf (option_map Receive asked) words
+asks_to_receive words behind is None known = (not_to_send words behind is, asks_no_name words behind is None refl known)
+asks_to_receive words behind is (Some name) known = (behind, is, known)
+
+pub sending_steps : (behind : List (List ℕ)) (asked : Option Order) → ((o : Order) → (asked ≡ Some o → AsksForOrder o behind) × (AsksForOrder o behind → asked ≡ Some o))
+    → StepsOn (option_map Send asked)
+sending_steps behind None known = tt
+sending_steps behind (Some order) known = order_steps order behind ((known order).0 refl)

@@ -43,10 +43,7 @@ pub(crate) fn rate_of(text: &str) -> Option<u64>
     ensures { (n : ℕ) → (result ≡ Some n) ↔ IsRate text.now n }
 {
     let (number, unit) = split_unit(text);
-    let count = match long_number(number) {
-        Some(count) => count,
-        None => return None,
-    };
+    let count = long_number(number)?;
     match count.checked_mul(unit) {
         Some(rate) if rate > 0 => Some(rate),
         _ => None,

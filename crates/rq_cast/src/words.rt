@@ -67,14 +67,10 @@ pub fn job(alloc: Global, words: &[String]) -> Result<Option<Job>, AllocError>
     ensures steps { IfOk result StepsOn }
 {
     match words {
-        [verb, order @ ..] if verb.as_str() == "send" => match order_of(order) {
-            Some(order) => Ok(Some(Job::Send(order))),
-            None => Ok(None),
-        },
-        [verb, name @ ..] if verb.as_str() == "receive" => match name_of(alloc, name)? {
-            Some(name) => Ok(Some(Job::Receive(name))),
-            None => Ok(None),
-        },
+        [verb, order @ ..] if verb.as_str() == "send" => Ok(order_of(order).map(Job::Send)),
+        [verb, name @ ..] if verb.as_str() == "receive" => {
+            Ok(name_of(alloc, name)?.map(Job::Receive))
+        }
         _ => Ok(None),
     }
 }
