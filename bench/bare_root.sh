@@ -46,7 +46,7 @@ loss_demo() {
 # Sends the licence as cells, cuts some of them out and receives it: RQCAST..
 cell_demo() {
     "$@" send 300 20% <LICENSE >cells 2>/dev/null
-    (head -c 5000 cells && tail -c +5500 cells) | "$@" receive >back
+    (head -c 5000 cells && tail -c +5500 cells) | "$@" receive >back 2>told || { cat told >&2 && failed "cells weren't received"; }
     cmp LICENSE back
 }
 
