@@ -1,7 +1,7 @@
 // MB/s of the library that is installed in PREFIX, of blocks of K symbols of T bytes.
 //
 //     cc -O2 -IPREFIX/include bench/rates.c PREFIX/lib/libreamertan.a -o rates
-//     taskset -c 1 ./rates ROUNDS
+//     taskset -c 1 ./rates ROUNDS            as root by `chrt -f 10` before it, no other program gets the core
 //     ./rates WORK K T TIMES
 //
 // Prints for each K and T the MB of the block a second of encoding it with one repair packet for each ten source symbols by a plan that is
