@@ -3,7 +3,7 @@ use crate::compare::same;
 use crate::tests::stored_runs::RUNS;
 use raptorq::error::Error;
 use raptorq::systematic_constants::SystematicTable;
-use rq_cast::{Ending, Input, Seen, Silent, run_receive};
+use rq_cast::{Ending, Input, Seen, Silent, Wanted, run_receive};
 use rq_streams::{Counted, Stop};
 use std::alloc::Global;
 use std::io;
@@ -46,9 +46,9 @@ impl<'a> Read for Pieces<'a> {
     }
 }
 
-type Ended = (Result<(Ending, Seen), Stop>, Vec<u8>);
+type Ended = (Result<Ending, Stop>, Seen, Vec<u8>);
 
-// How a run ends, and what it writes.
+// How a run ends, what it has seen, and what it writes.
 fn ended(alloc: Global, table: &SystematicTable, run: &Run) -> Ended {
     let reader = Pieces {
         rest: run.pieces,
@@ -57,9 +57,21 @@ fn ended(alloc: Global, table: &SystematicTable, run: &Run) -> Ended {
     let mut input = Input::new(Counted::new(reader));
     let mut out: Vec<u8> = Vec::new(alloc);
     let mut writer = Counted::new(&mut out);
-    let ended = run_receive(alloc, table, run.name, &mut input, &mut writer, &mut Silent);
+    let wanted = Wanted {
+        table,
+        name: run.name,
+    };
+    let mut seen = Seen::default();
+    let ended = run_receive(
+        alloc,
+        &wanted,
+        &mut input,
+        &mut writer,
+        &mut seen,
+        &mut Silent,
+    );
     drop(writer);
-    (ended, out)
+    (ended, seen, out)
 }
 
 #[test]
@@ -67,9 +79,9 @@ fn runs_end_as_by_the_model(rt: HostRuntime) -> Result<(), Error> {
     let alloc = rt.alloc();
     let table = SystematicTable::built_in(alloc)?;
     for (number, run) in RUNS.iter().enumerate() {
-        let wanted = Vec::from_slice(alloc, run.object)?;
+        let object = Vec::from_slice(alloc, run.object)?;
         let found = ended(alloc, &table, run);
-        same!(rt; found, (Ok((run.ending, run.seen)), wanted), number);
+        same!(rt; found, (Ok(run.ending), run.seen, object), number);
     }
     Ok(())
 }
