@@ -27,20 +27,21 @@ pub struct Run {
 // further call may come.
 #[derive(Drop)]
 struct Pieces<'a> {
-    rest: &'a [&'a [u8]],
+    pieces: &'a [&'a [u8]],
+    next: usize,
     is_open: bool,
 }
 
-impl<'a> Read for Pieces<'a> {
+impl Read for Pieces<'_> {
     fn read(&mut self, buf: &mut [u8]) -> io::Result<usize> {
-        let Some((piece, rest)) = self.rest.split_first() else {
+        let Some(piece) = self.pieces.get(self.next) else {
             return if self.is_open {
                 Err(io::Error::from(ErrorKind::Other))
             } else {
                 Ok(0)
             };
         };
-        self.rest = rest;
+        self.next += 1;
         let mut piece = *piece;
         piece.read(buf)
     }
@@ -51,7 +52,8 @@ type Ended = (Result<Ending, Stop>, Seen, Vec<u8>);
 // How a run ends, what it has seen, and what it writes.
 fn ended(alloc: Global, table: &SystematicTable, run: &Run) -> Ended {
     let reader = Pieces {
-        rest: run.pieces,
+        pieces: run.pieces,
+        next: 0,
         is_open: !matches!(run.ending, Ending::Incomplete { .. }),
     };
     let mut input = Input::new(Counted::new(reader));
