@@ -1,5 +1,5 @@
 -- Counts of failed calls.
-use Rattle.std.proofs.Common.{◌≡◌, ℕ, zero, suc, ◌+◌, ◌-◌, ◌^◌, ◌≤◌, List, [], ◌∷◌, Result, Ok, Err, sym, subst, arith}
+use Rattle.std.proofs.Common.{ℕ, zero, suc, ◌-◌, ◌^◌, ◌≤◌, List, [], ◌∷◌, Result, Ok, Err, sym, subst, arith}
 use Rattle.std.proofs.Math.Nat.{le-min}
 use Rattle.rq_streams.specs.Counted.{one_more, CountsWrite}
 

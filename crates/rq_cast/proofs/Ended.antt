@@ -193,47 +193,49 @@ module _ (table : List TableRow) (name : List ℕ) (before mid after : Option (L
       }
 
   -- what was seen before the last read
-  seen_so_far : (now : Receiver) (s : Seen) → SeesAll now s → SeesBehind old old.bytes.items now mid after → SeesSoFar (greatest_size table) name before after s
-  seen_so_far now s sees e = record {
+  seen_so_far : (n' : ℕ) (now : Receiver) (s : Seen) → SeesAll now s → SeesBehind old old.bytes.items now mid after n'
+      → SeesSoFar (greatest_size table) name before after n' s
+  seen_so_far n' now s sees e = record {
     past = front ++ e.past;
     last = e.last;
     read = subst (Consumes before after) (sym (append_assoc front e.past e.last)) (all_read (e.past ++ e.last) e.read);
-    few = e.few;
+    brought = e.brought;
     seen_there = inr (h, received e.past, all_of now e.past e.head e.seen s sees);
   }
 
   -- where it stops nothing is written
-  pub not_received : (n' : ℕ) (there : Option (List ℕ)) (now : Receiver) (s : Seen) → SeesAll now s → SeesBehind old old.bytes.items now mid after
+  pub not_received : (n' : ℕ) (there : Option (List ℕ)) (now : Receiver) (s : Seen) → SeesAll now s → SeesBehind old old.bytes.items now mid after n'
       → (begun : Receiver) → HasTaken old begun old.bytes.items → (stop : Stop) → StopsReceiving begun mid after stop
       → EndsReceiving table name (Err stop) s before after n' there there
-  not_received n' there now s sees e begun taken Fault stops = inl (seen_so_far now s sees e, Keeps-refl there)
-  not_received n' there now s sees e begun taken (Refused w) (inl memory) = (inl memory, seen_so_far now s sees e, Keeps-refl there)
+  not_received n' there now s sees e begun taken Fault stops = inl (seen_so_far n' now s sees e, Keeps-refl there)
+  not_received n' there now s sees e begun taken (Refused w) (inl memory) = (inl memory, seen_so_far n' now s sees e, Keeps-refl there)
   not_received n' there now s sees e begun taken (Refused w) (inr r) =
-      (inr (refuses w (r old old.bytes.items taken)), seen_so_far now s sees e, Keeps-refl there)
+      (inr (refuses w (r old old.bytes.items taken)), seen_so_far n' now s sees e, Keeps-refl there)
 
 -- ---- a run that is stopped before there is a receiver
 
-pub sees_so_far : (greatest : ℕ) (name : List ℕ) (before after : Option (List ℕ)) (s : Seen) → SeesNoneYet greatest name before after s
-    → SeesSoFar greatest name before after s
-sees_so_far greatest name before after s sees = record { past = sees.past; last = sees.last; read = sees.read; few = sees.few; seen_there = inl sees.sees }
+pub sees_so_far : (greatest : ℕ) (name : List ℕ) (before after : Option (List ℕ)) (n : ℕ) (s : Seen) → SeesNoneYet greatest name before after n s
+    → SeesSoFar greatest name before after n s
+sees_so_far greatest name before after n s sees =
+    record { past = sees.past; last = sees.last; read = sees.read; brought = sees.brought; seen_there = inl sees.sees }
 
-pub not_found : (table : List TableRow) (name : List ℕ) (before after : Option (List ℕ)) (s : Seen) → SeesNoneYet (greatest_size table) name before after s
-    → (n : ℕ) (there : Option (List ℕ)) (stop : Stop) → IsStopOfReads stop → EndsReceiving table name (Err stop) s before after n there there
-not_found table name before after s sees n there Fault stops = inl (sees_so_far (greatest_size table) name before after s sees, Keeps-refl there)
-not_found table name before after s sees n there (Refused e) (inl fault) = absurd (cc fault)
-not_found table name before after s sees n there (Refused e) (inr memory) =
+pub not_found : (table : List TableRow) (name : List ℕ) (before after : Option (List ℕ)) (s : Seen) (n : ℕ)
+    → SeesNoneYet (greatest_size table) name before after n s → (there : Option (List ℕ)) (stop : Stop) → IsStopOfReads stop → EndsReceiving table name (Err stop) s before after n there there
+not_found table name before after s n sees there Fault stops = inl (sees_so_far (greatest_size table) name before after n s sees, Keeps-refl there)
+not_found table name before after s n sees there (Refused e) (inl fault) = absurd (cc fault)
+not_found table name before after s n sees there (Refused e) (inr memory) =
     let same : e ≡ OutOfMemory = cc memory in
-    (inl same, sees_so_far (greatest_size table) name before after s sees, Keeps-refl there)
+    (inl same, sees_so_far (greatest_size table) name before after n s sees, Keeps-refl there)
 
 -- the first of its cells are refused, or memory is
 pub not_begun : (table : List TableRow) (name : List ℕ) (before mid : Option (List ℕ)) (found : Found) (n : ℕ)
     → FindsFirst (greatest_size table) name before mid n found.head found.bytes.items found.seen
-    → (s : Seen) → SeesNoneYet (greatest_size table) name before mid s → (there : Option (List ℕ)) (e : Error) → StopsBeginning table found e
+    → (s : Seen) → SeesNoneYet (greatest_size table) name before mid n s → (there : Option (List ℕ)) (e : Error) → StopsBeginning table found e
     → EndsReceiving table name (Err (Refused e)) s before mid n there there
 not_begun table name before mid found n f s sees there e (inl refused) =
-    (inl (only_memory table name before mid found n f e refused), sees_so_far (greatest_size table) name before mid s sees, Keeps-refl there)
+    (inl (only_memory table name before mid found n f e refused), sees_so_far (greatest_size table) name before mid n s sees, Keeps-refl there)
 not_begun table name before mid found n f s sees there e (inr (first, made, inl memory)) =
-    (inl memory, sees_so_far (greatest_size table) name before mid s sees, Keeps-refl there)
+    (inl memory, sees_so_far (greatest_size table) name before mid n s sees, Keeps-refl there)
 not_begun table name before mid found n f s sees there e (inr (first, made, inr stops)) =
     let among : RefusesPackets first first.bytes.items mid mid e = record {
       past = [];
@@ -241,7 +243,7 @@ not_begun table name before mid found n f s sees there e (inr (first, made, inr 
       stops = subst (λ xs. StopsAmong (state_of first.decoder) (known_packets (state_of first.decoder).configuration (packets_in first.scanner xs)) e)
           (sym (append-nil first.bytes.items)) stops;
     } in
-    (inr (refuses table name before mid mid found n f first made e among), sees_so_far (greatest_size table) name before mid s sees, Keeps-refl there)
+    (inr (refuses table name before mid mid found n f first made e among), sees_so_far (greatest_size table) name before mid n s sees, Keeps-refl there)
 
 -- ---- the object that is answered, and what is written of it
 
@@ -251,12 +253,12 @@ answered_object None is = absurd (cc is)
 
 module _ (answer : Option (List ℕ)) (object : List ℕ) (is : answer ≡ Some object) (there then : Option (List ℕ)) where
   seen_all : (table : List TableRow) (name : List ℕ) (before after : Option (List ℕ)) (n : ℕ) (h : Head) (seen : Seen)
-      → Determines table name before after n h object seen → SeesSoFar (greatest_size table) name before after seen
+      → Determines table name before after n h object seen → SeesSoFar (greatest_size table) name before after n seen
   seen_all table name before after n h seen d = record {
     past = d.past;
     last = [];
     read = subst (Consumes before after) (sym (append-nil d.past)) d.read;
-    few = omega arith;
+    brought = inl refl;
     seen_there = inr (h, d.received, d.seen);
   }
 

@@ -17,7 +17,7 @@ use Rattle.rq_cells.specs.Scans.{Settles}
 use Rattle.rq_cast.specs.declared.receiver.Receiver.{Receiver}
 use Rattle.rq_cast.specs.declared.receiver.Seen.{Seen}
 use Rattle.rq_cast.specs.Taken.{known_packets, unknown_count, TakesAll, StopsAmong}
-use Rattle.rq_cast.specs.Reading.{chunk_length, ReadsFew}
+use Rattle.rq_cast.specs.Reading.{chunk_length, ReadsOnce}
 use Rattle.rq_cast.specs.Receiving.{counted, TakesFrom, TakesCells, HasSeen, HasTaken, IsLast, EndsDetermined, EndsUndetermined, RefusesPackets, ReceivesBehind, SeesBehind}
 use Rattle.rq_cast.proofs.TakenPackets.{takes_both, stops_behind, known_both, unknown_both}
 
@@ -271,14 +271,14 @@ receives_many old had before n now after n' reads r many false e = ends_in_many 
 
 -- ---- what was seen before the last read
 
-pub sees_behind : (first : Receiver) (had : List ℕ) (now new : Receiver) (before after after' : Option (List ℕ)) (n n' reads : ℕ)
-    → IsReceiving first had now before after n n' reads → ReadsFew after after'
-    → new.scanner ≡ now.scanner → new.seen ≡ now.seen → new.bytes.items ≡ now.bytes.items → SeesBehind first had new before after'
-sees_behind first had now new before after after' n n' reads r few head seen bytes = record {
+pub sees_behind : (first : Receiver) (had : List ℕ) (now new : Receiver) (before after after' : Option (List ℕ)) (n n' m reads : ℕ)
+    → IsReceiving first had now before after n n' reads → ReadsOnce after after' m
+    → new.scanner ≡ now.scanner → new.seen ≡ now.seen → new.bytes.items ≡ now.bytes.items → SeesBehind first had new before after' m
+sees_behind first had now new before after after' n n' m reads r once head seen bytes = record {
   past = r.earlier ++ r.last;
-  last = few.piece;
-  read = Consumes-trans before after after' (r.earlier ++ r.last) few.piece r.read few.taken;
-  few = few.few;
+  last = once.piece;
+  read = Consumes-trans before after after' (r.earlier ++ r.last) once.piece r.read once.taken;
+  brought = once.brought;
   head = head ∙ r.taken.head;
   seen = seen_still first now new (had ++ (r.earlier ++ r.last)) r.taken.seen seen bytes;
 }

@@ -8,7 +8,7 @@ use Rattle.rq_cells.specs.declared.head.Head.{Head}
 use Rattle.rq_cells.specs.declared.wanted.Heads.{Heads}
 use Rattle.rq_cells.specs.Wanted.{wanted_at, is_wanted_damaged, is_unwanted, AreHeads, IsFirstWanted, HasNoWanted, NoneBefore}
 use Rattle.rq_cells.proofs.WantedCells.{count_further}
-use Rattle.rq_cast.specs.Reading.{chunk_length, ReadsFew}
+use Rattle.rq_cast.specs.Reading.{chunk_length, ReadsOnce}
 use Rattle.rq_cast.specs.declared.receiver.Seen.{Seen}
 use Rattle.rq_cast.specs.Receiving.{SeesHeads}
 use Rattle.rq_cast.specs.Searching.{SeesBefore, SeesNoneYet, FindsFirst, FindsNone}
@@ -41,8 +41,8 @@ pub record IsUnfound (greatest : ℕ) (name : List ℕ) (before after : Option (
   pub all_seen : SeesBefore greatest name past (length past) every
 
 -- no read at all
-pub reads_nothing : (there : Option (List ℕ)) → ReadsFew there there
-reads_nothing there = record { piece = []; taken = Consumes-nil there; few = omega arith }
+pub reads_nothing : (there : Option (List ℕ)) (n : ℕ) → ReadsOnce there there n
+reads_nothing there n = record { piece = []; taken = Consumes-nil there; brought = inl refl }
 
 module _ (greatest : ℕ) (name : List ℕ) (before : Option (List ℕ)) where
   pub unfound_at_first : (s : Seen) → s.cells ≡ 0 → s.damaged ≡ 0 → s.others ≡ 0 → IsUnfound greatest name before before 0 [] s s
@@ -73,13 +73,13 @@ module _ (greatest : ℕ) (name : List ℕ) (before : Option (List ℕ)) where
     seen = u.all_seen;
   }
 
-  pub sees_none_yet : (after after' : Option (List ℕ)) (reads : ℕ) (kept : List ℕ) (settled every : Seen)
-      → IsUnfound greatest name before after reads kept settled every → ReadsFew after after' → SeesNoneYet greatest name before after' every
-  sees_none_yet after after' reads kept settled every u few = record {
+  pub sees_none_yet : (after after' : Option (List ℕ)) (n reads : ℕ) (kept : List ℕ) (settled every : Seen)
+      → IsUnfound greatest name before after reads kept settled every → ReadsOnce after after' n → SeesNoneYet greatest name before after' n every
+  sees_none_yet after after' n reads kept settled every u once = record {
     past = u.past;
-    last = few.piece;
-    read = Consumes-trans before after after' u.past few.piece u.read few.taken;
-    few = few.few;
+    last = once.piece;
+    read = Consumes-trans before after after' u.past once.piece u.read once.taken;
+    brought = once.brought;
     sees = record { none = u.none; seen_there = u.all_seen };
   }
 

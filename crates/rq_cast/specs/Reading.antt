@@ -1,5 +1,5 @@
 -- What reads bring.
-use Rattle.std.specs.Prelude.{◌≡◌, ◌⊎◌, ℕ, ◌≤◌, List, ◌++◌, length, Option}
+use Rattle.std.specs.Prelude.{◌≡◌, ◌⊎◌, ℕ, ◌≤◌, List, [], ◌++◌, length, Option}
 use Rattle.std.specs.Io.KnownBytes.{Consumes, IsAtEnd}
 use Rattle.rq_bytes.specs.declared.error.Error.TheVariants.{OutOfMemory}
 use Rattle.rq_streams.specs.declared.run.Stop.{Stop}
@@ -18,11 +18,15 @@ pub record Reads (before after : Option (List ℕ)) (old new : List ℕ) (n : �
   pub few : n ≤ chunk_length
   pub at_end : n ≡ 0 → IsAtEnd after
 
--- One read brings so few bytes at most, also where what comes of it stops.
-pub record ReadsFew (before after : Option (List ℕ)) : Type 0 where
+-- What the last read brought, which were n bytes, or nothing: where it failed, or nothing is left out.
+abbrev pub IsLastRead : List ℕ → ℕ → Type 0
+IsLastRead bytes n = (bytes ≡ []) ⊎ ((length bytes ≡ n) × (n ≤ chunk_length))
+
+-- One read brings what the last one did, also where what comes of it stops.
+pub record ReadsOnce (before after : Option (List ℕ)) (n : ℕ) : Type 0 where
   pub piece : List ℕ
   pub taken : Consumes before after piece
-  pub few : length piece ≤ chunk_length
+  pub brought : IsLastRead piece n
 
 -- a failed call, or want of memory
 abbrev pub IsStopOfReads : Stop → Type 0

@@ -20,7 +20,7 @@ use Rattle.rq_cast.specs.declared.run.Ending.TheVariants.{Written, Incomplete, A
 use Rattle.rq_cast.specs.declared.receiver.Seen.{Seen}
 use Rattle.rq_cast.specs.Missing.{NeedsPackets}
 use Rattle.rq_cast.specs.Searching.{SeesNoWanted, FindsNone}
-use Rattle.rq_cast.specs.Reading.{chunk_length}
+use Rattle.rq_cast.specs.Reading.{chunk_length, IsLastRead}
 use Rattle.rq_cast.specs.Receiving.{counted}
 use Rattle.rq_cast.specs.Taken.{known_packets, unknown_count}
 
@@ -28,7 +28,8 @@ use Rattle.rq_cast.specs.Taken.{known_packets, unknown_count}
 abbrev pub received_packets : Head → List ℕ → List Packet
 received_packets h bytes = known_packets h.configuration (packets_in h bytes)
 
--- The first wanted cell in a beginning of what was read says whose cells are received: that beginning ends with the read that made a wanted cell whole.
+-- The first wanted cell in a beginning of what was read says whose cells are received: that beginning is at most one read's bytes longer than one in
+-- which no wanted cell is whole.
 pub record IsReceived (greatest : ℕ) (name past : List ℕ) (h : Head) : Type 0 where
   pub earlier : List ℕ
   pub last : List ℕ
@@ -54,12 +55,13 @@ pub record IsSeen {greatest : ℕ} {name past : List ℕ} {h : Head} (r : IsRece
   pub others : seen.others
       ≡ counted (unwanted_before greatest name (beginning r) r.at + others_in h (from_first r) + unknown_count h.configuration (packets_in h past))
 
--- What a run that is stopped has seen, in all that was read but what the last read brought at most: as long as no wanted cell was whole, or from one on.
-pub record SeesSoFar (greatest : ℕ) (name : List ℕ) (before after : Option (List ℕ)) (seen : Seen) : Type 0 where
+-- What a run that is stopped has seen, in all that was read but what the last read brought at most, which were n bytes: as long as no wanted cell was
+-- whole, or from one on.
+pub record SeesSoFar (greatest : ℕ) (name : List ℕ) (before after : Option (List ℕ)) (n : ℕ) (seen : Seen) : Type 0 where
   pub past : List ℕ
   pub last : List ℕ
   pub read : Consumes before after (past ++ last)
-  pub few : length last ≤ chunk_length
+  pub brought : IsLastRead last n
   pub seen_there : SeesNoWanted greatest name past seen ⊎ ((h : Head) × (r : IsReceived greatest name past h) × IsSeen r seen)
 
 -- what is answered of the object's cells among bytes, whoever sent them; where they are an object's, exactly where they determine it, which is where
@@ -121,8 +123,8 @@ EndsReceiving table name (Ok (Incomplete None)) seen before after n there then =
 EndsReceiving table name (Ok (Incomplete (Some missing))) seen before after n there then =
     DoesntDetermine table name before after missing seen × Keeps there then
 EndsReceiving table name (Err (Refused e)) seen before after n there then =
-    ((e ≡ OutOfMemory) ⊎ RefusesReceived table name before after e) × SeesSoFar (greatest_size table) name before after seen × Keeps there then
+    ((e ≡ OutOfMemory) ⊎ RefusesReceived table name before after e) × SeesSoFar (greatest_size table) name before after n seen × Keeps there then
 EndsReceiving table name (Err Fault) seen before after n there then =
-    (SeesSoFar (greatest_size table) name before after seen × Keeps there then)
+    (SeesSoFar (greatest_size table) name before after n seen × Keeps there then)
     ⊎ ((h : Head) × (object : List ℕ) × Determines table name before after n h object seen × (name_of object ≡ h.name)
     × ((count : ℕ) × Appends there then (take count object)))

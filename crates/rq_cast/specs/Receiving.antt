@@ -22,7 +22,7 @@ use Rattle.rq_cells.specs.Found.{packets_in, damaged_in, others_in}
 use Rattle.rq_cast.specs.declared.reading.Found.{Found}
 use Rattle.rq_cast.specs.declared.receiver.Receiver.{Receiver}
 use Rattle.rq_cast.specs.declared.receiver.Seen.{Seen}
-use Rattle.rq_cast.specs.Reading.{chunk_length}
+use Rattle.rq_cast.specs.Reading.{chunk_length, IsLastRead}
 use Rattle.rq_cast.specs.Taken.{known_packets, unknown_count, TakesAll, StopsAmong}
 
 -- as far as a u64 counts
@@ -166,14 +166,14 @@ StopsReceiving old before after Fault = ⊤
 StopsReceiving old before after (Refused e) =
     (e ≡ OutOfMemory) ⊎ ((first : Receiver) (had : List ℕ) → HasTaken first old had → RefusesPackets first had before after e)
 
--- It has seen all that stands in what was read but for the last read's bytes at most.
-pub record SeesBehind (first : Receiver) (had : List ℕ) (new : Receiver) (before after : Option (List ℕ)) : Type 0 where
+-- It has seen all that stands in what was read but for what the last read brought at most, which were n bytes.
+pub record SeesBehind (first : Receiver) (had : List ℕ) (new : Receiver) (before after : Option (List ℕ)) (n : ℕ) : Type 0 where
   pub past : List ℕ
   pub last : List ℕ
   pub read : Consumes before after (past ++ last)
-  pub few : length last ≤ chunk_length
+  pub brought : IsLastRead last n
   pub head : new.scanner ≡ first.scanner
   pub seen : HasSeen first new (had ++ past)
 
-abbrev pub SeesCells : Receiver → Receiver → Option (List ℕ) → Option (List ℕ) → Type 0
-SeesCells old new before after = (first : Receiver) (had : List ℕ) → HasTaken first old had → SeesBehind first had new before after
+abbrev pub SeesCells : Receiver → Receiver → Option (List ℕ) → Option (List ℕ) → ℕ → Type 0
+SeesCells old new before after n = (first : Receiver) (had : List ℕ) → HasTaken first old had → SeesBehind first had new before after n

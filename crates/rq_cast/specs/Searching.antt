@@ -5,7 +5,7 @@ use Rattle.rq_cells.specs.declared.head.Head.{Head}
 use Rattle.rq_cells.specs.Wanted.{IsFirstWanted, NoneBefore, damaged_before, unwanted_before}
 use Rattle.rq_cast.specs.declared.reading.Found.{Found}
 use Rattle.rq_cast.specs.declared.receiver.Seen.{Seen}
-use Rattle.rq_cast.specs.Reading.{chunk_length}
+use Rattle.rq_cast.specs.Reading.{chunk_length, IsLastRead}
 use Rattle.rq_cast.specs.Receiving.{counted}
 
 -- What was seen at the first n places, as long as no wanted cell is whole: wanted heads whose cell isn't, and heads that aren't wanted.
@@ -19,12 +19,12 @@ pub record SeesNoWanted (greatest : ℕ) (name bytes : List ℕ) (seen : Seen) :
   pub none : NoneBefore greatest name bytes (length bytes)
   pub seen_there : SeesBefore greatest name bytes (length bytes) seen
 
--- So it is in what was read but for the last read's bytes at most.
-pub record SeesNoneYet (greatest : ℕ) (name : List ℕ) (before after : Option (List ℕ)) (seen : Seen) : Type 0 where
+-- So it is in what was read but for what the last read brought at most, which were n bytes.
+pub record SeesNoneYet (greatest : ℕ) (name : List ℕ) (before after : Option (List ℕ)) (n : ℕ) (seen : Seen) : Type 0 where
   pub past : List ℕ
   pub last : List ℕ
   pub read : Consumes before after (past ++ last)
-  pub few : length last ≤ chunk_length
+  pub brought : IsLastRead last n
   pub sees : SeesNoWanted greatest name past seen
 
 -- A wanted cell was whole in what was read, and none before the last read, which brought so many bytes. What is kept are the bytes from that cell on.

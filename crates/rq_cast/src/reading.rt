@@ -4,7 +4,7 @@ ghost use Rattle.rq_standard.specs.TableRows.{greatest_size};
 ghost use Rattle.rq_streams.specs.Counted.{failed_count};
 ghost use Rattle.rq_streams.specs.Ends.{failed_calls};
 ghost use Rattle.rq_cast.specs.Input.{counted_of, source, last_length};
-ghost use Rattle.rq_cast.specs.Reading.{Reads, ReadsFew, IsStopOfReads};
+ghost use Rattle.rq_cast.specs.Reading.{Reads, ReadsOnce, IsStopOfReads};
 ghost use Rattle.rq_cast.specs.Searching.{Searches, SeesNoneYet};
 
 use crate::input::Input;
@@ -31,7 +31,7 @@ pub(crate) fn read_more<R: Read>(
     ensures last { IfOk result (λ n. last_length input.new ≡ n) }
     ensures counts { failed_count (counted_of input.new) ≡ failed_count (counted_of input.old) + failed_calls result }
     ensures stops { IfErr result IsStopOfReads }
-    ensures few { ReadsFew (R.remaining (source input.old)) (R.remaining (source input.new)) }
+    ensures once { ReadsOnce (R.remaining (source input.old)) (R.remaining (source input.new)) (last_length input.new) }
     ensures still { OnErr result (bytes.new.items ≡ bytes.old.items) }
 {
     let Ok(n) = input.read(chunk) else {
@@ -82,7 +82,7 @@ pub(crate) fn find<R: Read, P: Progress>(
     ensures searches { IfOk result (Searches (greatest_size wanted.now.table.now) wanted.now.name.now (R.remaining (source input.old))
         (R.remaining (source input.new)) (last_length input.new) seen.new) }
     ensures sees { SeesNoneYet (greatest_size wanted.now.table.now) wanted.now.name.now (R.remaining (source input.old))
-        (R.remaining (source input.new)) seen.new }
+        (R.remaining (source input.new)) (last_length input.new) seen.new }
     ensures counts { failed_count (counted_of input.new) ≡ failed_count (counted_of input.old) + failed_calls result }
     ensures stops { IfErr result IsStopOfReads }
 {

@@ -141,7 +141,8 @@ fn take_until_complete<R: Read, P: Progress>(
     ensures receives { IfOk result (Receives receiver.old receiver.new (R.remaining (source input.old)) (R.remaining (source input.new))
         (last_length input.old) (last_length input.new)) }
     ensures stops { IfErr result (StopsReceiving receiver.old (R.remaining (source input.old)) (R.remaining (source input.new))) }
-    ensures sees { OnErr result (SeesCells receiver.old receiver.new (R.remaining (source input.old)) (R.remaining (source input.new))) }
+    ensures sees { OnErr result (SeesCells receiver.old receiver.new (R.remaining (source input.old)) (R.remaining (source input.new))
+        (last_length input.new)) }
     ensures counts { failed_count (counted_of input.new) ≡ failed_count (counted_of input.old) + failed_calls result }
 {
     let mut chunk = [0u8; CHUNK];
@@ -180,7 +181,8 @@ pub(crate) fn receive<R: Read, P: Progress>(
     ensures receives { IfOk result (Receives receiver.old receiver.new (R.remaining (source input.old)) (R.remaining (source input.new))
         (last_length input.old) (last_length input.new)) }
     ensures stops { IfErr result (StopsReceiving receiver.old (R.remaining (source input.old)) (R.remaining (source input.new))) }
-    ensures sees { OnErr result (SeesCells receiver.old receiver.new (R.remaining (source input.old)) (R.remaining (source input.new))) }
+    ensures sees { OnErr result (SeesCells receiver.old receiver.new (R.remaining (source input.old)) (R.remaining (source input.new))
+        (last_length input.new)) }
     ensures seen { SeesAll receiver.new seen.new }
     ensures counts { failed_count (counted_of input.new) ≡ failed_count (counted_of input.old) + failed_calls result }
 {

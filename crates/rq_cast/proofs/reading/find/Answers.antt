@@ -53,33 +53,33 @@ pub returns-in_err-n-clause-sees : goal.returns-in_err-n-clause-sees
 returns-in_err-n-clause-sees g c =
     sees_none_yet (greatest_size c.args.wanted.now.table.now) c.args.wanted.now.name.now (g.R.Read.remaining (source c.args.input.now))
     (g.R.Read.remaining (source c.reading.input))
-    (g.R.Read.remaining (source c.read_more.new.input)) c.reading._reads c.reading.bytes.items c.reading.settled c.reading.seen
-    c.reading.invariant.unfound c.read_more.ensures.few
+    (g.R.Read.remaining (source c.read_more.new.input)) (last_length c.read_more.new.input) c.reading._reads c.reading.bytes.items c.reading.settled
+    c.reading.seen c.reading.invariant.unfound c.read_more.ensures.once
 
 pub returns-then-n-eq0-clause-sees : goal.returns-then-n-eq0-clause-sees
 returns-then-n-eq0-clause-sees g c =
     sees_none_yet (greatest_size c.args.wanted.now.table.now) c.args.wanted.now.name.now (g.R.Read.remaining (source c.args.input.now))
     (g.R.Read.remaining (source c.reading.input))
-    (g.R.Read.remaining (source c.read_more.new.input)) c.reading._reads c.reading.bytes.items c.reading.settled c.reading.seen
-    c.reading.invariant.unfound c.read_more.ensures.few
+    (g.R.Read.remaining (source c.read_more.new.input)) (last_length c.read_more.new.input) c.reading._reads c.reading.bytes.items c.reading.settled
+    c.reading.seen c.reading.invariant.unfound c.read_more.ensures.once
 
 pub returns-in_err-at-clause-sees : goal.returns-in_err-at-clause-sees
 returns-in_err-at-clause-sees g c =
     sees_none_yet (greatest_size c.args.wanted.now.table.now) c.args.wanted.now.name.now (g.R.Read.remaining (source c.args.input.now))
     (g.R.Read.remaining (source c.reading.input))
-    (g.R.Read.remaining (source c.read_more.new.input)) c.reading._reads c.reading.bytes.items c.reading.settled c.reading.seen
-    c.reading.invariant.unfound c.read_more.ensures.few
+    (g.R.Read.remaining (source c.read_more.new.input)) (last_length c.read_more.new.input) c.reading._reads c.reading.bytes.items c.reading.settled
+    c.reading.seen c.reading.invariant.unfound c.read_more.ensures.once
 
 pub returns-in-Found-clause-sees : goal.returns-in-Found-clause-sees
 returns-in-Found-clause-sees g c =
     sees_none_yet (greatest_size c.args.wanted.now.table.now) c.args.wanted.now.name.now (g.R.Read.remaining (source c.args.input.now))
     (g.R.Read.remaining (source c.reading.input))
-    (g.R.Read.remaining (source c.read_more.new.input)) c.reading._reads c.reading.bytes.items c.reading.settled c.reading.seen
-    c.reading.invariant.unfound c.read_more.ensures.few
+    (g.R.Read.remaining (source c.read_more.new.input)) (last_length c.read_more.new.input) c.reading._reads c.reading.bytes.items c.reading.settled
+    c.reading.seen c.reading.invariant.unfound c.read_more.ensures.once
 
 pub returns-clause-sees : goal.returns-clause-sees
 returns-clause-sees g c =
     sees_none_yet (greatest_size c.args.wanted.now.table.now) c.args.wanted.now.name.now (g.R.Read.remaining (source c.args.input.now))
     (g.R.Read.remaining (source c.reading.input))
-    (g.R.Read.remaining (source c.reading.input)) c.reading._reads c.reading.bytes.items c.reading.settled c.reading.seen c.reading.invariant.unfound
-    (reads_nothing (g.R.Read.remaining (source c.reading.input)))
+    (g.R.Read.remaining (source c.reading.input)) (last_length c.reading.input) c.reading._reads c.reading.bytes.items c.reading.settled c.reading.seen
+    c.reading.invariant.unfound (reads_nothing (g.R.Read.remaining (source c.reading.input)) (last_length c.reading.input))

@@ -67,7 +67,8 @@ returns-in_err-n-clause-sees g c =
     (λ first had taken.
     sees_behind first had c.reading.receiver (with_bytes c.reading.receiver c.read_more.new.bytes) (g.R.Read.remaining (source c.args.input.now))
     (g.R.Read.remaining (source c.reading.input)) (g.R.Read.remaining (source c.read_more.new.input)) (last_length c.args.input.now)
-    (last_length c.reading.input) c.reading._reads (c.reading.invariant.receiving first had taken) c.read_more.ensures.few refl refl c.in_err-n.ensures.still)
+    (last_length c.reading.input) (last_length c.read_more.new.input) c.reading._reads (c.reading.invariant.receiving first had taken)
+    c.read_more.ensures.once refl refl c.in_err-n.ensures.still)
 
 -- a packet is refused, or memory is
 module _ (g : Over) (c : In-Err g) where
@@ -112,5 +113,6 @@ returns-in-Err-clause-sees g c =
     λ first had taken.
     sees_behind first had c.reading.receiver (with_bytes c.take_cells.new.self c.truncate.new.self) (g.R.Read.remaining (source c.args.input.now))
     (g.R.Read.remaining (source c.reading.input)) (g.R.Read.remaining (source c.read_more.new.input)) (last_length c.args.input.now)
-    (last_length c.reading.input) c.reading._reads (c.reading.invariant.receiving first had taken) c.read_more.ensures.few
+    (last_length c.reading.input) (last_length c.read_more.new.input) c.reading._reads (c.reading.invariant.receiving first had taken)
+    c.read_more.ensures.once
     (still g at).head (still g at).seen bytes

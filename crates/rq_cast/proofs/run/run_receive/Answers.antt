@@ -34,7 +34,7 @@ returns-in_err-found-clause-ends g c =
     rw (p.1, p.2)
     (not_found c.args.wanted.now.table.now c.args.wanted.now.name.now (g.R.Read.remaining (source c.args.input.now))
     (g.R.Read.remaining (source c.find.new.input))
-    c.find.new.seen c.find.ensures.sees (last_length c.find.new.input) (g.W.Write.contents (inner c.args.writer.now)) c.in_err-found.field-0.0
+    c.find.new.seen (last_length c.find.new.input) c.find.ensures.sees (g.W.Write.contents (inner c.args.writer.now)) c.in_err-found.field-0.0
     c.in_err-found.ensures.stops)
 
 pub returns-in_err-receiver-clause-ends : goal.returns-in_err-receiver-clause-ends

@@ -1,5 +1,5 @@
 use Rattle.std.proofs.Common.{◌≡◌, ◌∷◌, map, sym, ◌∙◌, subst, rules}
-use Rattle.std.specs.Prelude.{string_bytes, codes, option_map}
+use Rattle.std.specs.Prelude.{string_bytes, codes}
 use Rattle.rq_streams.proofs.Wording.{text_is}
 use Rattle.rq_cast.specs.declared.jobs.Job.TheVariants.{Send, Receive}
 use Rattle.rq_cast.specs.Asked.{IsJobOf, StepsOn}
