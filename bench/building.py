@@ -1,9 +1,12 @@
 """What the scripts of bench/ share: programs built in scratch folders, and the tables of the standard."""
 import os
+import random
 import re
 import shutil
 import subprocess
 import sys
+import tempfile
+import time
 
 BENCH = os.path.dirname(os.path.abspath(__file__))
 TOP = os.path.dirname(BENCH)
@@ -43,6 +46,28 @@ def take_seed(usage, otherwise):
     found = whole_numbers(sys.argv[at + 1 : at + 2] or ["none"], usage)[0]
     del sys.argv[at : at + 2]
     return found
+
+
+def make_file(path, length, seed=1):
+    """Fills a file with random bytes, in pieces: what this process took at most counts as memory of the programs that it starts."""
+    drawn = random.Random(seed)
+    with open(path, "wb") as file:
+        for first in range(0, length, 1_000_000):
+            file.write(drawn.randbytes(min(1_000_000, length - first)))
+
+
+def run_timed(words, source, target):
+    """Seconds and the greatest memory in MB of a program that reads one file and writes another. Where it fails this ends the script with
+    what it told."""
+    with open(source, "rb") as stdin, open(target, "wb") as stdout, tempfile.TemporaryFile("w+") as told:
+        start = time.monotonic()
+        child = subprocess.Popen(words, stdin=stdin, stdout=stdout, stderr=told)
+        _, status, used = os.wait4(child.pid, 0)
+        seconds = time.monotonic() - start
+        if status:
+            told.seek(0)
+            sys.exit(f"{words}: {told.read()}")
+    return seconds, used.ru_maxrss * 1024 / 1e6
 
 
 def run_here(name, folder, processor, crates, **streams):
