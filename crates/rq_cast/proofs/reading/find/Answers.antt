@@ -3,7 +3,10 @@ use Rattle.rq_standard.specs.TableRows.{greatest_size}
 use Rattle.rq_cast.specs.Input.{source, last_length}
 use Rattle.rq_cells.specs.Wanted.{IsSearch, AreHeads, IsFirstWanted, HasNoWanted}
 use Rattle.rq_cast.proofs.Searched.{none_in_many, found_first, unfound_more, sees_none_yet, reads_nothing}
+use Rattle.rq_cast.specs.Searching.{SeesNoneYet}
 use Rattle.rq_cast.proofs.reading.find.Goals as goal
+use Rattle.rq_cast.proofs.reading.find.Given.{Over}
+use Rattle.rq_cast.proofs.reading.find.Goals.{After-read_more}
 
 pub returns-in-Found-clause-searches : goal.returns-in-Found-clause-searches
 returns-in-Found-clause-searches g c =
@@ -49,33 +52,26 @@ returns-clause-searches g c =
     c.reading._reads c.reading.bytes.items c.reading.settled c.reading.seen c.reading.invariant.unfound
     (omega (arith, c.reading-test.false, c.reading.auto._reads-end))
 
-pub returns-in_err-n-clause-sees : goal.returns-in_err-n-clause-sees
-returns-in_err-n-clause-sees g c =
+-- no wanted cell was whole before the read
+none_yet : (g : Over) (c : After-read_more g) → SeesNoneYet (greatest_size c.args.wanted.now.table.now) c.args.wanted.now.name.now
+    (g.R.Read.remaining (source c.args.input.now)) (g.R.Read.remaining (source c.read_more.new.input)) (last_length c.read_more.new.input) c.reading.seen
+none_yet g c =
     sees_none_yet (greatest_size c.args.wanted.now.table.now) c.args.wanted.now.name.now (g.R.Read.remaining (source c.args.input.now))
     (g.R.Read.remaining (source c.reading.input))
     (g.R.Read.remaining (source c.read_more.new.input)) (last_length c.read_more.new.input) c.reading._reads c.reading.bytes.items c.reading.settled
     c.reading.seen c.reading.invariant.unfound c.read_more.ensures.once
+
+pub returns-in_err-n-clause-sees : goal.returns-in_err-n-clause-sees
+returns-in_err-n-clause-sees g c = none_yet g (goal.at.returns-in_err-n-clause-sees g c).After-read_more
 
 pub returns-then-n-eq0-clause-sees : goal.returns-then-n-eq0-clause-sees
-returns-then-n-eq0-clause-sees g c =
-    sees_none_yet (greatest_size c.args.wanted.now.table.now) c.args.wanted.now.name.now (g.R.Read.remaining (source c.args.input.now))
-    (g.R.Read.remaining (source c.reading.input))
-    (g.R.Read.remaining (source c.read_more.new.input)) (last_length c.read_more.new.input) c.reading._reads c.reading.bytes.items c.reading.settled
-    c.reading.seen c.reading.invariant.unfound c.read_more.ensures.once
+returns-then-n-eq0-clause-sees g c = none_yet g (goal.at.returns-then-n-eq0-clause-sees g c).After-read_more
 
 pub returns-in_err-at-clause-sees : goal.returns-in_err-at-clause-sees
-returns-in_err-at-clause-sees g c =
-    sees_none_yet (greatest_size c.args.wanted.now.table.now) c.args.wanted.now.name.now (g.R.Read.remaining (source c.args.input.now))
-    (g.R.Read.remaining (source c.reading.input))
-    (g.R.Read.remaining (source c.read_more.new.input)) (last_length c.read_more.new.input) c.reading._reads c.reading.bytes.items c.reading.settled
-    c.reading.seen c.reading.invariant.unfound c.read_more.ensures.once
+returns-in_err-at-clause-sees g c = none_yet g (goal.at.returns-in_err-at-clause-sees g c).After-read_more
 
 pub returns-in-Found-clause-sees : goal.returns-in-Found-clause-sees
-returns-in-Found-clause-sees g c =
-    sees_none_yet (greatest_size c.args.wanted.now.table.now) c.args.wanted.now.name.now (g.R.Read.remaining (source c.args.input.now))
-    (g.R.Read.remaining (source c.reading.input))
-    (g.R.Read.remaining (source c.read_more.new.input)) (last_length c.read_more.new.input) c.reading._reads c.reading.bytes.items c.reading.settled
-    c.reading.seen c.reading.invariant.unfound c.read_more.ensures.once
+returns-in-Found-clause-sees g c = none_yet g (goal.at.returns-in-Found-clause-sees g c).After-read_more
 
 pub returns-clause-sees : goal.returns-clause-sees
 returns-clause-sees g c =
