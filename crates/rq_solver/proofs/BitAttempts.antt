@@ -1,8 +1,8 @@
 -- What is found of a system is found of the bits and octets that it was made of.
-use Rattle.std.proofs.Common.{◌≡◌, ◌<◌, ℕ, List, [], ◌∷◌, ◌++◌, Option, None, Some, length, arith}
+use Rattle.std.proofs.Common.{◌≡◌, ◌<◌, ℕ, List, Option, None, Some, length, arith}
 use Rattle.std.specs.Prelude.{IfSome, Vec}
 use Rattle.std.specs.Global.{Global}
-use Rattle.rq_algebra.specs.Operations.{Operation, Reorder}
+use Rattle.rq_algebra.specs.Operations.{Operation}
 use Rattle.rq_algebra.specs.Systems.{IsHomogeneousColumn}
 use Rattle.rq_algebra.proofs.Solutions.{homogeneous_column_same}
 use Rattle.rq_standard.specs.BitTable.{BitTable}
@@ -31,14 +31,14 @@ module _ (bits : BitTable) (hdpc : OctetTable) (first : ℕ) (system : System) (
   rows_of_bits i k l m = rw (← is.hdpc_is, ← is.first_is) (same_entries i k (rw is.ones_are.count l) (rw is.width_is m))
 
   -- what is found of a system is found of the bits and the octets that it was made of
-  pub attempt_of_bits : (recorded : List Operation) (answer : Option (Vec ℕ Global)) → SolvesSystem system recorded answer
-      → SolvesRows bits.height bits.width (with_octet_rows first (length hdpc.rows) bits.bit (entry_of hdpc)) recorded answer
-  attempt_of_bits recorded None found = rw (← is.hdpc_is, ← is.first_is, ← is.width_is, ← is.ones_are.count) (homogeneous_same octets (length system.ones) system.width _ _ same_entries found)
-  attempt_of_bits recorded (Some order) found = rw (← is.hdpc_is, ← is.first_is, ← is.width_is, ← is.ones_are.count) (finds_same octets (length system.ones) system.width _ _ same_entries (recorded ++ Reorder order.items ∷ []) found)
+  pub attempt_of_bits : (answer : Option (List Operation)) → SolvesSystem system answer
+      → SolvesRows bits.height bits.width (with_octet_rows first (length hdpc.rows) bits.bit (entry_of hdpc)) answer
+  attempt_of_bits None found = rw (← is.hdpc_is, ← is.first_is, ← is.width_is, ← is.ones_are.count) (homogeneous_same octets (length system.ones) system.width _ _ same_entries found)
+  attempt_of_bits (Some operations) found = rw (← is.hdpc_is, ← is.first_is, ← is.width_is, ← is.ones_are.count) (finds_same octets (length system.ones) system.width _ _ same_entries operations found)
 
   pub solved_of_bits : (solved : Solved) → IsSolved (length system.ones) system.width (rows_of_system system) solved → IsSolved bits.height bits.width (with_octet_rows first (length hdpc.rows) bits.bit (entry_of hdpc)) solved
-  solved_of_bits (Operations operations) found = rw (← is.hdpc_is, ← is.first_is, ← is.width_is, ← is.ones_are.count) (finds_same octets (length system.ones) system.width _ _ same_entries (operations_of operations) found)
-  solved_of_bits (Undetermined column) found = (attempt_of_bits [] None found.0, shown_of_bits column found.1) where
+  solved_of_bits (Operations operations) found = attempt_of_bits (Some (operations_of operations)) found
+  solved_of_bits (Undetermined column) found = (attempt_of_bits None found.0, shown_of_bits column found.1) where
     shown_of_bits : (column : Option (Vec ℕ Global)) → IfSome column (λ shown. IsHomogeneousColumn octets (length system.ones) system.width (rows_of_system system) shown.items)
         → IfSome column (λ shown. IsHomogeneousColumn octets bits.height bits.width (with_octet_rows first (length hdpc.rows) bits.bit (entry_of hdpc)) shown.items)
     shown_of_bits None shown = tt

@@ -5,29 +5,41 @@ use Rattle.std.proofs.lemmas.List.Elements.{All-append, All-nil, Contains-get_or
 use Rattle.rq_algebra.specs.Operations.{Operation}
 use Rattle.rq_algebra.specs.Systems.{at}
 use Rattle.rq_standard.specs.OctetField.{octets}
-use Rattle.rq_parts.specs.DenseOctetMatrix.{OctetTable, entry_of}
-use Rattle.rq_peeling.specs.SystemRows.{AreRowsOfBits, one_in}
+use Rattle.rq_parts.specs.DenseOctetMatrix.{entry_of}
+use Rattle.rq_peeling.specs.SystemRows.{one_in}
 use Rattle.rq_solver.specs.FourthPhase.{AreUnfinished, FinishesPivots, IsFinished, Sparsifies}
-use Rattle.rq_solver.specs.PivotAdditions.{IsCleared, IsUncleared, RecordsPivots, TakesPivots, TakesPivotsBy}
+use Rattle.rq_solver.specs.Peeled.{inactive_count, IsUnderWay}
+use Rattle.rq_solver.specs.PivotAdditions.{IsCleared, IsUncleared, PeelsRows, RecordsPivots, TakesPivots, TakesPivotsBy}
 use Rattle.rq_solver.specs.SecondPhase.{ClearsColumns, IsStepTo}
-use Rattle.rq_peeling.specs.Peeling.{IsPeeled}
+use Rattle.rq_peeling.specs.Peeling.{Pivots}
 use Rattle.rq_peeling.specs.RowOnes.{ones_of}
 use Rattle.rq_elimination.specs.RecordedRows.{Performs, Records}
 use Rattle.rq_elimination.specs.declared.recorded.RecordedRows.{RecordedRows}
-use Rattle.rq_elimination.specs.RowSteps.{AreRows, IsEchelon, rows_after}
+use Rattle.rq_elimination.specs.RowSteps.{IsEchelon, rows_after}
 use Rattle.rq_elimination.proofs.Performing.{performs_none, performs_more, records_none, records_more}
 use Rattle.rq_elimination.proofs.StepColumns.{rows_after-none, rows_after-next}
+use Rattle.rq_solver.specs.declared.pi_solver.peeled.Peeled.{Peeled}
 use Rattle.rq_solver.proofs.PivotsTaken.{own_and_taken, own_is_left}
 use Rattle.rq_solver.proofs.StepsToRows.{steps_to, sums_to}
 
 -- a row that stays as it was is finished as it was
-finished_same : {rows order : List ℕ} {count : ℕ} {column : ℕ → ℕ} (m now : ℕ → ℕ → ℕ) (r : ℕ) → ((k : ℕ) → now r k ≡ m r k) → IsFinished rows order count column m r → IsFinished rows order count column now r
-finished_same {rows} {order} {count} {column} m now r same done =
-    record { cleared = record { entries = λ i l. same (at order i) ∙ done.cleared.entries i l }; zeros = λ f l. same (column f) ∙ done.zeros f l }
+finished_same : {pivots : Pivots} {column : ℕ → ℕ} (m now : ℕ → ℕ → ℕ) (r : ℕ) → ((k : ℕ) → now r k ≡ m r k)
+    → IsFinished pivots column m r → IsFinished pivots column now r
+finished_same {pivots} {column} m now r same done =
+    record { cleared = record { entries = λ i l. same (at pivots.order i) ∙ done.cleared.entries i l }; zeros = λ f l. same (column f) ∙ done.zeros f l }
 
-module _ (lists : List (List ℕ)) (rows order places : List ℕ) (width : ℕ) (bits : AreRowsOfBits width lists) (peeled : IsPeeled width lists (record { rows = rows; order = order; places = places })) where
+module _ (peeled : Peeled) (peels : PeelsRows peeled.ones peeled.peeling) where
+  abbrev lists : List (List ℕ)
+  lists = peeled.ones
+
+  abbrev rows : List ℕ
+  rows = peeled.peeling.rows
+
+  abbrev order : List ℕ
+  order = peeled.peeling.order
+
   rows_apart : (p q : ℕ) → p < length rows → q < length rows → p ≢ q → at rows p ≢ at rows q
-  rows_apart p q l n d e = d (peeled.in_rows.apart p q l n e)
+  rows_apart p q l n d e = d (peels.peeled.in_rows.apart p q l n e)
 
   -- a row takes rows of earlier pivots alone
   only_earlier : (p j : ℕ) → p < length rows → j < length rows → Contains (ones_of lists (at rows p)) (at order j) → at rows j ≢ at rows p → j < p
@@ -35,7 +47,7 @@ module _ (lists : List (List ℕ)) (rows order places : List ℕ) (width : ℕ) 
     | inl early ↦ early
     | inr late ↦
         let other : j ≢ p = (λ e. d (ap (at rows) e)) in
-        absurd (peeled.later p j (omega arith) n c)
+        absurd (peels.peeled.later p j (omega arith) n c)
   ]
 
   module _ (Done : List Operation → RecordedRows → RecordedRows → Type 0) (p : ℕ) (in_rows : p < length rows) (old new : RecordedRows) (taken : TakesPivotsBy Done rows order (at rows p) (ones_of lists (at rows p)) old new) (m : ℕ → ℕ → ℕ)
@@ -48,19 +60,19 @@ module _ (lists : List (List ℕ)) (rows order places : List ℕ) (width : ℕ) 
     turns_back cleared = record {
       entries = λ i l.
           taken.taken m needed i l ∙ ap (λ (x : ℕ). octets.add x (if at rows i == at rows p then 0 else one_in lists (at rows p) (at order i))) (cleared.entries i l)
-          ∙ own_and_taken lists rows order places width bits peeled i l (at rows p);
+          ∙ own_and_taken lists rows order peeled.peeling.places (length peeled.peeling.places) peels.bits peels.peeled i l (at rows p);
     }
 
     pub turns_again : IsUncleared lists rows order m (at rows p) → IsCleared rows order (rows_after octets taken.steps m) (at rows p)
     turns_again raw = record {
       entries = λ i l.
           taken.taken m needed i l ∙ ap (λ (x : ℕ). octets.add x (if at rows i == at rows p then 0 else one_in lists (at rows p) (at order i))) (raw.entries i l)
-          ∙ own_is_left lists rows order places width bits peeled i l (at rows p);
+          ∙ own_is_left lists rows order peeled.peeling.places (length peeled.peeling.places) peels.bits peels.peeled i l (at rows p);
     }
 
   -- ---- back
 
-  pub sparsifies_none : (marks : List Bool) (old : RecordedRows) → Sparsifies lists rows order marks (length rows) old old
+  pub sparsifies_none : (marks : List Bool) (old : RecordedRows) → Sparsifies peeled marks (length rows) old old
   sparsifies_none marks old = record {
     steps = [];
     performs = performs_none old;
@@ -70,11 +82,11 @@ module _ (lists : List (List ℕ)) (rows order places : List ℕ) (width : ℕ) 
     uncleared = λ m pivots p late l e. absurd (omega arith);
   }
 
-  module _ (marks now : List Bool) (q : ℕ) (in_rows : q < length rows) (old cur : RecordedRows) (v : Sparsifies lists rows order marks (q + 1) old cur) (same : (p : ℕ) → p ≢ q → get_or now p false ≡ get_or marks p false) where
+  module _ (marks now : List Bool) (q : ℕ) (in_rows : q < length rows) (old cur : RecordedRows) (v : Sparsifies peeled marks (q + 1) old cur) (same : (p : ℕ) → p ≢ q → get_or now p false ≡ get_or marks p false) where
     own_stays : (m : ℕ → ℕ → ℕ) (k : ℕ) → rows_after octets v.steps m (at rows q) k ≡ m (at rows q) k
     own_stays m k = v.elsewhere m (at rows q) k (λ p late l. rows_apart p q l in_rows (λ e. omega (arith, e, late)))
 
-    pub back_skipped : get_or now q false ≡ false → Sparsifies lists rows order now q old cur
+    pub back_skipped : get_or now q false ≡ false → Sparsifies peeled now q old cur
     back_skipped unset = record {
       steps = v.steps;
       performs = v.performs;
@@ -106,7 +118,7 @@ module _ (lists : List (List ℕ)) (rows order places : List ℕ) (width : ℕ) 
             let turned = turns_back Performs q in_rows cur new taken (rows_after octets v.steps m) (λ j l n. early_cleared j (omega arith) n) (early_cleared q (omega arith) in_rows) in
             record { entries = λ i l. after_both m (at rows q) (at order i) ∙ turned.entries i l }
 
-      pub back_taken : Sparsifies lists rows order now q old new
+      pub back_taken : Sparsifies peeled now q old new
       back_taken = record {
         steps = v.steps ++ taken.steps;
         performs = performs_more v.steps taken.steps old cur new v.performs taken.done;
@@ -124,8 +136,11 @@ module _ (lists : List (List ℕ)) (rows order places : List ℕ) (width : ℕ) 
 
   -- ---- the end
 
-  module _ (inactive_rows : List ℕ) (marks : List Bool) (count : ℕ) where
-    pub finish_none : (old : RecordedRows) → FinishesPivots lists rows order inactive_rows marks count 0 old old
+  module _ (inactive_rows : List ℕ) (marks : List Bool) where
+    abbrev count : ℕ
+    count = inactive_count peeled.peeling
+
+    pub finish_none : (old : RecordedRows) → FinishesPivots peeled inactive_rows marks 0 old old
     finish_none old = record {
       steps = [];
       records = records_none old;
@@ -134,7 +149,7 @@ module _ (lists : List (List ℕ)) (rows order places : List ℕ) (width : ℕ) 
       final = λ m column before p l. absurd (omega arith);
     }
 
-    module _ (t : ℕ) (in_rows : t < length rows) (old cur mid : RecordedRows) (v : FinishesPivots lists rows order inactive_rows marks count t old cur) (turn : ClearsColumns inactive_rows (at rows t) 0 count count (entry_of cur.table (at rows t)) cur mid)
+    module _ (t : ℕ) (in_rows : t < length rows) (old cur mid : RecordedRows) (v : FinishesPivots peeled inactive_rows marks t old cur) (turn : ClearsColumns inactive_rows (at rows t) 0 count count (entry_of cur.table (at rows t)) cur mid)
         (apart : (p f : ℕ) → p < length rows → f < count → at rows p ≢ at inactive_rows f) where
       first_recorded : Records (v.steps ++ turn.steps) old mid
       first_recorded = records_more v.steps turn.steps old cur mid v.records turn.records
@@ -154,7 +169,7 @@ module _ (lists : List (List ℕ)) (rows order places : List ℕ) (width : ℕ) 
       first_elsewhere : (m : ℕ → ℕ → ℕ) (r k : ℕ) → ((p : ℕ) → p < t + 1 → at rows p ≢ r) → rows_after octets (v.steps ++ turn.steps) m r k ≡ m r k
       first_elsewhere m r k out = first_is m r k ∙ turn.elsewhere (rows_after octets v.steps m) r k (λ e. out t (omega arith) (sym e)) ∙ v.elsewhere m r k (λ p l. out p (omega arith))
 
-      module _ (m : ℕ → ℕ → ℕ) (column : ℕ → ℕ) (before : AreUnfinished lists rows order inactive_rows marks count old.table column m) where
+      module _ (m : ℕ → ℕ → ℕ) (column : ℕ → ℕ) (before : AreUnfinished peeled inactive_rows marks old.table column m) where
         reduced_stay : (f k : ℕ) → f < count → rows_after octets v.steps m (at inactive_rows f) k ≡ m (at inactive_rows f) k
         reduced_stay f k l = v.elsewhere m (at inactive_rows f) k (λ p n. apart p f (omega arith) l)
 
@@ -170,7 +185,7 @@ module _ (lists : List (List ℕ)) (rows order places : List ℕ) (width : ℕ) 
             ∙ turn.cleared (rows_after octets v.steps m) column (λ a g from n o. reduced_stay a (column g) n ∙ before.units a g from n o)
             (λ g from n. own_stays_yet (column g) ∙ before.shown t g in_rows n ∙ ap (λ table. entry_of table (at rows t) g) (sym v.records.table)) f (omega arith) l l
 
-      pub finish_plain : get_or marks t false ≡ false → FinishesPivots lists rows order inactive_rows marks count (t + 1) old mid
+      pub finish_plain : get_or marks t false ≡ false → FinishesPivots peeled inactive_rows marks (t + 1) old mid
       finish_plain unset = record {
         steps = v.steps ++ turn.steps;
         records = first_recorded;
@@ -192,11 +207,11 @@ module _ (lists : List (List ℕ)) (rows order places : List ℕ) (width : ℕ) 
         all_other : (m : ℕ → ℕ → ℕ) (p k : ℕ) → p < length rows → p ≢ t → rows_after octets ((v.steps ++ turn.steps) ++ taken.steps) m (at rows p) k ≡ rows_after octets v.steps m (at rows p) k
         all_other m p k l d = all_is m (at rows p) k ∙ taken.elsewhere (rows_after octets (v.steps ++ turn.steps) m) (at rows p) k (rows_apart p t l in_rows d) ∙ first_other m p k l d
 
-        module _ (m : ℕ → ℕ → ℕ) (column : ℕ → ℕ) (before : AreUnfinished lists rows order inactive_rows marks count old.table column m) where
-          done_before : (j : ℕ) → j < t → j < length rows → IsFinished rows order count column (rows_after octets (v.steps ++ turn.steps) m) (at rows j)
+        module _ (m : ℕ → ℕ → ℕ) (column : ℕ → ℕ) (before : AreUnfinished peeled inactive_rows marks old.table column m) where
+          done_before : (j : ℕ) → j < t → j < length rows → IsFinished peeled.peeling column (rows_after octets (v.steps ++ turn.steps) m) (at rows j)
           done_before j l n = finished_same _ _ _ (λ k. first_other m j k n (omega arith)) (v.final m column before j l)
 
-          own_finished : IsFinished rows order count column (rows_after octets ((v.steps ++ turn.steps) ++ taken.steps) m) (at rows t)
+          own_finished : IsFinished peeled.peeling column (rows_after octets ((v.steps ++ turn.steps) ++ taken.steps) m) (at rows t)
           own_finished =
               let again = turns_again Records t in_rows mid new taken (rows_after octets (v.steps ++ turn.steps) m) (λ j l n. (done_before j l n).cleared)
               (record { entries = λ i n. first_pivots m column before i n ∙ (before.raw t in_rows yes).entries i n }) in
@@ -208,7 +223,7 @@ module _ (lists : List (List ℕ)) (rows order places : List ℕ) (width : ℕ) 
                     ∙ first_zero m column before f n;
               }
 
-        pub finish_again : FinishesPivots lists rows order inactive_rows marks count (t + 1) old new
+        pub finish_again : FinishesPivots peeled inactive_rows marks (t + 1) old new
         finish_again = record {
           steps = (v.steps ++ turn.steps) ++ taken.steps;
           records = records_more (v.steps ++ turn.steps) taken.steps old mid new first_recorded taken.done;
@@ -221,30 +236,14 @@ module _ (lists : List (List ℕ)) (rows order places : List ℕ) (width : ℕ) 
         }
 
 -- rows in echelon form that are no pivots' stay so where these take back what they took
-pub echelon_stays : (lists : List (List ℕ)) (rows order : List ℕ) (marks : List Bool) (inactive_rows : List ℕ) (count : ℕ) (old new : RecordedRows) → Sparsifies lists rows order marks 0 old new → AreRows inactive_rows old.table → count ≤ old.table.width
-    → ((p f : ℕ) → p < length rows → f < length inactive_rows → at rows p ≢ at inactive_rows f) → IsEchelon inactive_rows count old.table → IsEchelon inactive_rows count new.table
-echelon_stays lists rows order marks inactive_rows count old new back are narrow apart echelon =
-    let same : (i k : ℕ) → i < length inactive_rows → k < count → entry_of new.table (at inactive_rows i) k ≡ entry_of old.table (at inactive_rows i) k = (λ (i k : ℕ) (l : i < length inactive_rows) (n : k < count).
-    back.performs.entries (at inactive_rows i) k (are.below i l) (omega arith) ∙ back.elsewhere (entry_of old.table) (at inactive_rows i) k (λ p from o. apart p i o l)) in
+pub echelon_stays : (p : Peeled) (marks : List Bool) (left : List ℕ) (count : ℕ) (old new : RecordedRows)
+    → Sparsifies p marks 0 old new → IsUnderWay p left old → count ≤ old.table.width → IsEchelon left count old.table → IsEchelon left count new.table
+echelon_stays p marks left count old new back under narrow echelon =
+    let same : (i k : ℕ) → i < length left → k < count → entry_of new.table (at left i) k ≡ entry_of old.table (at left i) k =
+    (λ (i k : ℕ) (l : i < length left) (n : k < count).
+    back.performs.entries (at left i) k (under.listed.below i l) (omega arith) ∙ back.elsewhere (entry_of old.table) (at left i) k (λ q from o. under.apart q i o l)) in
     record {
       fits = echelon.fits;
       ones = λ p l. same p p (omega (arith, echelon.fits)) l ∙ echelon.ones p l;
       zeros = λ i p l early n. same i p l n ∙ echelon.zeros i p l early n;
     }
-
--- what was done is told of the table and the operations alone
-pub takes_back_as : (lists : List (List ℕ)) (rows order : List ℕ) (marks : List Bool) (low : ℕ) (old new again : RecordedRows) → again.table ≡ new.table → again.operations ≡ new.operations → Sparsifies lists rows order marks low old new → Sparsifies lists rows order marks low old again
-takes_back_as lists rows order marks low old new again table operations back = record {
-  steps = back.steps;
-  performs = record {
-    recorded = operations ∙ back.performs.recorded;
-    among = back.performs.among;
-    width = ap (λ (t : OctetTable). t.width) table ∙ back.performs.width;
-    height = ap (λ (t : OctetTable). length t.rows) table ∙ back.performs.height;
-    entries = λ i k l m. ap (λ (t : OctetTable). entry_of t i k) table ∙ back.performs.entries i k l m;
-  };
-  elsewhere = back.elsewhere;
-  within = back.within;
-  unmarked = back.unmarked;
-  uncleared = back.uncleared;
-}

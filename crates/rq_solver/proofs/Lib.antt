@@ -7,7 +7,7 @@ pub mod FinishedPivots
 pub mod HdpcClearing
 pub mod InactiveFilling
 pub mod LaterPhases
-pub mod ListingLaws
+pub mod LeftRows
 pub mod OctetColumns
 pub mod OctetRows
 pub mod OctetSums
@@ -23,4 +23,3 @@ pub mod StepDots
 pub mod StepsToRows
 pub mod Substitution
 pub mod TakenAgain
-pub mod UnderWay

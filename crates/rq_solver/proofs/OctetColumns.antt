@@ -11,10 +11,10 @@ use Rattle.rq_algebra.proofs.Choices.{if_same, if_apart}
 
 -- ---- columns from one on
 
-if_below : (a b x y : ℕ) → a < b → (if nat_lt a b then x else y) ≡ x
+pub if_below : (a b x y : ℕ) → a < b → (if nat_lt a b then x else y) ≡ x
 if_below a b x y l = ap (λ (t : Bool). if t then x else y) (lt-ltb a b l)
 
-if_from : (a b x y : ℕ) → b ≤ a → (if nat_lt a b then x else y) ≡ y
+pub if_from : (a b x y : ℕ) → b ≤ a → (if nat_lt a b then x else y) ≡ y
 if_from a b x y l = ap (λ (t : Bool). if t then x else y) (le-ltb a b l)
 
 module _ (column : ℕ) (octet : ℕ → ℕ → ℕ) where

@@ -1,9 +1,9 @@
 -- What the elimination over peeled rows has found when it ends.
-use Rattle.std.proofs.Common.{◌≡◌, ◌≢◌, ◌⊎◌, ℕ, suc, ◌+◌, ◌-◌, ◌<◌, ◌≤◌, ◌==◌, if◌then◌else◌, Bool, List, [], ◌∷◌, ◌++◌, All, Contains, map, length, drop, append_assoc, refl, sym, ap, ◌∙◌, arith, inl, inr}
+use Rattle.std.proofs.Common.{◌≡◌, ◌≢◌, ◌⊎◌, ℕ, suc, ◌+◌, ◌-◌, ◌<◌, ◌≤◌, ◌==◌, if◌then◌else◌, Bool, List, [], ◌∷◌, ◌++◌, All, Contains, map, length, append_assoc, refl, sym, ap, ◌∙◌, arith, inl, inr}
 use Rattle.std.specs.List.{range_with_len}
 use Rattle.std.specs.List.Sorted.{IsPermutation}
 use Rattle.std.proofs.lemmas.Bool.{cases_eq, cases_lt}
-use Rattle.std.proofs.lemmas.List.{get_or-map, get_or_default, length-map}
+use Rattle.std.proofs.lemmas.List.{get_or-append-add, get_or-map, get_or_append_left, get_or_default, length-map}
 use Rattle.std.proofs.lemmas.List.Elements.{All-append, Contains-get_or}
 use Rattle.std.proofs.lemmas.List.Sorted.{Contains-permutation, IsPermutation-sym}
 use Rattle.rq_algebra.specs.Arrangements.{ArePlaces, IsFewOn}
@@ -21,11 +21,13 @@ use Rattle.rq_algebra.proofs.Sums.{dot_same, dot_split, dot_zero, zero_mul}
 use Rattle.rq_standard.specs.OctetField.{octets}
 use Rattle.rq_parts.specs.DenseOctetMatrix.{entry_of}
 use Rattle.rq_solver.specs.FirstPhase.{HasPeeledPivots}
-use Rattle.rq_solver.specs.FourthPhase.{FinishesPivots, IsFinished, Sparsifies}
+use Rattle.rq_solver.specs.FourthPhase.{FinishesAllPivots, IsFinished, Sparsifies}
+use Rattle.rq_solver.specs.Peeled.{inactive_count, IsUnderWay}
 use Rattle.rq_solver.specs.PivotAdditions.{IsCleared}
 use Rattle.rq_solver.specs.RowOrder.{ListsRows}
 use Rattle.rq_solver.specs.SecondPhase.{AreUnits, SubstitutesBack}
 use Rattle.rq_peeling.specs.ColumnState.{IsOrderOf}
+use Rattle.rq_peeling.specs.Peeling.{Pivots}
 use Rattle.rq_elimination.specs.RecordedRows.{ChangesRows}
 use Rattle.rq_elimination.specs.declared.recorded.RecordedRows.{RecordedRows}
 use Rattle.rq_elimination.specs.RowSteps.{AreStepsBelow, IsEchelon, IsStuck, IsStepAmong, rows_after}
@@ -34,6 +36,7 @@ use Rattle.rq_algebra.proofs.Choices.{if_same, if_apart}
 use Rattle.rq_solver.proofs.PivotsCleared.{left_below, left_apart, pivot_or_left}
 use Rattle.rq_elimination.proofs.RowStepLaws.{rows_after-elements, follows_steps}
 use Rattle.rq_elimination.proofs.StepColumns.{rows_after-apart, rows_after-next, Contains-range}
+use Rattle.rq_solver.specs.declared.pi_solver.peeled.Peeled.{Peeled}
 use Rattle.rq_solver.proofs.StepDots.{rows_after-says}
 
 -- what was recorded for steps among all rows does to values what it did to the rows
@@ -44,14 +47,44 @@ module _ (height width : ℕ) (system : ℕ → ℕ → ℕ) (steps : List Opera
   pub steps_elements : HasElements octets height width (rows_after octets steps system)
   steps_elements = rows_after-elements octets height width steps system among small
 
-module _ (height width : ℕ) (system : ℕ → ℕ → ℕ) (rows order places : List ℕ) (arranged : IsOrderOf width order places) (rows_are : ArePlaces (length rows) height (at rows)) (listed : List ℕ) (listing : ListsRows height rows listed)
-    (inactive : ℕ) (middle last : RecordedRows) (peeled : HasPeeledPivots height width system (record { rows = rows; order = order; places = places }) (drop (length rows) listed) middle) (wide : length rows + inactive ≡ width) (narrow : inactive ≤ middle.table.width)
-    (changes : ChangesRows (drop (length rows) listed) middle last) (inactive_rows : List ℕ) (permuted : IsPermutation (drop (length rows) listed) inactive_rows) where
+module _ (p : Peeled) (left : List ℕ) (middle : RecordedRows) (under : IsUnderWay p left middle) (listing : ListsRows (length p.ones) p.peeling.rows left)
+    (system : ℕ → ℕ → ℕ) (peeled : HasPeeledPivots (length p.ones) (length p.peeling.places) system p.peeling left middle)
+    (last : RecordedRows) (changes : ChangesRows left middle last) (inactive_rows : List ℕ) (permuted : IsPermutation left inactive_rows) where
+  abbrev height : ℕ
+  height = length p.ones
+
+  abbrev peeling : Pivots
+  peeling = p.peeling
+
+  abbrev rows : List ℕ
+  rows = p.peeling.rows
+
+  abbrev order : List ℕ
+  order = p.peeling.order
+
+  abbrev places : List ℕ
+  places = p.peeling.places
+
+  abbrev width : ℕ
+  width = length places
+
   abbrev pivots : ℕ
   pivots = length rows
 
-  abbrev left : List ℕ
-  left = drop (length rows) listed
+  abbrev inactive : ℕ
+  inactive = inactive_count p.peeling
+
+  wide : pivots + inactive ≡ width
+  wide = omega (arith, under.pivots.peeled.peeled.few)
+
+  narrow : inactive ≤ middle.table.width
+  narrow = omega (arith, under.pivots.wide)
+
+  arranged : IsOrderOf width order places
+  arranged = under.pivots.peeled.peeled.columns
+
+  rows_are : ArePlaces pivots height (at rows)
+  rows_are = under.pivots.peeled.peeled.in_rows
 
   abbrev mid : ℕ → ℕ → ℕ
   mid = rows_after octets middle.operations system
@@ -88,16 +121,16 @@ module _ (height width : ℕ) (system : ℕ → ℕ → ℕ) (rows order places 
   of_left q = stacked_below pivots (at rows) (at inactive_rows) q
 
   in_left : (q : ℕ) → q < length inactive_rows → Contains left (at inactive_rows q)
-  in_left q l = Contains-permutation inactive_rows (drop (length rows) listed) (at inactive_rows q) (IsPermutation-sym (drop (length rows) listed) inactive_rows permuted) (Contains-get_or inactive_rows q 0 l)
+  in_left q l = Contains-permutation inactive_rows left (at inactive_rows q) (IsPermutation-sym left inactive_rows permuted) (Contains-get_or inactive_rows q 0 l)
 
   reduced_below : (q : ℕ) → q < length inactive_rows → at inactive_rows q < height
-  reduced_below q l = left_below height rows listed listing (at inactive_rows q) (in_left q l)
+  reduced_below q l = left_below height rows left listing (at inactive_rows q) (in_left q l)
 
   pivot_below : (p : ℕ) → p < pivots → at rows p < height
   pivot_below p l = rows_are.below p l
 
   apart : (p q : ℕ) → p < pivots → q < length inactive_rows → at rows p ≢ at inactive_rows q
-  apart p q l n = left_apart height rows listed listing (at inactive_rows q) p (in_left q n) l
+  apart p q l n = left_apart height rows left listing (at inactive_rows q) p (in_left q n) l
 
   pivot_pivot : (i p : ℕ) → i < pivots → p < pivots → meant (at rows i) (at order p) ≡ (if at rows p == at rows i then 1 else 0)
   pivot_pivot i p l n = kept p (at rows i) n ∙ (peeled.pivots i l).entries p n
@@ -107,7 +140,7 @@ module _ (height width : ℕ) (system : ℕ → ℕ → ℕ) (rows order places 
 
   -- each row is a pivot's, or one of those that are left
   row_found : (i : ℕ) → i < height → ((p : ℕ) × (p < pivots) × (at rows p ≡ i)) ⊎ ((q : ℕ) × (q < length inactive_rows) × (at inactive_rows q ≡ i))
-  row_found i l = elim (pivot_or_left height rows listed listing i l) [
+  row_found i l = elim (pivot_or_left height rows left listing i l) [
     | inl p ↦ inl p
     | inr c ↦ let d = Contains-permutation left inactive_rows i permuted c in inr (d.0, d.1, get_or_default inactive_rows d.0 0 i d.1 ∙ d.2)
   ]
@@ -184,7 +217,7 @@ module _ (height width : ℕ) (system : ℕ → ℕ → ℕ) (rows order places 
         let all : List ℕ = range_with_len 0 height in
         sym (rows_after-says octets all width 0 (at column) steps says system among says_is (at rows p) (Contains-range height (at rows p) (pivot_below p l)))
         ∙ rows_after-next octets middle.operations changes.steps says (at rows p) 0
-        ∙ rows_after-apart octets left changes.steps (rows_after octets middle.operations says) (at rows p) 0 changes.within (λ c. left_apart height rows listed listing (at rows p) p c l refl)
+        ∙ rows_after-apart octets left changes.steps (rows_after octets middle.operations says) (at rows p) 0 changes.within (λ c. left_apart height rows left listing (at rows p) p c l refl)
         ∙ alone says 0 handed p l ∙ handed p l
 
     left_says : (q : ℕ) → q < length inactive_rows → dot octets width (meant (at inactive_rows q)) (at column) ≡ 0
@@ -208,9 +241,12 @@ module _ (height width : ℕ) (system : ℕ → ℕ → ℕ) (rows order places 
 
   -- ---- all columns with pivots
 
-  module _ (lists : List (List ℕ)) (marks : List Bool) (returned reduced_state final : RecordedRows) (echelon : IsEchelon inactive_rows inactive last.table) (back : Sparsifies lists rows order marks 0 last returned) (reduces : SubstitutesBack inactive_rows inactive 0 returned reduced_state)
-      (finishes : FinishesPivots lists rows order inactive_rows marks inactive (length rows) reduced_state final)
-      (placed : List ℕ) (long : (q : ℕ) → q < length inactive_rows → at placed (length rows + q) ≡ at inactive_rows q) (starts : (p : ℕ) → p < length rows → at placed p ≡ at rows p) where
+  module _ (marks : List Bool) (returned reduced_state final : RecordedRows) (echelon : IsEchelon inactive_rows inactive last.table)
+      (back : Sparsifies p marks 0 last returned) (reduces : SubstitutesBack inactive_rows inactive 0 returned reduced_state)
+      (finishes : FinishesAllPivots p inactive_rows marks reduced_state final) where
+    abbrev placed : List ℕ
+    placed = rows ++ inactive_rows
+
     abbrev late_steps : List Operation
     late_steps = back.steps ++ (reduces.steps ++ finishes.steps)
 
@@ -276,7 +312,7 @@ module _ (height width : ℕ) (system : ℕ → ℕ → ℕ) (rows order places 
     meant_cleared : (p : ℕ) → p < pivots → IsCleared rows order meant (at rows p)
     meant_cleared p l = record { entries = λ i n. pivot_pivot p i l n }
 
-    finished : (p : ℕ) → p < pivots → IsFinished rows order inactive (λ f. at order (length rows + f)) (rows_after octets finishes.steps between) (at rows p)
+    finished : (p : ℕ) → p < pivots → IsFinished peeling (λ f. at order (length rows + f)) (rows_after octets finishes.steps between) (at rows p)
     finished p l = finishes.final between (λ f. at order (length rows + f)) (record {
       units = units;
       zeros = λ f i n o. between_pivot (at inactive_rows f) i o ∙ given_zero f i n o;
@@ -367,8 +403,8 @@ module _ (height width : ℕ) (system : ℕ → ℕ → ℕ) (rows order places 
           get_or-map (at placed) places (at order p) 0 0 (omega (arith, arranged.place_count, (arranged.ordered p l).0))
           ∙ ap (at placed) (arranged.ordered p l).1
           ∙ elim (cases_lt p pivots) [
-            | inl early ↦ starts p early ∙ sym (of_pivot p early)
-            | inr late ↦ let f = inactive_place p l late in rw (← f.2) (long f.0 (fits f.0 f.1) ∙ sym (of_left f.0))
+            | inl early ↦ get_or_append_left rows inactive_rows 0 p early ∙ sym (of_pivot p early)
+            | inr late ↦ let f = inactive_place p l late in rw (← f.2) (get_or-append-add rows inactive_rows f.0 0 ∙ sym (of_left f.0))
           ];
     }
 

@@ -1,7 +1,7 @@
 -- The pivots' columns of a system's rows, once the rows of bits and then those of octets have been cleared.
-use Rattle.std.proofs.Common.{◌≡◌, ◌≢◌, ℕ, ◌+◌, ◌-◌, ◌<◌, ◌≤◌, ◌⊎◌, List, [], ◌++◌, Contains, length, drop, get_or, sym, ap, ◌∙◌, subst, arith, inl, inr}
-use Rattle.std.proofs.lemmas.Bool.{cases_lt}
-use Rattle.std.proofs.lemmas.List.{length-drop, get_or-drop, get_or_default}
+use Rattle.std.proofs.Common.{◌≡◌, ◌≢◌, ℕ, ◌+◌, ◌<◌, ◌⊎◌, List, [], ◌++◌, Contains, length, sym, ap, ◌∙◌, subst, arith, inl, inr}
+use Rattle.std.proofs.lemmas.List.{get_or_default}
+use Rattle.std.proofs.lemmas.List.Elements.{Contains-append_left, Contains-append_right, Contains-get_or}
 use Rattle.rq_algebra.specs.Operations.{Operation}
 use Rattle.rq_algebra.specs.Systems.{at}
 use Rattle.rq_standard.specs.OctetField.{octets}
@@ -30,36 +30,19 @@ pub record AreCleared (rows order left : List ℕ) (m : ℕ → ℕ → ℕ) : T
 
 -- ---- the rows that are left
 
-module _ (height : ℕ) (rows listed : List ℕ) (listing : ListsRows height rows listed) where
-  -- where a row stands that is no pivot's
-  pub left_place : (r : ℕ) → Contains (drop (length rows) listed) r → (s : ℕ) × (length rows ≤ s) × (s < length listed) × (at listed s ≡ r)
-  left_place r c =
-      let long = length-drop (length rows) listed in
-      let inside : length rows + c.0 < length listed = omega (arith, long, c.1, listing.few) in
-      (length rows + c.0, (omega arith), inside, get_or_default listed (length rows + c.0) 0 r inside ∙ sym (get_or-drop (length rows) listed c.0 r) ∙ c.2)
+module _ (height : ℕ) (rows left : List ℕ) (listing : ListsRows height rows left) where
+  pub left_below : (r : ℕ) → Contains left r → r < height
+  left_below r c = rw (← get_or_default left c.0 0 r c.1 ∙ c.2) (listing.are.below c.0 c.1)
 
-  pub left_below : (r : ℕ) → Contains (drop (length rows) listed) r → r < height
-  left_below r c = let s = left_place r c in rw (← s.3) (listing.are.below s.0 s.2)
-
-  pub left_apart : (r p : ℕ) → Contains (drop (length rows) listed) r → p < length rows → at rows p ≢ r
-  left_apart r p c l e =
-      let s = left_place r c in
-      let z : p ≡ s.0 = listing.are.apart p s.0 (omega (arith, listing.few)) s.2 (listing.starts p l ∙ e ∙ sym s.3) in
-      omega (arith, z, s.1, l)
+  pub left_apart : (r p : ℕ) → Contains left r → p < length rows → at rows p ≢ r
+  left_apart r p c l e = listing.apart p c.0 l c.1 (e ∙ sym (get_or_default left c.0 0 r c.1 ∙ c.2))
 
   -- a row is a pivot's, or is left
-  pub pivot_or_left : (r : ℕ) → r < height → ((p : ℕ) × (p < length rows) × (at rows p ≡ r)) ⊎ Contains (drop (length rows) listed) r
-  pivot_or_left r l =
-      let c = listing.every r l in
-      elim (cases_lt c.0 (length rows)) [
-        | inl early ↦ inl (c.0, early, sym (listing.starts c.0 early) ∙ get_or_default listed c.0 0 r c.1 ∙ c.2)
-        | inr late ↦
-            let s : ℕ = c.0 - length rows in
-            let back : length rows + s ≡ c.0 = omega arith in
-            let inside : s < length (drop (length rows) listed) = omega (arith, length-drop (length rows) listed, c.1) in
-            let here : get_or (drop (length rows) listed) s r ≡ r = get_or-drop (length rows) listed s r ∙ ap (λ (i : ℕ). get_or listed i r) back ∙ c.2 in
-            inr (s, inside, here)
-      ]
+  pub pivot_or_left : (r : ℕ) → r < height → ((p : ℕ) × (p < length rows) × (at rows p ≡ r)) ⊎ Contains left r
+  pivot_or_left r l = elim (listing.every r l) [
+    | inl c ↦ inl (c.0, c.1, get_or_default rows c.0 0 r c.1 ∙ c.2)
+    | inr c ↦ inr c
+  ]
 
 -- ---- the rows of a system
 
@@ -88,21 +71,25 @@ module _ (lists : List (List ℕ)) (first : ℕ) (hdpc : OctetTable) where
       pivots_uncleared : (p : ℕ) → p < length rows → IsUncleared lists rows order (system_rows lists first hdpc) (at rows p)
       pivots_uncleared p l = uncleared (at rows p) (λ i n. pivot_of_bits p i l n)
 
-      module _ (listed : List ℕ) (listing : ListsRows (length lists) rows listed) where
-        module _ (zero one two : RecordedRows) (clears : ClearsRows lists rows order listed (length listed) zero one) (wipes : ClearsOctets rows order (entry_of hdpc) first (length hdpc.rows) one two) where
+      module _ (left : List ℕ) (listing : ListsRows (length lists) rows left) where
+        abbrev all : List ℕ
+        all = rows ++ left
+
+        module _ (zero one two : RecordedRows) (clears : ClearsRows lists rows order all (length all) zero one) (wipes : ClearsOctets rows order (entry_of hdpc) first (length hdpc.rows) one two) where
           system : ℕ → ℕ → ℕ
           system = system_rows lists first hdpc
 
           now : ℕ → ℕ → ℕ
           now = rows_after octets clears.steps system
 
-          cleared_at : (s : ℕ) → s < length listed → ((i : ℕ) → i < length hdpc.rows → first + i ≢ at listed s) → IsCleared rows order now (at listed s)
+          cleared_at : (r : ℕ) → Contains all r → ((i : ℕ) → i < length hdpc.rows → first + i ≢ r) → IsCleared rows order now r
           unfolding system now
-          cleared_at s l out = clears.cleared system pivots_uncleared s l (uncleared (at listed s) out)
+          cleared_at r c out =
+              let is : at all c.0 ≡ r = get_or_default all c.0 0 r c.1 ∙ c.2 in
+              rw is at (clears.cleared system pivots_uncleared c.0 c.1 (rw is (uncleared r out)))
 
           pivot_now : (p : ℕ) → p < length rows → IsCleared rows order now (at rows p)
-          unfolding system now
-          pivot_now p l = subst (IsCleared rows order now) (listing.starts p l) (clears.cleared system pivots_uncleared p (omega (arith, listing.few)) (subst (IsUncleared lists rows order system) (sym (listing.starts p l)) (pivots_uncleared p l)))
+          pivot_now p l = cleared_at (at rows p) (Contains-append_left rows left (at rows p) (Contains-get_or rows p 0 l)) (λ i n. pivot_of_bits p i l n)
 
           in_end : (r k : ℕ) → rows_after octets (clears.steps ++ wipes.steps) system r k ≡ rows_after octets wipes.steps now r k
           unfolding now
@@ -112,16 +99,15 @@ module _ (lists : List (List ℕ)) (first : ℕ) (hdpc : OctetTable) where
           unfolding system now
           octets_now i k l = clears.idle system (first + i) k (are.empty i l) ∙ octets_at i k l
 
-          left_cleared : (r : ℕ) → Contains (drop (length rows) listed) r → (p : ℕ) → p < length rows → rows_after octets wipes.steps now r (at order p) ≡ 0
+          left_cleared : (r : ℕ) → Contains left r → (p : ℕ) → p < length rows → rows_after octets wipes.steps now r (at order p) ≡ 0
           left_cleared r c p l = elim (cases r) [
             | inl q ↦ rw (← q.2) (wipes.shown now pivot_now (λ i j n o. octets_now i (at order j) n) q.0 p q.1 l)
             | inr out ↦
-                let s = left_place (length lists) rows listed listing r c in
-                let cleared : IsCleared rows order now r = subst (IsCleared rows order now) s.3 (cleared_at s.0 s.2 (λ i n. rw s.3 (out i n))) in
-                wipes.elsewhere now r (at order p) out ∙ cleared.entries p l ∙ if_apart (at rows p) r 1 0 (left_apart (length lists) rows listed listing r p c l)
+                wipes.elsewhere now r (at order p) out ∙ (cleared_at r (Contains-append_right rows left r c) out).entries p l
+                ∙ if_apart (at rows p) r 1 0 (left_apart (length lists) rows left listing r p c l)
           ]
 
-          pub cleared_both : AreCleared rows order (drop (length rows) listed) (rows_after octets (clears.steps ++ wipes.steps) (system_rows lists first hdpc))
+          pub cleared_both : AreCleared rows order left (rows_after octets (clears.steps ++ wipes.steps) (system_rows lists first hdpc))
           unfolding system
           cleared_both = record {
             pivots = λ p l. record { entries = λ i n. in_end (at rows p) (at order i) ∙ wipes.elsewhere now (at rows p) (at order i) (λ j o. pivot_of_bits p j l o) ∙ (pivot_now p l).entries i n };
@@ -130,12 +116,12 @@ module _ (lists : List (List ℕ)) (first : ℕ) (hdpc : OctetTable) where
 
           -- the tables that were filled with the inactive columns show them
           pub peeled_pivots : HasOctets hdpc → (inactive : ℕ) → length rows + inactive ≡ width → zero.operations ≡ [] → HasLeading (length lists) inactive (length lists) (λ r f. system_rows lists first hdpc r (at order (length rows + f))) zero.table
-              → HasPeeledPivots (length lists) width (system_rows lists first hdpc) (record { rows = rows; order = order; places = places }) (drop (length rows) listed) two
+              → HasPeeledPivots (length lists) width (system_rows lists first hdpc) (record { rows = rows; order = order; places = places }) left two
           peeled_pivots octets_are inactive wide empty holds =
               let done : List Operation = clears.steps ++ wipes.steps in
               let performs : Performs done zero two = performs_more clears.steps wipes.steps zero one two clears.performs wipes.performs in
               let recorded : two.operations ≡ done = performs.recorded ∙ ap (λ (l : List Operation). l ++ done) empty in
-              let both : AreCleared rows order (drop (length rows) listed) (rows_after octets done (system_rows lists first hdpc)) = cleared_both in
+              let both : AreCleared rows order left (rows_after octets done (system_rows lists first hdpc)) = cleared_both in
               record {
                 elements = λ i k l m. elim (cases i) [
                   | inl q ↦ rw (← q.2, octets_at q.0 k q.1) (octets_are.elements q.0 k q.1 (rw are.width_is m))

@@ -1,12 +1,12 @@
 -- Rows are cleared one after the other, those of the pivots first.
 use Rattle.std.proofs.Common.{◌≡◌, ◌≢◌, ℕ, ◌+◌, ◌<◌, List, [], ◌++◌, Contains, length, sym, ap, ◌∙◌, subst, arith, inl, inr, if◌then◌else◌, ◌==◌}
 use Rattle.std.proofs.lemmas.Bool.{cases_eq, cases_lt}
+use Rattle.rq_algebra.specs.Arrangements.{ArePlaces}
 use Rattle.rq_algebra.specs.Operations.{Operation}
 use Rattle.rq_algebra.specs.Systems.{at}
 use Rattle.rq_standard.specs.OctetField.{octets}
 use Rattle.rq_peeling.specs.SystemRows.{AreRowsOfBits, one_in}
 use Rattle.rq_solver.specs.PivotAdditions.{IsCleared, IsUncleared, TakesPivots, ClearsRows}
-use Rattle.rq_solver.specs.RowOrder.{ListsRows}
 use Rattle.rq_peeling.specs.Peeling.{IsPeeled}
 use Rattle.rq_peeling.specs.RowOnes.{ones_of}
 use Rattle.rq_elimination.specs.declared.recorded.RecordedRows.{RecordedRows}
@@ -26,7 +26,7 @@ module _ (lists : List (List ℕ)) (rows order listed : List ℕ) where
     cleared = λ m pivots s l. absurd (omega arith);
   }
 
-  module _ (width : ℕ) (places : List ℕ) (bits : AreRowsOfBits width lists) (peeled : IsPeeled width lists (record { rows = rows; order = order; places = places })) (listing : ListsRows (length lists) rows listed) (t : ℕ) (in_listed : t < length listed)
+  module _ (width : ℕ) (places : List ℕ) (bits : AreRowsOfBits width lists) (peeled : IsPeeled width lists (record { rows = rows; order = order; places = places })) (starts : (p : ℕ) → p < length rows → at listed p ≡ at rows p) (are : ArePlaces (length listed) (length lists) (at listed)) (t : ℕ) (in_listed : t < length listed)
       (old cur new : RecordedRows) (v : ClearsRows lists rows order listed t old cur) (taken : TakesPivots rows order (at listed t) (ones_of lists (at listed t)) cur new) where
     all_steps : List Operation
     all_steps = v.steps ++ taken.steps
@@ -62,7 +62,7 @@ module _ (lists : List (List ℕ)) (rows order listed : List ℕ) where
       module _ (pivots : (p : ℕ) → p < length rows → IsUncleared lists rows order m (at rows p)) where
         earlier : (j : ℕ) → j < length rows → j < t → IsCleared rows order now (at rows j)
         unfolding now
-        earlier j l before_t = subst (IsCleared rows order now) (listing.starts j l) (v.cleared m pivots j before_t (subst (IsUncleared lists rows order m) (sym (listing.starts j l)) (pivots j l)))
+        earlier j l before_t = subst (IsCleared rows order now) (starts j l) (v.cleared m pivots j before_t (subst (IsUncleared lists rows order m) (sym (starts j l)) (pivots j l)))
 
         -- a pivot whose row this one takes stands before it
         needed : (j : ℕ) → j < length rows → Contains (ones_of lists (at listed t)) (at order j) → at rows j ≢ at listed t → IsCleared rows order now (at rows j)
@@ -70,7 +70,7 @@ module _ (lists : List (List ℕ)) (rows order listed : List ℕ) where
           | inl first ↦ earlier j l first
           | inr late ↦
               let in_rows : t < length rows = omega arith in
-              let same : at listed t ≡ at rows t = listing.starts t in_rows in
+              let same : at listed t ≡ at rows t = starts t in_rows in
               let apart : j ≢ t = (λ e. d (ap (at rows) e ∙ sym same)) in
               absurd (peeled.later t j (omega arith) l (subst (λ (r : ℕ). Contains (ones_of lists r) (at order j)) same c))
         ]
@@ -91,7 +91,7 @@ module _ (lists : List (List ℕ)) (rows order listed : List ℕ) where
           | inl e ↦ subst (λ (q : ℕ). IsCleared rows order (rows_after octets all_steps m) (at listed q)) (sym e) (cleared_now (subst (λ (q : ℕ). IsUncleared lists rows order m (at listed q)) e raw))
           | inr d ↦ record {
             entries = λ i n.
-                stays (at listed s) (at order i) (λ e. d (listing.are.apart s t (omega arith) in_listed e))
+                stays (at listed s) (at order i) (λ e. d (are.apart s t (omega arith) in_listed e))
                 ∙ (v.cleared m pivots s (omega arith) raw).entries i n;
           }
         ]
@@ -103,7 +103,7 @@ module _ (lists : List (List ℕ)) (rows order listed : List ℕ) where
       performs = performs_more v.steps taken.steps old cur new v.performs taken.done;
       idle = idle_next;
       rest = λ m s k l n.
-          let apart : at listed s ≢ at listed t = (λ e. let z : s ≡ t = listing.are.apart s t n in_listed e in omega (arith, z, l)) in
+          let apart : at listed s ≢ at listed t = (λ e. let z : s ≡ t = are.apart s t n in_listed e in omega (arith, z, l)) in
           stays m (at listed s) k apart ∙ v.rest m s k (omega arith) n;
       kept = λ m k none i. kept_next m k none i;
       cleared = λ m pivots s l raw. cleared_next m pivots s l raw;

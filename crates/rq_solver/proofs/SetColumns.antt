@@ -1,4 +1,4 @@
--- A column of an elimination in which entry after entry is set, each of which was 0 before.
+-- A column in which entry after entry is set, each of which was 0 before.
 use Rattle.std.proofs.Common.{◌≡◌, ◌≢◌, ℕ, ◌+◌, ◌<◌, ◌≤◌, ◌==◌, List, count_by, length, set, refl, sym, ap, ◌∙◌, arith, inl, inr}
 use Rattle.std.proofs.lemmas.Bool.{cases_eq}
 use Rattle.std.proofs.lemmas.List.{get_or-set_other, get_or-set_same, length-set}
@@ -8,13 +8,14 @@ use Rattle.rq_algebra.specs.Systems.{at, dot, IsColumn}
 use Rattle.rq_algebra.proofs.Parity.{sum_listed_is}
 use Rattle.rq_algebra.proofs.Sums.{dot_same}
 use Rattle.rq_standard.specs.OctetField.{octets}
-use Rattle.rq_parts.specs.DenseOctetMatrix.{entry_of}
+use Rattle.rq_parts.specs.DenseOctetMatrix.{OctetTable, entry_of}
 use Rattle.rq_peeling.specs.RowOnes.{ones_of}
 use Rattle.rq_peeling.specs.SystemRows.{one_in}
 use Rattle.rq_peeling.proofs.Counting.{count_absent}
-use Rattle.rq_solver.specs.Elimination.{inactive_count, left_rows, IsUnderWay}
 use Rattle.rq_solver.specs.HomogeneousColumns.{inactive_dot, inactive_entry, HasZerosAtPivots, SolvesLeftRows, SolvesPivotRows}
-use Rattle.rq_solver.specs.declared.pi_solver.elimination.Elimination.{Elimination}
+use Rattle.rq_solver.specs.Peeled.{inactive_count}
+use Rattle.rq_solver.specs.PivotAdditions.{PeelsRows}
+use Rattle.rq_solver.specs.declared.pi_solver.peeled.Peeled.{Peeled}
 use Rattle.rq_solver.proofs.ChangedColumns.{dot_kept, dot_own}
 use Rattle.rq_solver.proofs.PivotsTaken.{own_one}
 
@@ -23,7 +24,7 @@ parity_once : (indices : List ℕ) (k : ℕ) → count_by (λ index. index == k)
 unfolding parity
 parity_once indices k once = omega (arith, once)
 
-module _ (e : Elimination) (under : IsUnderWay e) (old : List ℕ) (count : length old ≡ length e.peeling.places) where
+module _ (e : Peeled) (peels : PeelsRows e.ones e.peeling) (others : List ℕ) (table : OctetTable) (old : List ℕ) (count : length old ≡ length e.peeling.places) where
   abbrev width : ℕ
   width = length e.peeling.places
 
@@ -40,7 +41,7 @@ module _ (e : Elimination) (under : IsUnderWay e) (old : List ℕ) (count : leng
     set_count = length-set old (at e.peeling.order place) value ∙ count
 
     set_within : at e.peeling.order place < length old
-    set_within = omega (arith, count, (under.peeled.peeled.columns.ordered place inside).0)
+    set_within = omega (arith, count, (peels.peeled.columns.ordered place inside).0)
 
     set_here : at new (at e.peeling.order place) ≡ value
     set_here = get_or-set_same old (at e.peeling.order place) value 0 set_within
@@ -50,7 +51,7 @@ module _ (e : Elimination) (under : IsUnderWay e) (old : List ℕ) (count : leng
 
     set_place : (p : ℕ) → p < width → p ≢ place → at new (at e.peeling.order p) ≡ at old (at e.peeling.order p)
     set_place p l apart =
-        let ordered = under.peeled.peeled.columns.ordered in
+        let ordered = peels.peeled.columns.ordered in
         set_other (at e.peeling.order p) (λ same. apart (sym (ordered p l).1 ∙ ap (at e.peeling.places) same ∙ (ordered place inside).1))
 
     pub set_elements : IsColumn octets width (at old) → value < octets.size → IsColumn octets width (at new)
@@ -61,28 +62,28 @@ module _ (e : Elimination) (under : IsUnderWay e) (old : List ℕ) (count : leng
 
   -- ---- an inactive entry
 
-  module _ (f value : ℕ) (inside : f < inactive_count e) where
+  module _ (f value : ℕ) (inside : f < inactive_count e.peeling) where
     abbrev left : List ℕ
     left = set old (at e.peeling.order (pivots + f)) value
 
     place_within : pivots + f < width
     place_within = omega (arith, inside)
 
-    pub left_here : inactive_entry e left f ≡ value
+    pub left_here : inactive_entry e.peeling left f ≡ value
     left_here = set_here (pivots + f) value place_within
 
-    pub left_other : (g : ℕ) → g < inactive_count e → g ≢ f → inactive_entry e left g ≡ inactive_entry e old g
+    pub left_other : (g : ℕ) → g < inactive_count e.peeling → g ≢ f → inactive_entry e.peeling left g ≡ inactive_entry e.peeling old g
     left_other g l apart = set_place (pivots + f) value place_within (pivots + g) (omega (arith, l)) (λ same. apart (omega (arith, same)))
 
-    pub left_zeros : HasZerosAtPivots e 0 old → HasZerosAtPivots e 0 left
+    pub left_zeros : HasZerosAtPivots e.peeling 0 old → HasZerosAtPivots e.peeling 0 left
     left_zeros zeros p from l = set_place (pivots + f) value place_within p (omega (arith, l, inside)) (λ same. omega (arith, same, l)) ∙ zeros p from l
 
     -- a row in whose own column it is, and one that has 0 there
-    pub left_own : (row : ℕ) → inactive_entry e old f ≡ 0 → entry_of e.recorded.table row f ≡ 1 → value ≡ inactive_dot e old row → inactive_dot e left row ≡ 0
-    left_own row zero one is = dot_own octets (inactive_count e) f (inactive_entry e old) (inactive_entry e left) inside zero left_other (entry_of e.recorded.table row) one (left_here ∙ is)
+    pub left_own : (row : ℕ) → inactive_entry e.peeling old f ≡ 0 → entry_of table row f ≡ 1 → value ≡ inactive_dot e.peeling table old row → inactive_dot e.peeling table left row ≡ 0
+    left_own row zero one is = dot_own octets (inactive_count e.peeling) f (inactive_entry e.peeling old) (inactive_entry e.peeling left) inside zero left_other (entry_of table row) one (left_here ∙ is)
 
-    pub left_kept : (row : ℕ) → inactive_entry e old f ≡ 0 → entry_of e.recorded.table row f ≡ 0 → inactive_dot e left row ≡ inactive_dot e old row
-    left_kept row zero none = dot_kept octets (inactive_count e) f (inactive_entry e old) (inactive_entry e left) inside zero left_other (entry_of e.recorded.table row) none
+    pub left_kept : (row : ℕ) → inactive_entry e.peeling old f ≡ 0 → entry_of table row f ≡ 0 → inactive_dot e.peeling table left row ≡ inactive_dot e.peeling table old row
+    left_kept row zero none = dot_kept octets (inactive_count e.peeling) f (inactive_entry e.peeling old) (inactive_entry e.peeling left) inside zero left_other (entry_of table row) none
 
   -- ---- a pivot's entry
 
@@ -97,42 +98,42 @@ module _ (e : Elimination) (under : IsUnderWay e) (old : List ℕ) (count : leng
     within = omega (arith, inside, e.few_pivots)
 
     column_within : column < width
-    column_within = (under.peeled.peeled.columns.ordered p within).0
+    column_within = (peels.peeled.columns.ordered p within).0
 
     -- inactive entries stay
-    inactive_same : (f : ℕ) → f < inactive_count e → inactive_entry e next f ≡ inactive_entry e old f
+    inactive_same : (f : ℕ) → f < inactive_count e.peeling → inactive_entry e.peeling next f ≡ inactive_entry e.peeling old f
     inactive_same f l = set_place p value within (pivots + f) (omega (arith, l)) (λ same. omega (arith, same, inside))
 
-    pub pivot_left : SolvesLeftRows e old → SolvesLeftRows e next
+    pub pivot_left : SolvesLeftRows e.peeling others table old → SolvesLeftRows e.peeling others table next
     pivot_left solves = record {
       count = set_count p value within;
-      rows = λ q l. dot_same octets (inactive_count e) (entry_of e.recorded.table (at (left_rows e) q)) (entry_of e.recorded.table (at (left_rows e) q)) (inactive_entry e next) (inactive_entry e old) (λ f m. refl) inactive_same ∙ solves.rows q l;
+      rows = λ q l. dot_same octets (inactive_count e.peeling) (entry_of table (at (others) q)) (entry_of table (at (others) q)) (inactive_entry e.peeling next) (inactive_entry e.peeling old) (λ f m. refl) inactive_same ∙ solves.rows q l;
       place = solves.place;
       below = solves.below;
       nonzero = λ zero. solves.nonzero (sym (inactive_same solves.place solves.below) ∙ zero);
     }
 
-    pub pivot_zeros : HasZerosAtPivots e p old → HasZerosAtPivots e (p + 1) next
+    pub pivot_zeros : HasZerosAtPivots e.peeling p old → HasZerosAtPivots e.peeling (p + 1) next
     pivot_zeros zeros q from l = set_place p value within q (omega (arith, l, e.few_pivots)) (λ same. omega (arith, same, from)) ∙ zeros q (omega (arith, from)) l
 
     -- a row of bits has 1 where it has a one, and 0 elsewhere
-    row_within : (q : ℕ) → q < pivots → at e.peeling.rows q < length e.additions.ones
-    row_within q l = under.peeled.peeled.in_rows.below q l
+    row_within : (q : ℕ) → q < pivots → at e.peeling.rows q < length e.ones
+    row_within q l = peels.peeled.in_rows.below q l
 
-    none_before : (q : ℕ) → q < p → one_in e.additions.ones (at e.peeling.rows q) column ≡ 0
-    none_before q l = count_absent (ones_of e.additions.ones (at e.peeling.rows q)) column (under.peeled.peeled.later q p l inside)
+    none_before : (q : ℕ) → q < p → one_in e.ones (at e.peeling.rows q) column ≡ 0
+    none_before q l = count_absent (ones_of e.ones (at e.peeling.rows q)) column (peels.peeled.later q p l inside)
 
     -- the sum at its ones
-    sum_is : IsColumn octets width (at old) → sum_listed (plain octets) (ones_of e.additions.ones (at e.peeling.rows p)) (at old) ≡ dot octets width (one_in e.additions.ones (at e.peeling.rows p)) (at old)
+    sum_is : IsColumn octets width (at old) → sum_listed (plain octets) (ones_of e.ones (at e.peeling.rows p)) (at old) ≡ dot octets width (one_in e.ones (at e.peeling.rows p)) (at old)
     sum_is elements =
-        let ones = ones_of e.additions.ones (at e.peeling.rows p) in
-        sum_listed_is octets width ones (at old) (under.peeled.bits.within (at e.peeling.rows p) (row_within p inside)) elements
-        ∙ dot_same octets width (parity ones) (one_in e.additions.ones (at e.peeling.rows p)) (at old) (at old) (λ k l. parity_once ones k (under.peeled.bits.once (at e.peeling.rows p) k (row_within p inside) l)) (λ k l. refl)
+        let ones = ones_of e.ones (at e.peeling.rows p) in
+        sum_listed_is octets width ones (at old) (peels.bits.within (at e.peeling.rows p) (row_within p inside)) elements
+        ∙ dot_same octets width (parity ones) (one_in e.ones (at e.peeling.rows p)) (at old) (at old) (λ k l. parity_once ones k (peels.bits.once (at e.peeling.rows p) k (row_within p inside) l)) (λ k l. refl)
 
-    pub pivot_solves : IsColumn octets width (at old) → HasZerosAtPivots e p old → value ≡ sum_listed (plain octets) (ones_of e.additions.ones (at e.peeling.rows p)) (at old) → SolvesPivotRows e p old → SolvesPivotRows e (p + 1) next
+    pub pivot_solves : IsColumn octets width (at old) → HasZerosAtPivots e.peeling p old → value ≡ sum_listed (plain octets) (ones_of e.ones (at e.peeling.rows p)) (at old) → SolvesPivotRows e p old → SolvesPivotRows e (p + 1) next
     pivot_solves elements zeros is solves q l =
         let zero = zeros p (omega arith) inside in
         elim (cases_eq q p) [
-          | inl same ↦ rw same (dot_own octets width column (at old) (at next) column_within zero (λ k m apart. set_other p value within k apart) (one_in e.additions.ones (at e.peeling.rows p)) (own_one e.additions.ones e.peeling.rows e.peeling.order e.peeling.places width under.peeled.bits under.peeled.peeled p inside) (set_here p value within ∙ is ∙ sum_is elements))
-          | inr apart ↦ dot_kept octets width column (at old) (at next) column_within zero (λ k m d. set_other p value within k d) (one_in e.additions.ones (at e.peeling.rows q)) (none_before q (omega (arith, l, apart))) ∙ solves q (omega (arith, l, apart))
+          | inl same ↦ rw same (dot_own octets width column (at old) (at next) column_within zero (λ k m apart. set_other p value within k apart) (one_in e.ones (at e.peeling.rows p)) (own_one e.ones e.peeling.rows e.peeling.order e.peeling.places width peels.bits peels.peeled p inside) (set_here p value within ∙ is ∙ sum_is elements))
+          | inr apart ↦ dot_kept octets width column (at old) (at next) column_within zero (λ k m d. set_other p value within k d) (one_in e.ones (at e.peeling.rows q)) (none_before q (omega (arith, l, apart))) ∙ solves q (omega (arith, l, apart))
         ]

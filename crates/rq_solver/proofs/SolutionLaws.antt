@@ -18,12 +18,14 @@ use Rattle.rq_bytes.specs.SymbolSlab.{Slab, store_of, after_all, symbol_in, HasP
 use Rattle.rq_operations.specs.RecordedOperations.{operations_of}
 use Rattle.rq_operations.specs.declared.recorded.RecordedOperations.{RecordedOperations}
 use Rattle.rq_elimination.specs.PhaseCounts.{AreCountsOf, AreInOrder}
-use Rattle.rq_solver.specs.PhaseOperations.{in_row_order}
+use Rattle.rq_peeling.specs.declared.system.System.{System}
+use Rattle.rq_solver.specs.PhaseOutcome.{ends_of, in_row_order, recorded_in, RunsPhases}
 use Rattle.rq_solver.specs.Phases.{SolvesRows}
 use Rattle.rq_solver.specs.Solving.{IsSolution, IsOutcome, Solver}
 use Rattle.rq_elimination.specs.declared.counts.OperationCounts.{OperationCounts}
-use Rattle.rq_elimination.specs.declared.counts.PhaseEnds.{PhaseEnds}
-use Rattle.rq_solver.specs.declared.pi_solver.phase_operations.PhaseOperations.{PhaseOperations}
+use Rattle.rq_solver.specs.declared.pi_solver.phase_outcome.PhaseOutcome.{PhaseOutcome}
+use Rattle.rq_solver.specs.declared.pi_solver.phase_outcome.PhaseOutcome.TheVariants.{Determined, Undetermined}
+use Rattle.rq_solver.proofs.LaterPhases.{ends_in_order}
 use Rattle.rq_elimination.proofs.PhaseTotals.{AreTotalsOf, counts_with_order, longer_in_order, totals_of}
 use Rattle.rq_elimination.proofs.RowStepLaws.{SameEntries}
 
@@ -99,34 +101,29 @@ module _ (height width : ℕ) (rows : ℕ → ℕ → ℕ) (operations : List Op
 pub if_some : {X : Type 0} (o : Option X) (x : X) (P : X → Type 0) → o ≡ Some x → P x → IfSome o P
 if_some o x P e p = rw e p
 
--- operations that were recorded, with the order in which they leave the column, as they are handed out
-found_among : (height width : ℕ) (rows : ℕ → ℕ → ℕ) (recorded : List Operation) (order : Option (Vec ℕ Global)) (answer : Option RecordedOperations) → SolvesRows height width rows recorded order
-    → option_map operations_of answer ≡ option_map (λ o. recorded ++ Reorder o.items ∷ []) order → MatchOption answer (HasHomogeneousColumn octets height width rows) (λ ops. FindsColumn octets height width rows (operations_of ops))
-found_among height width rows recorded None None found e = found
-found_among height width rows recorded None (Some ops) found e = absurd (none-some _ (sym e))
-found_among height width rows recorded (Some order) None found e = absurd (none-some _ e)
-found_among height width rows recorded (Some order) (Some ops) found e = rw (same_Some _ _ e) found
+-- operations that were found, as they are handed out
+pub recorded_found : (height width : ℕ) (rows : ℕ → ℕ → ℕ) (found : Option (List Operation)) (answer : Option RecordedOperations) → SolvesRows height width rows found
+    → option_map operations_of answer ≡ found → MatchOption answer (HasHomogeneousColumn octets height width rows) (λ ops. FindsColumn octets height width rows (operations_of ops))
+recorded_found height width rows found None solves e = subst (SolvesRows height width rows) (sym e) solves
+recorded_found height width rows found (Some ops) solves e = subst (SolvesRows height width rows) (sym e) solves
 
 -- the counts of the five phases, as a list
 pub by_phases : (a b d e f h : ℕ) → a ≡ e → b ≡ f → d ≡ h → a ∷ b ∷ 0 ∷ d ∷ 0 ∷ [] ≡ e ∷ f ∷ 0 ∷ h ∷ 0 ∷ []
 by_phases a b d e f h first second fourth = ap (λ (n : ℕ). n ∷ b ∷ 0 ∷ d ∷ 0 ∷ []) first ∙ ap (λ (n : ℕ). e ∷ n ∷ 0 ∷ d ∷ 0 ∷ []) second ∙ ap (λ (n : ℕ). e ∷ f ∷ 0 ∷ n ∷ 0 ∷ []) fourth
 
 -- the counts of what was recorded are those of what is handed out
-totals_among : (ends : PhaseEnds) (counts : OperationCounts) (recorded : List Operation) (order : Option (Vec ℕ Global)) (ops : RecordedOperations) → AreInOrder ends (length recorded) → AreCountsOf ends recorded counts
-    → Some (operations_of ops) ≡ option_map (λ o. recorded ++ Reorder o.items ∷ []) order → AreTotalsOf counts (operations_of ops)
-totals_among ends counts recorded None ops in_order are e = absurd (none-some _ (sym e))
-totals_among ends counts recorded (Some order) ops in_order are e =
+pub recorded_totals : (outcome : PhaseOutcome) (counts : OperationCounts) (ops : RecordedOperations) → AreInOrder (ends_of outcome) (length (recorded_in outcome))
+    → AreCountsOf (ends_of outcome) (recorded_in outcome) counts → Some (operations_of ops) ≡ in_row_order outcome → AreTotalsOf counts (operations_of ops)
+recorded_totals (Undetermined peeled left rows ends) counts ops in_order are e = absurd (none-some _ (sym e))
+recorded_totals (Determined recorded ends order) counts ops in_order are e =
     rw (same_Some _ _ e) (totals_of ends (recorded ++ Reorder order.items ∷ []) counts (longer_in_order recorded order.items ends in_order) (counts_with_order recorded order.items ends in_order counts are))
 
-module _ (phases : PhaseOperations) where
-  pub recorded_found : (height width : ℕ) (rows : ℕ → ℕ → ℕ) (answer : Option RecordedOperations) → SolvesRows height width rows phases.recorded phases.order
-      → option_map operations_of answer ≡ in_row_order phases
-      → MatchOption answer (HasHomogeneousColumn octets height width rows) (λ ops. FindsColumn octets height width rows (operations_of ops))
-  recorded_found height width rows answer found same = found_among height width rows phases.recorded phases.order answer found same
-
-  pub recorded_totals : (counts : OperationCounts) (answer : Option RecordedOperations) (ops : RecordedOperations) → AreCountsOf phases.ends phases.recorded counts → answer ≡ Some ops → option_map operations_of answer ≡ in_row_order phases
-      → AreTotalsOf counts (operations_of ops)
-  recorded_totals counts answer ops are is same = totals_among phases.ends counts phases.recorded phases.order ops phases.in_order are (rw is at same)
+-- what a phase recorded ends where the next begins
+pub outcome_in_order : (system : System) (outcome : PhaseOutcome) → RunsPhases system outcome → AreInOrder (ends_of outcome) (length (recorded_in outcome))
+outcome_in_order system (Undetermined peeled left last ends) runs = ends_in_order peeled runs.0.before left.items runs.0.first last ends None runs.0.later
+outcome_in_order system (Determined recorded ends order) runs =
+    let ran = runs.4 in
+    rw runs.3 (ends_in_order runs.0 ran.before runs.1 ran.first runs.2 ends (Some order) ran.later)
 
 -- the outcome of a solver that stands for these equations and has not run
 pub outcome_same : (s t : Solver) (handed : Slab) (r : Result (Option (Slab × Vec SymbolOps Global)) Error) → s ≡ t → t.symbols ≡ Some handed → IfSome s.symbols (λ h. IfOk r (IsOutcome s h)) → IfOk r (IsOutcome t handed)

@@ -283,16 +283,3 @@ module _ (inactive_rows : List ℕ) (count : ℕ) where
         | inr d ↦ stays m column shown t f l n d ∙ was_left m column shown t f (omega arith) (omega arith) n
       ];
     }
-
--- what was recorded is told of the table and the operations alone
-pub reduces_as : (inactive_rows : List ℕ) (count low : ℕ) (old new again : RecordedRows) → again.table ≡ new.table → again.operations ≡ new.operations → SubstitutesBack inactive_rows count low old new → SubstitutesBack inactive_rows count low old again
-reduces_as inactive_rows count low old new again table operations back = record {
-  steps = back.steps;
-  records = record { recorded = operations ∙ back.records.recorded; among = back.records.among; table = table ∙ back.records.table };
-  within = back.within;
-  elsewhere = back.elsewhere;
-  kept = back.kept;
-  units = back.units;
-  before = back.before;
-  left = back.left;
-}

@@ -7,11 +7,13 @@ use Rattle.std.proofs.Math.Seq.{get_or-append_seam}
 use Rattle.rq_algebra.specs.Operations.{Operation, AddAssign}
 use Rattle.rq_algebra.specs.Systems.{at}
 use Rattle.rq_parts.specs.DenseOctetMatrix.{OctetTable}
+use Rattle.rq_solver.specs.Peeled.{HasTakenPivots}
 use Rattle.rq_solver.specs.PivotAdditions.{HaveTaken, IsSumOf, StandBetween, TakesPivots, TakesPivotsBy}
 use Rattle.rq_peeling.specs.Peeling.{Pivots}
 use Rattle.rq_peeling.specs.RowOnes.{ones_of}
 use Rattle.rq_elimination.specs.RecordedRows.{Performs, Records}
 use Rattle.rq_elimination.specs.declared.recorded.RecordedRows.{RecordedRows}
+use Rattle.rq_solver.specs.declared.pi_solver.peeled.Peeled.{Peeled}
 use Rattle.rq_peeling.proofs.ListParts.{range_appended, range_at, range_kept, range_next}
 
 -- ---- the same steps, done to other rows
@@ -105,6 +107,24 @@ module _ (lists : List (List ℕ)) (pivots : Pivots) (listed : List ℕ) where
           | inr d ↦ rw (early s (omega (arith, d)), early (s + 1) (omega (arith, d, l))) (stayed.taken s (omega (arith, d)))
         ];
       }
+
+-- and so it is of all that the first phase left
+module _ (p : Peeled) (old new : RecordedRows) (has : HasTakenPivots p old) (steps : List Operation) where
+  pub pivots_performed : Performs steps old new → HasTakenPivots p new
+  pivots_performed done = record {
+    peeled = has.peeled;
+    height = done.height ∙ has.height;
+    wide = rw done.width has.wide;
+    taken = taken_performed p.ones p.peeling p.peeling.rows (length p.peeling.rows) p.bounds.items old new has.taken steps done;
+  }
+
+  pub pivots_recorded : Records steps old new → HasTakenPivots p new
+  pivots_recorded done = record {
+    peeled = has.peeled;
+    height = rw done.table has.height;
+    wide = rw done.table has.wide;
+    taken = taken_recorded p.ones p.peeling p.peeling.rows (length p.peeling.rows) p.bounds.items old new has.taken steps done;
+  }
 
 -- the pivots' rows come first in the list
 pub taken_by_pivots : (lists : List (List ℕ)) (pivots : Pivots) (listed bounds : List ℕ) (state : RecordedRows) → length pivots.rows ≤ length listed → ((p : ℕ) → p < length pivots.rows → at listed p ≡ at pivots.rows p)

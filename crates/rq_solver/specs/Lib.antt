@@ -1,10 +1,10 @@
-pub mod Elimination
 pub mod FirstPhase
 pub mod FourthPhase
 pub mod HdpcOctets
 pub mod HomogeneousColumns
 pub mod InactiveColumns
-pub mod PhaseOperations
+pub mod Peeled
+pub mod PhaseOutcome
 pub mod Phases
 pub mod PivotAdditions
 pub mod RowOrder

@@ -1,5 +1,5 @@
 -- Rows of bits take the rows of pivots, by operations that stand where their bounds say.
-use Rattle.std.specs.Prelude.{◌≡◌, ◌≢◌, ℕ, ◌+◌, ◌<◌, ◌≤◌, ◌==◌, if◌then◌else◌, List, [], All, Contains, count_by, length, slice_range}
+use Rattle.std.specs.Prelude.{◌≡◌, ◌≢◌, ℕ, ◌+◌, ◌<◌, ◌≤◌, ◌==◌, if◌then◌else◌, List, [], ◌++◌, All, Contains, count_by, length, slice_range}
 use Rattle.rq_algebra.specs.Systems.{at}
 use Rattle.rq_algebra.specs.Operations.{Operation, AddAssign}
 use Rattle.rq_standard.specs.OctetField.{octets}
@@ -86,3 +86,7 @@ pub record ClearsRows (lists : List (List ℕ)) (rows order listed : List ℕ) (
   pub kept : (m : ℕ → ℕ → ℕ) (k : ℕ) → PivotsHaveZeros rows m k → (i : ℕ) → rows_after octets steps m i k ≡ m i k
   pub cleared : (m : ℕ → ℕ → ℕ) → ((p : ℕ) → p < length rows → IsUncleared lists rows order m (at rows p))
       → (s : ℕ) → s < done → IsUncleared lists rows order m (at listed s) → IsCleared rows order (rows_after octets steps m) (at listed s)
+
+-- the rows of the pivots are cleared, and then those that are left
+abbrev pub ClearsAllRows : List (List ℕ) → Pivots → List ℕ → RecordedRows → RecordedRows → Type 0
+ClearsAllRows lists pivots left old new = ClearsRows lists pivots.rows pivots.order (pivots.rows ++ left) (length (pivots.rows ++ left)) old new

@@ -8,16 +8,16 @@ ghost use Rattle.rq_elimination.specs.OperationCounts.{additions};
 ghost use Rattle.rq_elimination.specs.PhaseCounts.{total_of};
 ghost use Rattle.rq_solver.specs.Solving.{AreEquations, AreEquationsWithoutHdpc, FindsOperations, solver_of, solver_without_hdpc, IsOutcome, IsSpent, SolvesOrShows};
 
-mod elimination;
 mod first_phase;
 mod fourth_phase;
-mod phase_operations;
+mod peeled;
+mod phase_outcome;
 mod phases;
 mod second_phase;
 mod solved;
 mod stuck_column;
 
-use phase_operations::PhaseOperations;
+use phase_outcome::PhaseOutcome;
 use phases::run_phases;
 use rq_bytes::error::Error;
 use rq_bytes::operation_vector::SymbolOps;
@@ -56,7 +56,8 @@ pub struct IntermediateSymbolDecoder<T: BinaryMatrix> {
 
 impl<T: BinaryMatrix> IntermediateSymbolDecoder<T> {
     ghost use Rattle.rq_peeling.specs.System.{IsSystemOf};
-    ghost use Rattle.rq_solver.specs.PhaseOperations.{CountsOperations, RunsOverEquations, SolvesEquations, answered_operations};
+    ghost use Rattle.rq_solver.specs.PhaseOutcome.{CountsOperations, RunsOverEquations, answered_operations, in_row_order, recorded_in};
+    ghost use Rattle.rq_solver.specs.Phases.{SolvesRows};
     ghost use Rattle.rq_solver.specs.SolverState.{solver_state};
 
     /// A solver of the equations of a block with `num_source_symbols` source symbols: a matrix of bits,
@@ -267,10 +268,10 @@ impl<T: BinaryMatrix> IntermediateSymbolDecoder<T> {
     }
 
     // Runs the phases, and leaves matrix and rows.
-    fn solve_equations(&self) -> Result<PhaseOperations, Error>
-        ensures found { IfOk result (SolvesEquations (solver_state self.now)) }
+    fn solve_equations(&self) -> Result<PhaseOutcome, Error>
+        ensures found { IfOk result (λ found. SolvesRows (solver_state self.now).height (solver_state self.now).width (solver_state self.now).rows (in_row_order found)) }
         ensures phases { IfOk result (RunsOverEquations (solver_state self.now)) }
-        ensures few { IfOk result (λ found. additions found.recorded ≤ 2 * (solver_state self.now).width * (solver_state self.now).height) }
+        ensures few { IfOk result (λ found. additions (recorded_in found) ≤ 2 * (solver_state self.now).width * (solver_state self.now).height) }
         ensures memory { IfErr result (λ e. e ≡ OutOfMemory) }
     {
         run_phases(self.alloc, self.to_system()?)

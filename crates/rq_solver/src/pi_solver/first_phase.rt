@@ -1,95 +1,79 @@
 //! The first phase after the choice of pivots (RFC 6330, section 5.4.2.2): the pivots' columns are
 //! cleared in all rows, in those of bits and in the HDPC rows. Its state is `RecordedRows`
-//! (of `rq_elimination`), with `HdpcRows` beside it for the HDPC rows, and in the end it makes the
-//! `Elimination`.
+//! (of `rq_elimination`), with `HdpcRows` beside it for the HDPC rows, and in the end it makes
+//! `Peeled`, and lists the rows that are left.
 ghost use Rattle.std.specs.Prelude.{◌≡◌, ◌-◌, ◌/◌, length, IfOk, IfErr};
 ghost use Rattle.rq_bytes.specs.declared.error.Error.TheVariants.{OutOfMemory};
 ghost use Rattle.rq_peeling.specs.Peeling.{IsPeeled};
-ghost use Rattle.rq_solver.specs.Elimination.{starts_at, IsUnderWay};
-ghost use Rattle.rq_solver.specs.FirstPhase.{TakesPivotsAlone};
-ghost use Rattle.rq_solver.specs.Phases.{AddsFirst, ClearsPivots};
+ghost use Rattle.rq_solver.specs.FirstPhase.{AddsFirst, ClearsPivots, TakesPivotsAlone};
+ghost use Rattle.rq_solver.specs.Peeled.{IsUnderWay};
 ghost use Rattle.rq_solver.specs.PivotAdditions.{PivotsHaveTaken};
 ghost use Rattle.rq_solver.specs.RowOrder.{ListsRows};
 
 mod clear_bits;
 mod clear_hdpc;
 mod inactive;
-mod row_order;
+mod left_rows;
 
-use super::elimination::{Elimination, PivotAdditions};
+use super::peeled::Peeled;
 use clear_bits::clear_rows;
 use clear_hdpc::clear_octets;
 use inactive::fill_inactive;
-use row_order::rows_in_order;
+use left_rows::left_rows;
 use rq_bytes::error::Error;
-use rq_elimination::counts::PhaseEnds;
 use rq_elimination::recorded::RecordedRows;
+use rq_peeling::ones::RowOnes;
 use rq_peeling::peeling::Peeling;
 use rq_peeling::system::System;
 use std::alloc::Global;
 
-impl Elimination {
-    /// The rows of a system whose columns have the pivots of a peeling, cleared in these columns.
-    pub(super) fn first_phase(
-        alloc: Global,
-        system: System,
-        peeling: Peeling,
-    ) -> Result<Elimination, Error>
-        requires { IsPeeled system.width system.ones peeling }
-        ensures peeling { IfOk result (λ made. made.peeling ≡ peeling) }
-        ensures ones { IfOk result (λ made. made.additions.ones ≡ system.ones) }
-        ensures limit { IfOk result (λ made. made.sparsify_limit ≡ (system.width - length system.hdpc.rows) / 2) }
-        ensures under_way { IfOk result IsUnderWay }
-        ensures ordered { IfOk result (λ made. ListsRows (length system.ones) peeling.rows made.row_order.items) }
-        ensures cleared { IfOk result (λ made. ClearsPivots system peeling made.row_order.items made.recorded) }
-        ensures alone { IfOk result (λ made. TakesPivotsAlone system peeling.rows made.recorded.operations) }
-        ensures ends { IfOk result (λ made. made.ends ≡ starts_at (length made.recorded.operations)) }
-        ensures few { IfOk result (λ made. AddsFirst system peeling made.recorded) }
-        ensures err { IfErr result (λ e. e ≡ OutOfMemory) }
-    {
-        let height = system.ones.height();
-        let hdpc_count = system.hdpc.height();
-        let sparsify_limit = (system.width - hdpc_count) / 2;
-        let row_order = rows_in_order(
-            alloc,
-            height,
-            system.first_hdpc,
-            hdpc_count,
-            peeling.rows(),
-        )?;
-        let (additions, recorded) = clear_pivots(alloc, system, &peeling, row_order.as_slice())?;
-        let end = recorded.operations.len();
-        Ok(Elimination {
-            peeling,
-            additions,
-            row_order,
-            sparsify_limit,
-            recorded,
-            ends: PhaseEnds {
-                cleared: end,
-                eliminated: end,
-                sparsified: end,
-                substituted: end,
-            },
-        })
-    }
+/// Clears the columns that have the pivots of a peeling in the rows of a system: what no later phase
+/// changes, the rows that are left for them, and all rows with their entries in the inactive columns.
+pub(super) fn first_phase(
+    alloc: Global,
+    system: System,
+    peeling: Peeling,
+) -> Result<(Peeled, Vec<usize>, RecordedRows), Error>
+    requires { IsPeeled system.width system.ones peeling }
+    ensures peeling { IfOk result (λ made. made.0.peeling ≡ peeling) }
+    ensures ones { IfOk result (λ made. made.0.ones ≡ system.ones) }
+    ensures limit { IfOk result (λ made. made.0.sparsify_limit ≡ (system.width - length system.hdpc.rows) / 2) }
+    ensures under_way { IfOk result (λ made. IsUnderWay made.0 made.1.items made.2) }
+    ensures listed { IfOk result (λ made. ListsRows (length system.ones) peeling.rows made.1.items) }
+    ensures cleared { IfOk result (λ made. ClearsPivots system peeling made.1.items made.2) }
+    ensures alone { IfOk result (λ made. TakesPivotsAlone system peeling.rows made.2.operations) }
+    ensures few { IfOk result (λ made. AddsFirst system peeling made.2) }
+    ensures err { IfErr result (λ e. e ≡ OutOfMemory) }
+{
+    let height = system.ones.height();
+    let hdpc_count = system.hdpc.height();
+    let sparsify_limit = (system.width - hdpc_count) / 2;
+    let left = left_rows(alloc, height, system.first_hdpc, hdpc_count, peeling.rows())?;
+    let (ones, bounds, recorded) = clear_pivots(alloc, system, &peeling, left.as_slice())?;
+    let peeled = Peeled {
+        peeling,
+        ones,
+        bounds,
+        sparsify_limit,
+    };
+    Ok((peeled, left, recorded))
 }
 
-// Clears the pivots' columns in all rows, in their order. Answers which rows each row of bits took, and
-// the rows with their entries in the inactive columns.
+// Clears the pivots' columns in all rows, in their order. Answers the ones of the rows of bits, where
+// what each row took begins, and the rows with their entries in the inactive columns.
 fn clear_pivots(
     alloc: Global,
     system: System,
     peeling: &Peeling,
-    row_order: &[usize],
-) -> Result<(PivotAdditions, RecordedRows), Error>
+    left: &[usize],
+) -> Result<(RowOnes, Vec<usize>, RecordedRows), Error>
     requires peeled { IsPeeled system.width system.ones peeling.now }
-    requires ordered { ListsRows (length system.ones) peeling.now.rows row_order.now }
-    ensures ones { IfOk result (λ answer. answer.0.ones ≡ system.ones) }
-    ensures cleared { IfOk result (λ answer. ClearsPivots system peeling.now row_order.now answer.1) }
-    ensures alone { IfOk result (λ answer. TakesPivotsAlone system peeling.now.rows answer.1.operations) }
-    ensures taken { IfOk result (λ answer. PivotsHaveTaken system.ones peeling.now answer.0.bounds.items answer.1) }
-    ensures few { IfOk result (λ answer. AddsFirst system peeling.now answer.1) }
+    requires listed { ListsRows (length system.ones) peeling.now.rows left.now }
+    ensures ones { IfOk result (λ answer. answer.0 ≡ system.ones) }
+    ensures cleared { IfOk result (λ answer. ClearsPivots system peeling.now left.now answer.2) }
+    ensures alone { IfOk result (λ answer. TakesPivotsAlone system peeling.now.rows answer.2.operations) }
+    ensures taken { IfOk result (λ answer. PivotsHaveTaken system.ones peeling.now answer.1.items answer.2) }
+    ensures few { IfOk result (λ answer. AddsFirst system peeling.now answer.2) }
     ensures err { IfErr result (λ e. e ≡ OutOfMemory) }
 {
     let table = fill_inactive(alloc, &system, peeling)?;
@@ -105,7 +89,7 @@ fn clear_pivots(
     // Blocks of all sizes take two to three operations for each one.
     let room = ones.len().saturating_mul(3);
     let mut recorded = RecordedRows::new(alloc, table, room)?;
-    let bounds = clear_rows(&ones, row_order, peeling, &mut recorded)?;
+    let bounds = clear_rows(&ones, peeling, left, &mut recorded)?;
     clear_octets(hdpc, first_hdpc, peeling, &mut recorded)?;
-    Ok((PivotAdditions { ones, bounds }, recorded))
+    Ok((ones, bounds, recorded))
 }

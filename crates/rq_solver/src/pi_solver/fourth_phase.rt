@@ -4,6 +4,6 @@
 //! `clear_inactive` calls `redo_additions`, as the third does to undo. Both work on single rows, where
 //! they save additions.
 
-mod clear_inactive;
+pub(super) mod clear_inactive;
 mod redo_additions;
-mod sparsify;
+pub(super) mod sparsify;

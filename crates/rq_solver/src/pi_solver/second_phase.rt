@@ -1,5 +1,5 @@
 //! The second phase (RFC 6330, section 5.4.2.3): elimination over the inactive columns among the rows
-//! that have no pivot yet and, after `sparsify`, substitution back.
+//! that have no pivot yet (`eliminate`) and, after `sparsify`, substitution back (`back_substitute`).
 ghost use Rattle.std.specs.Prelude.{◌≡◌, ◌≢◌, ◌+◌, ◌-◌, ◌<◌, ◌≤◌, ◌∷◌, [], length, OnOk, IfOk, IfErr, IsPermutation};
 ghost use Rattle.rq_algebra.specs.Systems.{at};
 ghost use Rattle.rq_bytes.specs.declared.error.Error.TheVariants.{OutOfMemory};
@@ -7,65 +7,17 @@ ghost use Rattle.rq_parts.specs.DenseOctetMatrix.{entry_of};
 ghost use Rattle.rq_elimination.specs.OperationCounts.{additions, multiples, triangle};
 ghost use Rattle.rq_elimination.specs.RecordedRows.{AddsAtMost, ChangesRows};
 ghost use Rattle.rq_elimination.specs.RowSteps.{AreRows, ClearsBelow, ClearsEntry, IsEchelon, ScalesToOne};
-ghost use Rattle.rq_solver.specs.Elimination.{inactive_count, left_rows, eliminated_at, substituted_at, IsUnderWay, KeepsPivots, KeepsRows};
 ghost use Rattle.rq_solver.specs.SecondPhase.{AddsForward, AddsOnes, EndsForward, GivesMultiples, SubstitutesBack, TakesOnesBehind};
 
-use super::elimination::Elimination;
 use rq_bytes::error::Error;
 use rq_bytes::octet::Octet;
 use rq_elimination::pivot_search::find_pivot;
 use rq_elimination::recorded::RecordedRows;
 
-impl Elimination {
-    /// Gives the inactive columns pivots among the rows that are left, and puts these in the order of
-    /// their columns. Where a column is left without a pivot the answer is false.
-    pub(super) fn eliminate(&mut self) -> Result<bool, Error>
-        requires { IsUnderWay self.old }
-        ensures same { KeepsPivots self.old self.new }
-        ensures under_way { OnOk result (IsUnderWay self.new) }
-        ensures permuted { OnOk result (IsPermutation (left_rows self.old) (left_rows self.new)) }
-        ensures changed { OnOk result (ChangesRows (left_rows self.old) self.old.recorded self.new.recorded) }
-        ensures pivots { IfOk result (EndsForward (left_rows self.new) (inactive_count self.old) self.new.recorded) }
-        ensures ends { OnOk result (self.new.ends ≡ eliminated_at self.old.ends (length self.new.recorded.operations)) }
-        ensures few { IfOk result (AddsForward (length (left_rows self.old)) (inactive_count self.old) self.old.recorded self.new.recorded) }
-        ensures err { IfErr result (λ e. e ≡ OutOfMemory) }
-    {
-        let pivots = self.peeling.pivots();
-        let inactive = self.peeling.width() - pivots;
-        let rows = &mut self.row_order.as_mut_slice()[pivots..];
-        let found = eliminate_rows(&mut self.recorded, rows, inactive)?;
-        let end = self.recorded.operations.len();
-        self.ends.eliminated = end;
-        self.ends.sparsified = end;
-        self.ends.substituted = end;
-        Ok(found)
-    }
-
-    /// Substitutes the rows with the inactive columns' pivots back in one another, so that each has 0
-    /// in the columns of the others.
-    pub(super) fn back_substitute(&mut self) -> Result<(), Error>
-        requires under_way { IsUnderWay self.old }
-        requires echelon { IsEchelon (left_rows self.old) (inactive_count self.old) self.old.recorded.table }
-        ensures kept { KeepsRows self.old self.new }
-        ensures under_way { OnOk result (IsUnderWay self.new) }
-        ensures reduced { OnOk result (SubstitutesBack (left_rows self.old) (inactive_count self.old) 0 self.old.recorded self.new.recorded) }
-        ensures ends { OnOk result (self.new.ends ≡ substituted_at self.old.ends (length self.new.recorded.operations)) }
-        ensures few { OnOk result (AddsAtMost (triangle (inactive_count self.old)) self.old.recorded self.new.recorded) }
-        ensures err { IfErr result (λ e. e ≡ OutOfMemory) }
-    {
-        let pivots = self.peeling.pivots();
-        let inactive = self.peeling.width() - pivots;
-        let rows = &self.row_order[pivots..];
-        substitute_rows(&mut self.recorded, rows, inactive)?;
-        self.ends.substituted = self.recorded.operations.len();
-        Ok(())
-    }
-}
-
-// Gives each of the first `count` columns a pivot: a row with 1 there, where the rows behind it
-// have 0. Works on these rows alone. The list is put in the order of the pivots' columns.
-// Where a column is left without a pivot the answer is false.
-fn eliminate_rows(
+/// Gives each of the first `count` inactive columns a pivot: a row with 1 there, where the rows behind
+/// it have 0. Works on these rows alone. The list is put in the order of the pivots' columns. Where a
+/// column is left without a pivot the answer is false.
+pub(super) fn eliminate(
     recorded: &mut RecordedRows,
     rows: &mut [usize],
     count: usize,
@@ -90,13 +42,17 @@ fn eliminate_rows(
     Ok(true)
 }
 
-// Adds to each row in echelon form, the last first, multiples of those behind it, so that it has 0
-// in the columns of their pivots. That is recorded alone: stored rows stay as they are, so that a
-// row of bits stays one, and most of what is recorded are plain additions.
-//
-// A row takes the rows behind it one after another where it has 1, and then is given, as a multiple,
-// to one row after another that has any other octet: replay does each such run in one pass.
-fn substitute_rows(recorded: &mut RecordedRows, rows: &[usize], count: usize) -> Result<(), Error>
+/// Adds to each row in echelon form, the last first, multiples of those behind it, so that it has 0
+/// in the columns of their pivots. That is recorded alone: stored rows stay as they are, so that a
+/// row of bits stays one, and most of what is recorded are plain additions.
+///
+/// A row takes the rows behind it one after another where it has 1, and then is given, as a multiple,
+/// to one row after another that has any other octet: replay does each such run in one pass.
+pub(super) fn back_substitute(
+    recorded: &mut RecordedRows,
+    rows: &[usize],
+    count: usize,
+) -> Result<(), Error>
     requires rows { AreRows rows.now recorded.old.table }
     requires columns { count ≤ recorded.old.table.width }
     requires echelon { IsEchelon rows.now count recorded.old.table }

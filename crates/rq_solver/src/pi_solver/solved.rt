@@ -4,7 +4,9 @@ ghost use Rattle.rq_bytes.specs.declared.error.Error.TheVariants.{OutOfMemory};
 ghost use Rattle.rq_peeling.specs.System.{rows_of_system};
 ghost use Rattle.rq_solver.specs.Solving.{IsSolved};
 
-use super::elimination::Elimination;
+use super::phase_outcome::PhaseOutcome;
+use super::phases::run_phases;
+use super::stuck_column::stuck_column;
 use rq_bytes::error::Error;
 use rq_operations::recorded::RecordedOperations;
 use rq_peeling::system::System;
@@ -27,12 +29,23 @@ pub(super) fn solve_system(alloc: Global, system: System) -> Result<Solved, Erro
     ensures solved { IfOk result (IsSolved (length system.ones) system.width (rows_of_system system)) }
     ensures memory { IfErr result (λ e. e ≡ OutOfMemory) }
 {
-    let (elimination, order) = Elimination::of_system(alloc, system)?;
-    let Some(order) = order else {
-        let column = elimination.stuck_column(alloc).ok();
-        return Ok(Solved::Undetermined(column));
-    };
-    let Elimination { recorded, .. } = elimination;
-    let steps = recorded.operations.into_steps();
-    Ok(Solved::Operations(RecordedOperations::new(steps, order)))
+    match run_phases(alloc, system)? {
+        PhaseOutcome::Determined {
+            recorded,
+            order,
+            ..
+        } => {
+            let operations = RecordedOperations::new(recorded.into_steps(), order);
+            Ok(Solved::Operations(operations))
+        }
+        PhaseOutcome::Undetermined {
+            peeled,
+            left,
+            recorded,
+            ..
+        } => {
+            let column = stuck_column(alloc, &peeled, left.as_slice(), &recorded).ok();
+            Ok(Solved::Undetermined(column))
+        }
+    }
 }

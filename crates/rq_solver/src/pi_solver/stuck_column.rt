@@ -7,87 +7,102 @@ ghost use Rattle.rq_algebra.specs.Parities.{sum_listed};
 ghost use Rattle.rq_algebra.specs.Systems.{at, IsColumn};
 ghost use Rattle.rq_standard.specs.OctetField.{octets};
 ghost use Rattle.rq_elimination.specs.RowSteps.{AreRows, IsStuck};
-ghost use Rattle.rq_solver.specs.Elimination.{inactive_count, left_rows, IsUnderWay};
 ghost use Rattle.rq_solver.specs.HomogeneousColumns.{inactive_dot, inactive_entry, HasZerosAtPivots, IsZeroColumn, SolvesLeftRows, SolvesPivotRows};
+ghost use Rattle.rq_solver.specs.Peeled.{inactive_count, IsUnderWay};
 
-use super::elimination::Elimination;
+use super::peeled::Peeled;
 use rq_bytes::octet::Octet;
 use rq_elimination::entries::InactiveEntries;
+use rq_elimination::recorded::RecordedRows;
 use std::alloc::{AllocError, Global};
 
-impl Elimination {
-    /// A column that isn't all zeros and solves the rows with zeros as values. It has 1 in the first
-    /// inactive column without a pivot, and zeros in those behind it. Those before it and then the
-    /// pivots' columns are found by substitution.
-    pub(super) fn stuck_column(&self, alloc: Global) -> Result<Vec<u8>, AllocError>
-        requires under_way { IsUnderWay self.now }
-        requires stuck { IsStuck (left_rows self.now) (inactive_count self.now) self.now.recorded.table }
-        ensures elements { IfOk result (λ column. IsColumn octets (length self.now.peeling.places) (at column.items)) }
-        ensures left { IfOk result (λ column. SolvesLeftRows self.now column.items) }
-        ensures pivots { IfOk result (λ column. SolvesPivotRows self.now (length self.now.peeling.rows) column.items) }
-    {
-        let mut column = vec![in alloc; 0u8; self.peeling.width()]?;
-        self.solve_left_rows(column.as_mut_slice());
-        self.solve_pivot_rows(column.as_mut_slice());
-        Ok(column)
-    }
+/// A column that isn't all zeros and solves the rows with zeros as values. It has 1 in the first
+/// inactive column without a pivot, and zeros in those behind it. Those before it and then the pivots'
+/// columns are found by substitution.
+pub(super) fn stuck_column(
+    alloc: Global,
+    peeled: &Peeled,
+    left: &[usize],
+    recorded: &RecordedRows,
+) -> Result<Vec<u8>, AllocError>
+    requires under_way { IsUnderWay peeled.now left.now recorded.now }
+    requires stuck { IsStuck left.now (inactive_count peeled.now.peeling) recorded.now.table }
+    ensures elements { IfOk result (λ column. IsColumn octets (length peeled.now.peeling.places) (at column.items)) }
+    ensures left { IfOk result (λ column. SolvesLeftRows peeled.now.peeling left.now recorded.now.table column.items) }
+    ensures pivots { IfOk result (λ column. SolvesPivotRows peeled.now (length peeled.now.peeling.rows) column.items) }
+{
+    let mut column = vec![in alloc; 0u8; peeled.peeling.width()]?;
+    solve_left_rows(peeled, left, recorded, column.as_mut_slice());
+    solve_pivot_rows(peeled, left, recorded, column.as_mut_slice());
+    Ok(column)
+}
 
-    // Sets a column of zeros in the inactive columns, the last first, so that the rows that are left
-    // solve to zero.
-    fn solve_left_rows(&self, column: &mut [u8])
-        requires under_way { IsUnderWay self.now }
-        requires stuck { IsStuck (left_rows self.now) (inactive_count self.now) self.now.recorded.table }
-        requires count { length column.old ≡ length self.now.peeling.places }
-        requires zeros { IsZeroColumn column.old }
-        ensures elements { IsColumn octets (length self.now.peeling.places) (at column.new) }
-        ensures left { SolvesLeftRows self.now column.new }
-        ensures zeros { HasZerosAtPivots self.now 0 column.new }
-    {
-        let pivots = self.peeling.pivots();
-        let inactive = self.peeling.width() - pivots;
-        let free = free_column(&self.recorded.table, &self.row_order[pivots..], inactive);
-        column[self.peeling.column_at(pivots + free)] = 1;
-        for done in 0..free {
-            let place = free - 1 - done;
-            column[self.peeling.column_at(pivots + place)] = self.sum_behind(place, column);
-        }
+// Sets a column of zeros in the inactive columns, the last first, so that the rows that are left
+// solve to zero.
+fn solve_left_rows(peeled: &Peeled, left: &[usize], recorded: &RecordedRows, column: &mut [u8])
+    requires under_way { IsUnderWay peeled.now left.now recorded.now }
+    requires stuck { IsStuck left.now (inactive_count peeled.now.peeling) recorded.now.table }
+    requires count { length column.old ≡ length peeled.now.peeling.places }
+    requires zeros { IsZeroColumn column.old }
+    ensures elements { IsColumn octets (length peeled.now.peeling.places) (at column.new) }
+    ensures left { SolvesLeftRows peeled.now.peeling left.now recorded.now.table column.new }
+    ensures zeros { HasZerosAtPivots peeled.now.peeling 0 column.new }
+{
+    let peeling = &peeled.peeling;
+    let pivots = peeling.pivots();
+    let free = free_column(&recorded.table, left, peeling.width() - pivots);
+    column[peeling.column_at(pivots + free)] = 1;
+    for done in 0..free {
+        let place = free - 1 - done;
+        column[peeling.column_at(pivots + place)] = sum_behind(
+            peeled, left, recorded, place, column,
+        );
     }
+}
 
-    // What the row that is left at a place says of a column, which has zeros in the inactive columns as
-    // far as that place.
-    fn sum_behind(&self, place: usize, column: &[u8]) -> u8
-        requires under_way { IsUnderWay self.now }
-        requires row { place < length (left_rows self.now) }
-        requires column { place < inactive_count self.now }
-        requires count { length column.now ≡ length self.now.peeling.places }
-        requires zeros { (f : ℕ) → f ≤ place → inactive_entry self.now column.now f ≡ 0 }
-        ensures { result ≡ inactive_dot self.now column.now (at (left_rows self.now) place) }
-    {
-        let pivots = self.peeling.pivots();
-        let row = self.row_order[pivots + place];
-        let mut sum = Octet::zero();
-        for f in place + 1..self.peeling.width() - pivots {
-            let octet = Octet::new(column[self.peeling.column_at(pivots + f)]);
-            sum += self.recorded.table.get(row, f) * octet;
-        }
-        sum.byte()
+// What the row that is left at a place says of a column, which has zeros in the inactive columns as
+// far as that place.
+fn sum_behind(
+    peeled: &Peeled,
+    left: &[usize],
+    recorded: &RecordedRows,
+    place: usize,
+    column: &[u8],
+) -> u8
+    requires under_way { IsUnderWay peeled.now left.now recorded.now }
+    requires row { place < length left.now }
+    requires column { place < inactive_count peeled.now.peeling }
+    requires count { length column.now ≡ length peeled.now.peeling.places }
+    requires zeros { (f : ℕ) → f ≤ place → inactive_entry peeled.now.peeling column.now f ≡ 0 }
+    ensures { result ≡ inactive_dot peeled.now.peeling recorded.now.table column.now (at left.now place) }
+{
+    let peeling = &peeled.peeling;
+    let pivots = peeling.pivots();
+    let row = left[place];
+    let mut sum = Octet::zero();
+    for f in place + 1..peeling.width() - pivots {
+        let octet = Octet::new(column[peeling.column_at(pivots + f)]);
+        sum += recorded.table.get(row, f) * octet;
     }
+    sum.byte()
+}
 
-    // Sets a column in the pivots' columns, in which it has zeros, so that their rows solve to zero.
-    fn solve_pivot_rows(&self, column: &mut [u8])
-        requires under_way { IsUnderWay self.now }
-        requires count { length column.old ≡ length self.now.peeling.places }
-        requires elements { IsColumn octets (length self.now.peeling.places) (at column.old) }
-        requires left { SolvesLeftRows self.now column.old }
-        requires zeros { HasZerosAtPivots self.now 0 column.old }
-        ensures elements { IsColumn octets (length self.now.peeling.places) (at column.new) }
-        ensures left { SolvesLeftRows self.now column.new }
-        ensures pivots { SolvesPivotRows self.now (length self.now.peeling.rows) column.new }
-    {
-        for pivot in 0..self.peeling.pivots() {
-            let ones = self.additions.ones.row(self.peeling.row_of(pivot));
-            column[self.peeling.column_at(pivot)] = sum_at(column, ones);
-        }
+// Sets a column in the pivots' columns, in which it has zeros, so that their rows solve to zero. What
+// it says of the rows that are left stays.
+fn solve_pivot_rows(peeled: &Peeled, left: &[usize], recorded: &RecordedRows, column: &mut [u8])
+    requires under_way { IsUnderWay peeled.now left.now recorded.now }
+    requires count { length column.old ≡ length peeled.now.peeling.places }
+    requires elements { IsColumn octets (length peeled.now.peeling.places) (at column.old) }
+    requires left { SolvesLeftRows peeled.now.peeling left.now recorded.now.table column.old }
+    requires zeros { HasZerosAtPivots peeled.now.peeling 0 column.old }
+    ensures elements { IsColumn octets (length peeled.now.peeling.places) (at column.new) }
+    ensures left { SolvesLeftRows peeled.now.peeling left.now recorded.now.table column.new }
+    ensures pivots { SolvesPivotRows peeled.now (length peeled.now.peeling.rows) column.new }
+{
+    let peeling = &peeled.peeling;
+    for pivot in 0..peeling.pivots() {
+        let ones = peeled.ones.row(peeling.row_of(pivot));
+        column[peeling.column_at(pivot)] = sum_at(column, ones);
     }
 }
 

@@ -3,37 +3,38 @@ ghost use Rattle.std.specs.Prelude.{◌≡◌, ◌*◌, ◌<◌, length, IfOk, O
 ghost use Rattle.rq_bytes.specs.declared.error.Error.TheVariants.{OutOfMemory};
 ghost use Rattle.rq_elimination.specs.RecordedRows.{AddsAtMost};
 ghost use Rattle.rq_peeling.specs.RowOnes.{ones_of};
-ghost use Rattle.rq_solver.specs.PivotAdditions.{ClearsRows, PeelsRows, PivotsHaveTaken, TakesPivots};
+ghost use Rattle.rq_solver.specs.PivotAdditions.{ClearsAllRows, PeelsRows, PivotsHaveTaken, TakesPivots};
 ghost use Rattle.rq_solver.specs.RowOrder.{ListsRows};
 
+use crate::pi_solver::peeled::row_at;
 use rq_bytes::error::Error;
 use rq_bytes::octet::Octet;
 use rq_elimination::recorded::RecordedRows;
 use rq_peeling::ones::RowOnes;
 use rq_peeling::peeling::Peeling;
 
-/// Adds to each row, in their order, the rows of the other pivots in whose columns it has ones. The
-/// pivots' rows come first. Says where in the operations those of each row begin, and where the last
-/// end.
+/// Adds to each row, those of the pivots first and then those that are left, the rows of the other
+/// pivots in whose columns it has ones. Says where in the operations those of each row begin, and
+/// where the last end.
 pub(super) fn clear_rows(
     ones: &RowOnes,
-    row_order: &[usize],
     peeling: &Peeling,
+    left: &[usize],
     recorded: &mut RecordedRows,
 ) -> Result<Vec<usize>, Error>
     requires peeled { PeelsRows ones.now peeling.now }
-    requires ordered { ListsRows (length ones.now) peeling.now.rows row_order.now }
+    requires listed { ListsRows (length ones.now) peeling.now.rows left.now }
     requires height { length recorded.old.table.rows ≡ length ones.now }
-    ensures cleared { OnOk result (ClearsRows ones.now peeling.now.rows peeling.now.order row_order.now (length row_order.now) recorded.old recorded.new) }
+    ensures cleared { OnOk result (ClearsAllRows ones.now peeling.now left.now recorded.old recorded.new) }
     ensures taken { IfOk result (λ bounds. PivotsHaveTaken ones.now peeling.now bounds.items recorded.new) }
-    ensures few { OnOk result (AddsAtMost (length row_order.now * length peeling.now.rows) recorded.old recorded.new) }
+    ensures few { OnOk result (AddsAtMost (length ones.now * length peeling.now.rows) recorded.old recorded.new) }
     ensures err { IfErr result (λ e. e ≡ OutOfMemory) }
 {
-    let room = row_order.len().saturating_add(1);
-    let mut bounds = Vec::with_capacity(recorded.operations.allocator(), room)?;
-    for row in row_order {
+    let count = peeling.pivots() + left.len();
+    let mut bounds = Vec::with_capacity(recorded.operations.allocator(), count.saturating_add(1))?;
+    for place in 0..count {
         bounds.push(recorded.operations.len())?;
-        take_pivots(ones, *row, peeling, recorded)?;
+        take_pivots(ones, row_at(peeling, left, place), peeling, recorded)?;
     }
     bounds.push(recorded.operations.len())?;
     Ok(bounds)

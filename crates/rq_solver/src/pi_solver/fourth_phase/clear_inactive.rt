@@ -5,48 +5,45 @@ ghost use Rattle.rq_bytes.specs.declared.error.Error.TheVariants.{OutOfMemory};
 ghost use Rattle.rq_parts.specs.DenseOctetMatrix.{entry_of};
 ghost use Rattle.rq_elimination.specs.RecordedRows.{AddsAtMost};
 ghost use Rattle.rq_elimination.specs.RowSteps.{CanTake};
-ghost use Rattle.rq_solver.specs.Elimination.{finish_bound, inactive_count, left_rows, IsUnderWay, KeepsRows};
-ghost use Rattle.rq_solver.specs.FourthPhase.{FinishesPivotRows, TookAtMost};
+ghost use Rattle.rq_solver.specs.FourthPhase.{finish_bound, FinishesAllPivots, TookAtMost};
+ghost use Rattle.rq_solver.specs.Peeled.{inactive_count, IsUnderWay};
 ghost use Rattle.rq_solver.specs.SecondPhase.{TakesAll, TakesFrom};
 
 use super::redo_additions::{OnSymbols, redo_additions};
-use crate::pi_solver::elimination::Elimination;
+use crate::pi_solver::peeled::Peeled;
 use rq_bytes::error::Error;
 use rq_bytes::octet::Octet;
 use rq_bytes::octets::WORD_BITS;
 use rq_elimination::recorded::RecordedRows;
 
-impl Elimination {
-    /// Adds to the pivots' rows, the first first, multiples of the rows with the inactive columns'
-    /// pivots, each of which has 1 in its own inactive column and 0 in the others, so that they get 0
-    /// there. Those that were made sparse take the rows of earlier pivots again, which have only their
-    /// own 1 left.
-    pub(in crate::pi_solver) fn clear_inactive(&mut self, sparse: &[bool]) -> Result<(), Error>
-        requires under_way { IsUnderWay self.old }
-        requires many { inactive_count self.old ≤ length (left_rows self.old) }
-        requires long { length sparse.now ≡ length self.old.peeling.rows }
-        requires short { TookAtMost self.old.sparsify_limit sparse.now self.old.additions.bounds.items }
-        ensures kept { KeepsRows self.old self.new }
-        ensures ends { self.new.ends ≡ self.old.ends }
-        ensures under_way { OnOk result (IsUnderWay self.new) }
-        ensures finished { OnOk result (FinishesPivotRows sparse.now self.old self.new.recorded) }
-        ensures few { OnOk result (AddsAtMost (finish_bound self.old) self.old.recorded self.new.recorded) }
-        ensures err { IfErr result (λ e. e ≡ OutOfMemory) }
-    {
-        let peeling = &self.peeling;
-        let bounds = &self.additions.bounds;
-        let inactive = peeling.width() - peeling.pivots();
-        let inactive_rows = &self.row_order[peeling.pivots()..];
-        let recorded = &mut self.recorded;
-        for place in 0..peeling.pivots() {
-            let row = peeling.row_of(place);
-            clear_columns(row, inactive_rows, inactive, recorded)?;
-            if sparse[place] {
-                redo_additions(&OnSymbols, row, bounds[place], bounds[place + 1], recorded)?;
-            }
+/// Adds to the pivots' rows, the first first, multiples of the rows with the inactive columns' pivots,
+/// each of which has 1 in its own inactive column and 0 in the others, so that they get 0 there. Those
+/// that were made sparse take the rows of earlier pivots again, which have only their own 1 left.
+pub(in crate::pi_solver) fn clear_inactive(
+    peeled: &Peeled,
+    left: &[usize],
+    sparse: &[bool],
+    recorded: &mut RecordedRows,
+) -> Result<(), Error>
+    requires under_way { IsUnderWay peeled.now left.now recorded.old }
+    requires many { inactive_count peeled.now.peeling ≤ length left.now }
+    requires long { length sparse.now ≡ length peeled.now.peeling.rows }
+    requires short { TookAtMost peeled.now.sparsify_limit sparse.now peeled.now.bounds.items }
+    ensures finished { OnOk result (FinishesAllPivots peeled.now left.now sparse.now recorded.old recorded.new) }
+    ensures few { OnOk result (AddsAtMost (finish_bound peeled.now) recorded.old recorded.new) }
+    ensures err { IfErr result (λ e. e ≡ OutOfMemory) }
+{
+    let peeling = &peeled.peeling;
+    let bounds = &peeled.bounds;
+    let inactive = peeling.width() - peeling.pivots();
+    for place in 0..peeling.pivots() {
+        let row = peeling.row_of(place);
+        clear_columns(row, left, inactive, recorded)?;
+        if sparse[place] {
+            redo_additions(&OnSymbols, row, bounds[place], bounds[place + 1], recorded)?;
         }
-        Ok(())
     }
+    Ok(())
 }
 
 // Adds to a row multiples of the rows with the inactive columns' pivots, so that it gets 0 in these

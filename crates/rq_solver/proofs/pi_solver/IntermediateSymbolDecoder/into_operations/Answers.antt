@@ -7,6 +7,6 @@ pub returns-clause-found : goal.returns-clause-found
 returns-clause-found g c =
     let solver = c.args.self in
     let bits = g.T.BinaryMatrix.content solver.matrix in
-    let phases = c.in_ok-found.found in
-    recorded_found phases bits.height bits.width _ c.in_row_order.result
-    (attempt_of_bits bits solver.hdpc solver.first_hdpc c.in_ok-into_system.field-0 c.in_ok-into_system.ensures.system phases.recorded phases.order c.in_ok-found.ensures.found) c.in_row_order.ensures
+    recorded_found bits.height bits.width _ _ c.in_row_order.result
+    (attempt_of_bits bits solver.hdpc solver.first_hdpc c.in_ok-into_system.field-0 c.in_ok-into_system.ensures.system _ c.in_ok-found.ensures.found)
+    c.in_row_order.ensures

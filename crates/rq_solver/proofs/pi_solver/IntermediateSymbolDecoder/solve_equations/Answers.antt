@@ -2,6 +2,7 @@
 use Rattle.std.proofs.Common.{length, sym, ap, ◌∙◌}
 use Rattle.std.proofs.lemmas.Result.{IfOk-weaker}
 use Rattle.rq_parts.specs.DenseOctetMatrix.{OctetTable}
+use Rattle.rq_solver.specs.PhaseOutcome.{in_row_order}
 use Rattle.rq_solver.proofs.BitAttempts.{attempt_of_bits, rows_of_bits}
 use Rattle.rq_solver.proofs.pi_solver.IntermediateSymbolDecoder.solve_equations.Goals as goal
 
@@ -9,7 +10,7 @@ pub returns-clause-found : goal.returns-clause-found
 returns-clause-found g c =
     let solver = c.args.self.now in
     let bits = g.T.BinaryMatrix.content solver.matrix in
-    IfOk-weaker c.run_phases.result _ _ (λ phases found. attempt_of_bits bits solver.hdpc solver.first_hdpc c.in_ok-to_system.field-0 c.in_ok-to_system.ensures.system phases.recorded phases.order found) c.run_phases.ensures.found
+    IfOk-weaker c.run_phases.result _ _ (λ phases found. attempt_of_bits bits solver.hdpc solver.first_hdpc c.in_ok-to_system.field-0 c.in_ok-to_system.ensures.system (in_row_order phases) found) c.run_phases.ensures.found
 
 pub returns-clause-phases : goal.returns-clause-phases
 returns-clause-phases g c =

@@ -1,10 +1,7 @@
 -- What the check leaves to show of `pi_solver::first_phase::clear_pivots`.
-use Rattle.std.proofs.Common.{◌+◌, ◌-◌, ◌*◌, ◌≤◌, ◌≡◌, ℕ, length, ap, ◌∙◌, arith}
-use Rattle.std.proofs.Math.Nat.{mul-le-mul_right}
-use Rattle.rq_algebra.specs.Systems.{at}
+use Rattle.std.proofs.Common.{◌+◌, ◌-◌, ◌≡◌, ◌++◌, ℕ, length, ap, ◌∙◌, arith}
 use Rattle.rq_parts.specs.DenseOctetMatrix.{OctetTable}
 use Rattle.rq_elimination.specs.OperationCounts.{additions}
-use Rattle.rq_algebra.proofs.FewPlaces.{few_places}
 use Rattle.rq_solver.proofs.PivotsTaken.{peels_rows}
 use Rattle.rq_solver.proofs.PivotsCleared.{peeled_pivots, pivot_of_bits, takes_alone}
 use Rattle.rq_solver.proofs.TakenAgain.{taken_performed}
@@ -33,14 +30,14 @@ returns-clause-cleared c =
     let pivots = c.args.peeling.now in
     let inactive : ℕ = system.width - length pivots.rows in
     let wide : length pivots.rows + inactive ≡ system.width = omega (arith, c.requires.peeled.few) in
-    peeled_pivots system.ones system.first_hdpc system.hdpc system.width system.bits system.octet_rows pivots.rows pivots.order pivots.places c.requires.peeled c.args.row_order.now c.requires.ordered
+    peeled_pivots system.ones system.first_hdpc system.hdpc system.width system.bits system.octet_rows pivots.rows pivots.order pivots.places c.requires.peeled c.args.left.now c.requires.listed
     c.in_ok-recorded.recorded c.clear_rows.new.recorded c.clear_octets.new.recorded c.in_ok-bounds.ensures.cleared c.in_ok-clear_octets.ensures.cleared
     system.octets inactive wide c.in_ok-recorded.ensures.operations (rw c.in_ok-recorded.ensures.table c.in_ok-table.ensures.entries)
 
 pub returns-clause-alone : goal.returns-clause-alone
 returns-clause-alone c =
     let pivots = c.args.peeling.now in
-    takes_alone c.args.system pivots.rows pivots.order c.args.row_order.now c.in_ok-recorded.recorded c.clear_rows.new.recorded c.clear_octets.new.recorded c.in_ok-bounds.ensures.cleared c.in_ok-clear_octets.ensures.cleared
+    takes_alone c.args.system pivots.rows pivots.order (pivots.rows ++ c.args.left.now) c.in_ok-recorded.recorded c.clear_rows.new.recorded c.clear_octets.new.recorded c.in_ok-bounds.ensures.cleared c.in_ok-clear_octets.ensures.cleared
     c.in_ok-recorded.ensures.operations
 
 pub returns-clause-taken : goal.returns-clause-taken
@@ -50,11 +47,6 @@ returns-clause-taken c =
 
 pub returns-clause-few : goal.returns-clause-few
 returns-clause-few c =
-    let listed = c.args.row_order.now in
-    let pivots = length c.args.peeling.now.rows in
-    let few : length listed ≤ length c.args.system.ones = few_places (length listed) (length c.args.system.ones) (at listed) c.requires.ordered.are in
-    let most : length listed * pivots ≤ length c.args.system.ones * pivots = mul-le-mul_right pivots few in
     let start : additions c.in_ok-recorded.recorded.operations ≡ 0 = ap additions c.in_ok-recorded.ensures.operations in
-    let rows = c.in_ok-bounds.ensures.few in
     let octets = rw c.args.system.octet_rows.width_is at c.in_ok-clear_octets.ensures.few in
-    omega (arith, most, start, rows, octets)
+    omega (arith, start, c.in_ok-bounds.ensures.few, octets)

@@ -6,45 +6,41 @@ use Rattle.rq_algebra.specs.Systems.{at}
 use Rattle.rq_elimination.specs.RecordedRows.{Performs}
 use Rattle.rq_solver.proofs.CountLaws.{one_turn_more}
 use Rattle.rq_solver.proofs.FinishedPivots.{sparsifies_none, back_skipped, back_taken}
-use Rattle.rq_solver.proofs.TakenAgain.{sums_between, taken_between, taken_performed}
+use Rattle.rq_solver.proofs.TakenAgain.{pivots_performed, sums_between, taken_between, taken_performed}
 use Rattle.rq_solver.proofs.pi_solver.fourth_phase.sparsify.sparsify_rows.Goals as goal
 use Rattle.rq_solver.proofs.pi_solver.fourth_phase.sparsify.sparsify_rows.Goals.{then-saves+in_ok-redo_additions, else-saves}
 
 pub loop-done-init : goal.loop-done-init
 loop-done-init c =
-    let all : length c.args.peeling.now.rows - 0 ≡ length c.args.peeling.now.rows = omega arith in
+    let all : length c.args.peeled.now.peeling.rows - 0 ≡ length c.args.peeled.now.peeling.rows = omega arith in
     record {
-      taken = rw all (sparsifies_none c.args.additions.now.ones c.args.peeling.now.rows c.args.peeling.now.order c.args.peeling.now.places _ c.requires.peeled.bits c.requires.peeled.peeled c.args.sparse.now c.args.recorded.now);
+      taken = rw all (sparsifies_none c.args.peeled.now c.requires.taken.peeled c.args.sparse.now c.args.recorded.now);
       short = λ p late l e. absurd (omega arith);
       few = omega arith;
     }
 
 pub saves_additions-saves-requires-clause-taken : goal.saves_additions-saves-requires-clause-taken
 saves_additions-saves-requires-clause-taken c =
-    let pivots = c.args.peeling.now in
-    taken_performed c.args.additions.now.ones pivots pivots.rows (length pivots.rows) c.args.additions.now.bounds.items c.args.recorded.now c.loop-done.recorded c.requires.taken _ c.loop-done.invariant.taken.performs
+    pivots_performed c.args.peeled.now c.args.recorded.now c.loop-done.recorded c.requires.taken _ c.loop-done.invariant.taken.performs
 
 pub redo_additions-requires-clause-sums : goal.redo_additions-requires-clause-sums
 redo_additions-requires-clause-sums c =
-    let rows = c.args.peeling.now.rows in
-    let bounds = c.args.additions.now.bounds.items in
+    let rows = c.args.peeled.now.peeling.rows in
+    let bounds = c.args.peeled.now.bounds.items in
     let place : ℕ = length c.loop-done.sparse - 1 - c.loop-done.done in
-    let taken = c.requires.taken in
+    let taken = c.requires.taken.taken in
     let in_rows : place < length rows = omega (arith, c.loop-done.auto.sparse, c.requires.long, c.loop-done-test.true) in
     let start : c.index.result.now ≡ at bounds place = get_or_read bounds place c.index.result.now (omega (arith, taken.many, in_rows)) c.index.ensures 0 in
     let end : c.index-then-saves.result.now ≡ at bounds (place + 1) = get_or_read bounds (place + 1) c.index-then-saves.result.now (omega (arith, taken.many, in_rows)) c.index-then-saves.ensures 0 in
-    let stands = taken_performed c.args.additions.now.ones c.args.peeling.now rows (length rows) bounds c.args.recorded.now c.loop-done.recorded taken _ c.loop-done.invariant.taken.performs in
-    rw (c.row_of.ensures, start, end) (sums_between c.args.additions.now.ones c.args.peeling.now rows (length rows) bounds c.loop-done.recorded stands place in_rows)
+    let stands = taken_performed c.args.peeled.now.ones c.args.peeled.now.peeling rows (length rows) bounds c.args.recorded.now c.loop-done.recorded taken _ c.loop-done.invariant.taken.performs in
+    rw (c.row_of-row.ensures, start, end) (sums_between c.args.peeled.now.ones c.args.peeled.now.peeling rows (length rows) bounds c.loop-done.recorded stands place in_rows)
 
 pub loop-done-preserved : goal.loop-done-preserved
 loop-done-preserved c =
-    let lists = c.args.additions.now.ones in
-    let rows = c.args.peeling.now.rows in
-    let order = c.args.peeling.now.order in
-    let places = c.args.peeling.now.places in
-    let bounds = c.args.additions.now.bounds.items in
-    let bits = c.requires.peeled.bits in
-    let peeled = c.requires.peeled.peeled in
+    let has = c.requires.taken in
+    let lists = c.args.peeled.now.ones in
+    let rows = c.args.peeled.now.peeling.rows in
+    let bounds = c.args.peeled.now.bounds.items in
     let marks = c.loop-done.sparse in
     let done = c.loop-done.done in
     let long : length marks ≡ length rows = c.loop-done.auto.sparse ∙ c.requires.long in
@@ -58,12 +54,12 @@ loop-done-preserved c =
     let v = c.loop-done.invariant in
     let old = c.args.recorded.now in
     let cur = c.loop-done.recorded in
-    let taken = c.requires.taken in
-    let stands = taken_performed lists c.args.peeling.now rows (length rows) bounds old cur taken _ v.taken.performs in
+    let taken = has.taken in
+    let stands = taken_performed lists c.args.peeled.now.peeling rows (length rows) bounds old cur taken _ v.taken.performs in
     let same : (p : ℕ) → p ≢ place → get_or now p false ≡ get_or marks p false = (λ (p : ℕ) (d : p ≢ place). get_or-set_other marks place p saves false d) in
     let here : get_or now place false ≡ saves = get_or-set_same marks place saves false in_marks in
     let so_far = rw was at v.taken in
-    let short : (p : ℕ) → length rows - (done + 1) ≤ p → p < length rows → get_or now p false ≡ true → at bounds (p + 1) - at bounds p ≤ c.args.limit = (λ (p : ℕ) (late : length rows - (done + 1) ≤ p) (l : p < length rows) (e : get_or now p false ≡ true). elim (cases_eq p place) [
+    let short : (p : ℕ) → length rows - (done + 1) ≤ p → p < length rows → get_or now p false ≡ true → at bounds (p + 1) - at bounds p ≤ c.args.peeled.now.sparsify_limit = (λ (p : ℕ) (late : length rows - (done + 1) ≤ p) (l : p < length rows) (e : get_or now p false ≡ true). elim (cases_eq p place) [
       | inl f ↦ rw f (c.saves_additions-saves.ensures (sym here ∙ ap (λ (n : ℕ). get_or now n false) (sym f) ∙ e))
       | inr d ↦ v.short p (omega (arith, was, next, late, d)) l (sym (same p d) ∙ e)
     ]) in
@@ -72,16 +68,16 @@ loop-done-preserved c =
           let start : w.index.result.now ≡ at bounds place = get_or_read bounds place w.index.result.now (omega (arith, taken.many, in_rows)) w.index.ensures 0 in
           let end : w.index-then-saves.result.now ≡ at bounds (place + 1) = get_or_read bounds (place + 1) w.index-then-saves.result.now (omega (arith, taken.many, in_rows)) w.index-then-saves.ensures 0 in
           rw w.recorded-is (record {
-            taken = rw next (back_taken lists rows order places _ bits peeled marks now place in_rows old cur so_far same w.redo_additions.new.recorded (taken_between lists c.args.peeling.now rows (length rows) bounds cur stands place in_rows Performs w.redo_additions.new.recorded (rw (start, end) at w.in_ok-redo_additions.ensures.done)) (here ∙ w.if-saves.true));
+            taken = rw next (back_taken c.args.peeled.now has.peeled marks now place in_rows old cur so_far same w.redo_additions.new.recorded (taken_between lists c.args.peeled.now.peeling rows (length rows) bounds cur stands place in_rows Performs w.redo_additions.new.recorded (rw (start, end) at w.in_ok-redo_additions.ensures.done)) (here ∙ w.if-saves.true));
             short = short;
             few =
                 let few_rows = c.saves_additions-saves.ensures w.if-saves.true in
                 let each = w.in_ok-redo_additions.ensures.few in
-                one_turn_more c.args.limit _ _ _ done v.few (omega (arith, each, few_rows, start, end));
+                one_turn_more c.args.peeled.now.sparsify_limit _ _ _ done v.few (omega (arith, each, few_rows, start, end));
           })
       | else-saves w ↦ rw w.recorded-is (record {
-        taken = rw next (back_skipped lists rows order places _ bits peeled marks now place in_rows old cur so_far same (here ∙ w.if-saves.false));
+        taken = rw next (back_skipped c.args.peeled.now has.peeled marks now place in_rows old cur so_far same (here ∙ w.if-saves.false));
         short = short;
-        few = one_turn_more c.args.limit _ _ _ done v.few (omega arith);
+        few = one_turn_more c.args.peeled.now.sparsify_limit _ _ _ done v.few (omega arith);
       })
     ]

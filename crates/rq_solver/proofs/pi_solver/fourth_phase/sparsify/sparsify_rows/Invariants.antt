@@ -7,7 +7,8 @@ use Rattle.rq_solver.proofs.pi_solver.fourth_phase.sparsify.sparsify_rows.Given 
 
 abbrev pub invariant-loop-done : goal.invariant-loop-done
 invariant-loop-done l = record {
-  taken : Sparsifies l.additions.ones l.peeling.rows l.peeling.order l.sparse (length l.peeling.rows - l.done) l.fn.recorded l.recorded;
-  short : (p : ℕ) → length l.peeling.rows - l.done ≤ p → p < length l.peeling.rows → get_or l.sparse p false ≡ true → at l.additions.bounds.items (p + 1) - at l.additions.bounds.items p ≤ l.limit;
-  few : additions l.recorded.operations ≤ additions l.fn.recorded.operations + l.done * l.limit;
+  taken : Sparsifies l.peeled l.sparse (length l.peeled.peeling.rows - l.done) l.fn.recorded l.recorded;
+  short : (p : ℕ) → length l.peeled.peeling.rows - l.done ≤ p → p < length l.peeled.peeling.rows → get_or l.sparse p false ≡ true
+      → at l.peeled.bounds.items (p + 1) - at l.peeled.bounds.items p ≤ l.peeled.sparsify_limit;
+  few : additions l.recorded.operations ≤ additions l.fn.recorded.operations + l.done * l.peeled.sparsify_limit;
 }
