@@ -196,9 +196,6 @@ inactive_bound inactive left pivots l = elim (cases_lt 0 left) [
   | inr none ↦ let zero_inactive : inactive ≡ 0 = omega arith in rw zero_inactive (omega arith)
 ]
 
-pub stuck_bound : (inactive left pivots : ℕ) → inactive * (left - 1) ≤ inactive * (left + pivots - 1)
-stuck_bound inactive left pivots = mul-le-mul_left inactive (omega arith)
-
 -- all of them, with `more` for what pivots' rows take back and again
 few_with_hdpc : (p u h m more : ℕ) → p + (h + 1) ≤ m + 1 → more + (h + 1) ≤ p + u → (m + 1) * p + (h * (1 + (p + u)) + (h + 1) * p) + u * m + p * more ≤ 2 * (p + u) * (m + 1)
 few_with_hdpc p u h m more rows columns =

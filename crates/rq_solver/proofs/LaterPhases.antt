@@ -18,7 +18,7 @@ use Rattle.rq_solver.specs.Peeled.{inactive_count, IsUnderWay}
 use Rattle.rq_solver.specs.Phases.{AddsLater, FindsOrder, LacksPivots, RunsLater, SolvesInactive}
 use Rattle.rq_solver.specs.RowOrder.{ListsRows}
 use Rattle.rq_solver.specs.declared.pi_solver.peeled.Peeled.{Peeled}
-use Rattle.rq_solver.proofs.CountLaws.{inactive_bound, stuck_bound}
+use Rattle.rq_solver.proofs.CountLaws.{inactive_bound}
 use Rattle.rq_solver.proofs.PeeledSolutions.{homogeneous_of_peeled, finds_by_peeled}
 use Rattle.rq_solver.proofs.TakenAgain.{pivots_performed, pivots_recorded}
 
@@ -56,14 +56,6 @@ module _ (p : Peeled) (before after : List ℕ) (old new : RecordedRows) (ends :
       (finds_by_peeled p before old under listed system peeled found.forward found.changes after found.permuted found.marks found.sparse found.back new found.echelon found.sparsifies found.reduces found.finishes)
 
 -- ---- how many additions
-
-pub few_stuck : (p : Peeled) (before : List ℕ) (old new : RecordedRows)
-    → additions new.operations ≤ additions old.operations + inactive_count p.peeling * (length before - 1) → AddsLater p before old new
-few_stuck p before old new few =
-    let most = stuck_bound (inactive_count p.peeling) (length before) (length p.peeling.rows) in
-    let same : length p.peeling.rows + length before - 1 ≡ length before + length p.peeling.rows - 1 = omega arith in
-    let bound : inactive_count p.peeling * (length before - 1) ≤ inactive_count p.peeling * (length p.peeling.rows + length before - 1) = rw same most in
-    omega (arith, few, bound)
 
 few_sum : (i n b limit start one two three last : ℕ) → i ≤ b → one + triangle i ≤ start + i * (b - 1) → two ≤ one + n * limit → three ≤ two + triangle i
     → last ≤ three + n * (i + limit) → last ≤ start + i * (n + b - 1) + 2 * (n * limit)

@@ -1,12 +1,12 @@
 -- The rows that have no pivot, and all rows, those of the pivots first.
-use Rattle.std.proofs.Common.{◌≡◌, ◌≢◌, ℕ, ◌+◌, ◌-◌, ◌<◌, ◌≤◌, Bool, true, false, List, [], ◌∷◌, ◌++◌, Contains, length, sym, ap, ◌∙◌, subst, arith, inl, inr, slice_index_or, length-append}
+use Rattle.std.proofs.Common.{◌≡◌, ◌≢◌, ℕ, ◌+◌, ◌-◌, ◌<◌, ◌≤◌, Bool, true, false, List, [], ◌∷◌, ◌++◌, Contains, length, refl, sym, ap, ◌∙◌, subst, arith, inl, inr, slice_index_or, length-append}
 use Rattle.std.proofs.lemmas.Bool.{both_ways, cases_Bool, cases_eq, cases_lt}
-use Rattle.std.proofs.lemmas.List.{get_or-append-add, get_or_append_left, get_or_push}
+use Rattle.std.proofs.lemmas.List.{get_or_append_left, get_or_push}
+use Rattle.std.proofs.Math.Seq.{get_or-append_right}
 use Rattle.std.proofs.lemmas.List.Elements.{Contains-append_left, Contains-push}
 use Rattle.rq_algebra.specs.Arrangements.{ArePlaces}
 use Rattle.rq_algebra.specs.Systems.{at}
-use Rattle.rq_algebra.proofs.FewPlaces.{few_places}
-use Rattle.rq_solver.proofs.OctetColumns.{if_below, if_from}
+use Rattle.rq_algebra.proofs.FewPlaces.{all_places, few_places}
 use Rattle.rq_solver.specs.RowOrder.{row_in_turn, ListsRows, MarksRows}
 
 -- ---- all rows
@@ -18,24 +18,22 @@ module _ (height : ℕ) (rows left : List ℕ) (rows_are : ArePlaces (length row
   pub all_starts : (p : ℕ) → p < length rows → at (rows ++ left) p ≡ at rows p
   all_starts p l = get_or_append_left rows left 0 p l
 
-  behind : (i : ℕ) → length rows ≤ i → at (rows ++ left) i ≡ at left (i - length rows)
-  behind i l = ap (at (rows ++ left)) (omega arith) ∙ get_or-append-add rows left (i - length rows) 0
-
   pub all_are : ArePlaces (length (rows ++ left)) height (at (rows ++ left))
   all_are = record {
     below = λ i l. elim (cases_lt i (length rows)) [
       | inl early ↦ rw (all_starts i early) (rows_are.below i early)
-      | inr late ↦ rw (behind i late) (listing.are.below (i - length rows) (omega (arith, all_long, l, late)))
+      | inr late ↦ rw (get_or-append_right rows left i 0 late) (listing.are.below (i - length rows) (omega (arith, all_long, l, late)))
     ];
     apart = λ i j l m e. elim (cases_lt i (length rows)) [
       | inl early ↦ elim (cases_lt j (length rows)) [
-        | inl first ↦ rows_are.apart i j early first (sym (all_starts i early) ∙ e ∙ all_starts j first)
-        | inr late ↦ absurd (listing.apart i (j - length rows) early (omega (arith, all_long, m, late)) (sym (all_starts i early) ∙ e ∙ behind j late))
+        | inl first ↦ rows_are.apart i j early first (rw (all_starts i early, all_starts j first) at e)
+        | inr late ↦ absurd (listing.apart i (j - length rows) early (omega (arith, all_long, m, late)) (rw (all_starts i early, get_or-append_right rows left j 0 late) at e))
       ]
       | inr late ↦ elim (cases_lt j (length rows)) [
-        | inl early ↦ absurd (listing.apart j (i - length rows) early (omega (arith, all_long, l, late)) (sym (all_starts j early) ∙ sym e ∙ behind i late))
+        | inl early ↦ absurd (listing.apart j (i - length rows) early (omega (arith, all_long, l, late)) (sym (rw (get_or-append_right rows left i 0 late, all_starts j early) at e)))
         | inr from ↦
-            let same = listing.are.apart (i - length rows) (j - length rows) (omega (arith, all_long, l, late)) (omega (arith, all_long, m, from)) (sym (behind i late) ∙ e ∙ behind j from) in
+            let same = listing.are.apart (i - length rows) (j - length rows) (omega (arith, all_long, l, late)) (omega (arith, all_long, m, from))
+            (rw (get_or-append_right rows left i 0 late, get_or-append_right rows left j 0 from) at e) in
             omega (arith, same, late, from)
       ]
     ];
@@ -77,36 +75,21 @@ module _ (height : ℕ) (of : ℕ → ℕ) (marks : List Bool) where
     abbrev next : List ℕ
     next = left ++ of turn ∷ []
 
-    same : (f : ℕ) → f < length left → at next f ≡ at left f
-    same f l = get_or_append_left left (of turn ∷ []) 0 f l
-
-    last : (f : ℕ) → f ≡ length left → at next f ≡ of turn
-    last f e = get_or_push left (of turn) 0 f (sym e)
-
-    long : length next ≡ length left + 1
-    long = length-append left (of turn ∷ [])
-
     pub turns_more : of turn < height → ((q : ℕ) → q < turn → of q ≢ of turn) → slice_index_or marks (of turn) false ≡ false
         → ListsTurns height of marks (turn + 1) next
     turns_more below other none =
         let fresh : (f : ℕ) → f < length left → at left f ≢ of turn = λ f l e. let q = v.early f l in other q.0 q.1 (q.2 ∙ e) in
+        let long : length next ≡ length left + 1 = length-append left (of turn ∷ []) in
+        let same : (f : ℕ) → f < length left → at next f ≡ at left f = λ f l. get_or_append_left left (of turn ∷ []) 0 f l in
+        let last : at next (length left) ≡ of turn = get_or_push left (of turn) 0 (length left) refl in
         record {
           are = record {
-            below = λ i l. elim (cases_eq i (length left)) [ inl e ↦ rw (last i e) below | inr d ↦ rw (same i (omega (arith, long))) (v.are.below i (omega (arith, long))) ];
-            apart = λ i j l m s. elim (cases_eq i (length left)) [
-              | inl e ↦ elim (cases_eq j (length left)) [
-                | inl f ↦ e ∙ sym f
-                | inr d ↦ let n : j < length left = omega (arith, long) in absurd (fresh j n (sym (same j n) ∙ sym s ∙ last i e))
-              ]
-              | inr d ↦ let n : i < length left = omega (arith, long) in elim (cases_eq j (length left)) [
-                | inl f ↦ absurd (fresh i n (sym (same i n) ∙ s ∙ last j f))
-                | inr g ↦ let o : j < length left = omega (arith, long) in v.are.apart i j n o (sym (same i n) ∙ s ∙ same j o)
-              ]
-            ];
+            below = λ i l. grind (arith, long, same, last, v.are.below, below);
+            apart = λ i j l m s. grind (arith, long, same, last, v.are.apart, fresh);
           };
-          unmarked = λ f l. elim (cases_eq f (length left)) [ inl e ↦ rw (last f e) none | inr d ↦ let n : f < length left = omega (arith, long) in rw (same f n) (v.unmarked f n) ];
+          unmarked = λ f l. grind (arith, long, same, last, v.unmarked, none);
           early = λ f l. elim (cases_eq f (length left)) [
-            | inl e ↦ (turn, (omega arith), sym (last f e))
+            | inl e ↦ (turn, (omega arith), sym (ap (at next) e ∙ last))
             | inr d ↦ let n : f < length left = omega (arith, long) in let q = v.early f n in (q.0, (let soon = q.1 in omega arith), q.2 ∙ sym (same f n))
           ];
           every = λ q l free. elim (cases_eq q turn) [
@@ -120,50 +103,17 @@ module _ (height first count : ℕ) (within : first + count ≤ height) where
   abbrev of_turn : ℕ → ℕ
   of_turn = row_in_turn height first count
 
-  early_turn : (q : ℕ) → q < first → of_turn q ≡ q
-  early_turn q l = if_below q first q _ l
-
-  middle_turn : (q : ℕ) → first ≤ q → q < height - count → of_turn q ≡ q + count
-  middle_turn q l m = if_from q first q _ l ∙ if_below q (height - count) (q + count) (q - (height - count) + first) m
-
-  last_turn : (q : ℕ) → height - count ≤ q → of_turn q ≡ q - (height - count) + first
-  last_turn q l = if_from q first q _ (omega arith) ∙ if_from q (height - count) (q + count) (q - (height - count) + first) l
-
-  turn_of : (r : ℕ) → r < height → (q : ℕ) × (q < height) × (of_turn q ≡ r)
-  turn_of r l = elim (cases_lt r first) [
-    | inl before ↦ (r, l, early_turn r before)
-    | inr from ↦ elim (cases_lt r (first + count)) [
-      | inl hdpc ↦ (r - first + (height - count), (omega arith), last_turn (r - first + (height - count)) (omega arith) ∙ omega arith)
-      | inr late ↦ (r - count, (omega arith), middle_turn (r - count) (omega arith) (omega arith) ∙ omega arith)
-    ]
-  ]
-
   pub turn_below : (q : ℕ) → q < height → of_turn q < height
-  turn_below q l = elim (cases_lt q first) [
-    | inl before ↦ omega (arith, early_turn q before)
-    | inr from ↦ elim (cases_lt q (height - count)) [
-      | inl middle ↦ omega (arith, middle_turn q from middle)
-      | inr late ↦ omega (arith, last_turn q late)
-    ]
-  ]
+  turn_below q l = grind (arith, l, within)
 
   pub turns_apart : (q t : ℕ) → q < t → t < height → of_turn q ≢ of_turn t
-  turns_apart q t l m e = elim (cases_lt t first) [
-    | inl before ↦ omega (arith, e, early_turn q (omega arith), early_turn t before)
-    | inr from ↦ elim (cases_lt t (height - count)) [
-      | inl middle ↦ elim (cases_lt q first) [
-        | inl early ↦ omega (arith, e, early_turn q early, middle_turn t from middle)
-        | inr start ↦ omega (arith, e, middle_turn q start (omega arith), middle_turn t from middle)
-      ]
-      | inr late ↦ elim (cases_lt q first) [
-        | inl early ↦ omega (arith, e, early_turn q early, last_turn t late)
-        | inr start ↦ elim (cases_lt q (height - count)) [
-          | inl middle ↦ omega (arith, e, middle_turn q start middle, last_turn t late)
-          | inr last ↦ omega (arith, e, last_turn q last, last_turn t late)
-        ]
-      ]
-    ]
-  ]
+  turns_apart q t l m e = grind (arith, e, l, m, within)
+
+  pub turn_of : (r : ℕ) → r < height → (q : ℕ) × (q < height) × (of_turn q ≡ r)
+  turn_of r l = all_places height of_turn (record { below = turn_below; apart = λ i j m n e. elim (cases_lt i j) [
+    | inl before ↦ absurd (turns_apart i j before n e)
+    | inr from ↦ elim (cases_eq i j) [ inl same ↦ same | inr d ↦ absurd (turns_apart j i (omega arith) m (sym e)) ]
+  ] }) r l
 
   -- at the end each row is a marked one, or is listed
   pub lists_rows : (rows left : List ℕ) (marks : List Bool) → MarksRows rows marks → ListsTurns height (row_in_turn height first count) marks height left → ListsRows height rows left
