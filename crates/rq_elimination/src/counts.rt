@@ -1,15 +1,13 @@
 //! `OperationList`: the operations that the phases record for the symbols, where each phase's stretches
 //! end in it, and how many they are (RFC 6330, sections 5.4.2.2 to 5.4.2.6). What the third and the
 //! fifth do is counted as the fourth's.
-ghost use Rattle.std.specs.Prelude.{◌≡◌, ℕ, ◌+◌, ◌<◌, ◌≤◌, ◌^◌, ◌∷◌, [], ◌++◌, List, Some, length, map, slice_index_or, IfOk, OnOk, IfErr};
+ghost use Rattle.std.specs.Prelude.{◌≡◌, ℕ, ◌+◌, ◌<◌, ◌≤◌, ◌^◌, ◌∷◌, [], ◌++◌, List, Some, length, map, slice_index_or, IfOk, OnOk};
 ghost use Rattle.rq_algebra.specs.Operations.{Operation, AddAssign};
-ghost use Rattle.rq_bytes.specs.declared.error.Error.TheVariants.{OutOfMemory};
 ghost use Rattle.rq_operations.specs.RecordedSteps.{operation_of_step};
 ghost use Rattle.rq_elimination.specs.OperationCounts.{additions, multiplications};
 
-use rq_bytes::error::Error;
 use rq_operations::steps::Step;
-use std::alloc::Global;
+use std::alloc::{AllocError, Global};
 use std::marker::Model;
 
 /// How many operations of a kind each phase recorded.
@@ -123,9 +121,8 @@ impl OperationList {
     ghost use Rattle.rq_elimination.specs.PhaseCounts.{AreCountsOf, AreInOrder};
 
     /// Nothing is recorded yet. There is room for `room` operations before the list grows.
-    pub fn with_room(alloc: Global, room: usize) -> Result<OperationList, Error>
-        ensures empty { IfOk result (λ list. list ≡ []) }
-        ensures err { IfErr result (λ e. e ≡ OutOfMemory) }
+    pub fn with_room(alloc: Global, room: usize) -> Result<OperationList, AllocError>
+        ensures { IfOk result (λ list. list ≡ []) }
     {
         Ok(OperationList {
             steps: Vec::with_capacity(alloc, room)?,
@@ -139,9 +136,8 @@ impl OperationList {
 
     /// Records a step.
     #[inline(always)]
-    pub fn push(&mut self, step: Step) -> Result<(), Error>
-        ensures recorded { OnOk result (self.new ≡ self.old ++ operation_of_step step ∷ []) }
-        ensures err { IfErr result (λ e. e ≡ OutOfMemory) }
+    pub fn push(&mut self, step: Step) -> Result<(), AllocError>
+        ensures { OnOk result (self.new ≡ self.old ++ operation_of_step step ∷ []) }
     {
         self.steps.push(step)?;
         Ok(())

@@ -1,7 +1,6 @@
 //! `InactiveEntries`: the matrix U of RFC 6330 (section 5.4.2.2), rows of bits or of octets
 //! (`own_octets`), each read by an `octet_row`.
-ghost use Rattle.std.specs.Prelude.{◌≡◌, ◌≢◌, ◌+◌, ◌*◌, ◌%◌, ◌^◌, ◌<◌, ◌≤◌, All, length, replicate, slice_set, IfSome, IfOk, OnOk, IfErr, OnErr};
-ghost use Rattle.rq_bytes.specs.declared.error.Error.TheVariants.{OutOfMemory};
+ghost use Rattle.std.specs.Prelude.{◌≡◌, ◌≢◌, ◌+◌, ◌*◌, ◌%◌, ◌^◌, ◌<◌, ◌≤◌, All, length, replicate, slice_set, IfSome, IfOk, OnOk, OnErr};
 ghost use Rattle.rq_parts.specs.DenseOctetMatrix.{entry_of, HasOctets, row_at, with_row};
 ghost use Rattle.rq_elimination.specs.EntryRow.{HasWidth, octets_of};
 ghost use Rattle.rq_elimination.specs.InactiveEntries.{IsNextOctet, with_column_octets};
@@ -15,13 +14,12 @@ use crate::pivot_search::OctetRows;
 pub use octet_row::{next_in_vectors, nonzero_after_first};
 use octet_row::{EntryRow, count_octets, next_octet};
 use own_octets::OwnOctets;
-use rq_bytes::error::Error;
 use rq_bytes::octet::Octet;
 use rq_bytes::products::LANES;
 use rq_parts::bit_rows::BitRows;
 use rq_parts::octet_matrix::DenseOctetMatrix;
 use rq_parts::packed_bits::{count_ones, get_bit, next_one, set_bit};
-use std::alloc::Global;
+use std::alloc::{AllocError, Global};
 use std::marker::Model;
 
 /// What rows have in the inactive columns: bits, which stand in one buffer for all rows, or octets of
@@ -46,12 +44,11 @@ impl Model for InactiveEntries {
 
 impl InactiveEntries {
     /// Rows of zeros.
-    pub fn new(alloc: Global, height: usize, width: usize) -> Result<InactiveEntries, Error>
+    pub fn new(alloc: Global, height: usize, width: usize) -> Result<InactiveEntries, AllocError>
         requires few { height < 2 ^ 31 }
         requires narrow { width < 2 ^ 17 }
         requires whole { width % 32 ≡ 0 }
-        ensures zeros { IfOk result (λ entries. entries ≡ record { width = width; rows = replicate height (replicate width 0) }) }
-        ensures err { IfErr result (λ e. e ≡ OutOfMemory) }
+        ensures { IfOk result (λ entries. entries ≡ record { width = width; rows = replicate height (replicate width 0) }) }
     {
         Ok(InactiveEntries {
             bits: BitRows::zeros(alloc, height, width)?,
@@ -89,7 +86,7 @@ impl InactiveEntries {
         octets: &DenseOctetMatrix,
         from: usize,
         columns: &[u16],
-    ) -> Result<(), Error>
+    ) -> Result<(), AllocError>
         requires row { row < length self.old.rows }
         requires from { from < length octets.now.rows }
         requires columns { All (λ column. column < octets.now.width) columns.now }
@@ -97,7 +94,6 @@ impl InactiveEntries {
         ensures ok { OnOk result (self.new ≡ with_row self.old row (with_column_octets (row_at octets.now from) columns.now (row_at self.old row))) }
         ensures octets { HasOctets self.new }
         ensures height { OnErr result (length self.new.rows ≡ length self.old.rows) }
-        ensures err { IfErr result (λ e. e ≡ OutOfMemory) }
     {
         self.octets.unpack_row(row, &self.bits)?;
         self.octets.fill(row, octets, from, columns);
@@ -161,12 +157,11 @@ impl InactiveEntries {
 
     /// Multiplies a row by an octet.
     #[inline(always)]
-    pub fn multiply_row(&mut self, row: usize, scalar: &Octet) -> Result<(), Error>
+    pub fn multiply_row(&mut self, row: usize, scalar: &Octet) -> Result<(), AllocError>
         requires row { row < length self.old.rows }
         ensures ok { OnOk result (self.new ≡ with_row self.old row (row_multiple scalar.now (row_at self.old row))) }
         ensures octets { HasOctets self.new }
         ensures height { OnErr result (length self.new.rows ≡ length self.old.rows) }
-        ensures err { IfErr result (λ e. e ≡ OutOfMemory) }
     {
         self.octets.unpack_row(row, &self.bits)?;
         self.octets.multiply(row, scalar);
@@ -176,14 +171,18 @@ impl InactiveEntries {
     /// Adds a multiple of a row to another one. This one gets octets, unless both are rows of bits and
     /// the scalar is 1.
     #[inline(always)]
-    pub fn add_multiple(&mut self, dest: usize, src: usize, scalar: &Octet) -> Result<(), Error>
+    pub fn add_multiple(
+        &mut self,
+        dest: usize,
+        src: usize,
+        scalar: &Octet,
+    ) -> Result<(), AllocError>
         requires two { dest ≢ src }
         requires dest { dest < length self.old.rows }
         requires src { src < length self.old.rows }
         ensures ok { OnOk result (self.new ≡ with_row self.old dest (row_sum (row_at self.old dest) (row_multiple scalar.now (row_at self.old src)))) }
         ensures octets { HasOctets self.new }
         ensures height { OnErr result (length self.new.rows ≡ length self.old.rows) }
-        ensures err { IfErr result (λ e. e ≡ OutOfMemory) }
     {
         if scalar.byte() == 1 && self.octets.is_bits(dest) && self.octets.is_bits(src) {
             self.bits.add(dest, src);

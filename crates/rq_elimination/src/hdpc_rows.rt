@@ -1,20 +1,18 @@
 //! `HdpcRows`: HDPC rows as multiples of their sum beside their own octets, while they are cleared
 //! together in the first phase (RFC 6330, section 5.4.2.2).
-ghost use Rattle.std.specs.Prelude.{◌≡◌, ℕ, ◌%◌, ◌^◌, ◌<◌, ◌≤◌, length, IfOk, IfErr};
+ghost use Rattle.std.specs.Prelude.{◌≡◌, ℕ, ◌%◌, ◌^◌, ◌<◌, ◌≤◌, length, IfOk};
 ghost use Rattle.rq_algebra.specs.Steps.{AddsRow, ScalesRow};
 ghost use Rattle.rq_algebra.specs.Systems.{at};
-ghost use Rattle.rq_bytes.specs.declared.error.Error.TheVariants.{OutOfMemory};
 ghost use Rattle.rq_parts.specs.DenseOctetMatrix.{entry_of, HasOctets};
 ghost use Rattle.rq_standard.specs.OctetField.{octets};
 ghost use Rattle.rq_elimination.specs.HdpcRows.{octet_in, AreInColumn};
 
 use crate::entries::whole_vectors;
-use rq_bytes::error::Error;
 use rq_bytes::octet::Octet;
 use rq_bytes::octets::are_octets;
 use rq_bytes::row_multiples::add_row_multiple;
 use rq_parts::octet_matrix::DenseOctetMatrix;
-use std::alloc::Global;
+use std::alloc::{AllocError, Global};
 use std::marker::Model;
 
 /// What HDPC rows have in the columns that weren't worked on yet: of their sum, which the first row
@@ -38,13 +36,12 @@ impl Model for HdpcRows {
 
 impl HdpcRows {
     /// The rows of a table, the first of which is the sum of what the rows were.
-    pub fn new(alloc: Global, table: DenseOctetMatrix) -> Result<HdpcRows, Error>
+    pub fn new(alloc: Global, table: DenseOctetMatrix) -> Result<HdpcRows, AllocError>
         requires some { 0 < length table.rows }
         requires few { length table.rows < 2 ^ 63 }
         requires octets { HasOctets table }
         ensures table { IfOk result (λ hdpc. hdpc.table ≡ table) }
         ensures octets { IfOk result (λ hdpc. (i k : ℕ) → i < length table.rows → k < table.width → octet_in hdpc i k ≡ entry_of table i k) }
-        ensures err { IfErr result (λ e. e ≡ OutOfMemory) }
     {
         let mut factors = vec![in alloc; 0; whole_vectors(table.height())]?;
         factors[0] = 1;

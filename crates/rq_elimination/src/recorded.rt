@@ -8,10 +8,9 @@ ghost use Rattle.rq_elimination.specs.RowSteps.{sum_step};
 
 use crate::counts::OperationList;
 use crate::entries::InactiveEntries;
-use rq_bytes::error::Error;
 use rq_bytes::octet::Octet;
 use rq_operations::steps::Step;
-use std::alloc::Global;
+use std::alloc::{AllocError, Global};
 
 /// Rows of a system: what they have in the inactive columns, and the operations that were done to
 /// them, for the symbols. The places of the rows fit 32 bits.
@@ -24,20 +23,22 @@ pub struct RecordedRows {
 }
 
 impl RecordedRows {
-    ghost use Rattle.std.specs.Prelude.{◌≡◌, ◌≢◌, ◌+◌, ◌<◌, ◌∷◌, [], length, IfOk, OnOk, IfErr};
+    ghost use Rattle.std.specs.Prelude.{◌≡◌, ◌≢◌, ◌+◌, ◌<◌, ◌∷◌, [], length, IfOk, OnOk};
     ghost use Rattle.rq_algebra.specs.Operations.{MulAssign};
-    ghost use Rattle.rq_bytes.specs.declared.error.Error.TheVariants.{OutOfMemory};
     ghost use Rattle.rq_standard.specs.OctetField.{octets};
     ghost use Rattle.rq_elimination.specs.OperationCounts.{additions};
     ghost use Rattle.rq_elimination.specs.RecordedRows.{Performs, Records};
     ghost use Rattle.rq_elimination.specs.RowSteps.{sum_step};
 
     /// Rows to which nothing was done yet, with room for `room` operations.
-    pub fn new(alloc: Global, table: InactiveEntries, room: usize) -> Result<RecordedRows, Error>
+    pub fn new(
+        alloc: Global,
+        table: InactiveEntries,
+        room: usize,
+    ) -> Result<RecordedRows, AllocError>
         requires few { length table.rows < 2 ^ 32 }
         ensures table { IfOk result (λ rows. rows.table ≡ table) }
         ensures operations { IfOk result (λ rows. rows.operations ≡ []) }
-        ensures err { IfErr result (λ e. e ≡ OutOfMemory) }
     {
         // For the proof: the contract of `width` says that all entries are octets.
         let _width = table.width();
@@ -49,14 +50,13 @@ impl RecordedRows {
 
     /// Adds a multiple of a row to another one.
     #[inline(always)]
-    pub fn add_multiple(&mut self, dest: usize, src: usize, scalar: Octet) -> Result<(), Error>
+    pub fn add_multiple(&mut self, dest: usize, src: usize, scalar: Octet) -> Result<(), AllocError>
         requires two { dest ≢ src }
         requires dest { dest < length self.old.table.rows }
         requires src { src < length self.old.table.rows }
         requires scalar { scalar < octets.size }
         ensures added { OnOk result (Performs (sum_step dest src scalar ∷ []) self.old self.new) }
         ensures counted { OnOk result (additions self.new.operations ≡ additions self.old.operations + 1) }
-        ensures err { IfErr result (λ e. e ≡ OutOfMemory) }
     {
         self.table.add_multiple(dest, src, &scalar)?;
         self.operations
@@ -66,13 +66,12 @@ impl RecordedRows {
 
     /// Multiplies a row by an octet that isn't 0.
     #[inline(always)]
-    pub fn multiply_row(&mut self, dest: usize, scalar: Octet) -> Result<(), Error>
+    pub fn multiply_row(&mut self, dest: usize, scalar: Octet) -> Result<(), AllocError>
         requires dest { dest < length self.old.table.rows }
         requires scalar { scalar < octets.size }
         requires nonzero { scalar ≢ 0 }
         ensures multiplied { OnOk result (Performs (MulAssign dest scalar ∷ []) self.old self.new) }
         ensures counted { OnOk result (additions self.new.operations ≡ additions self.old.operations) }
-        ensures err { IfErr result (λ e. e ≡ OutOfMemory) }
     {
         self.table.multiply_row(dest, &scalar)?;
         self.operations.push(Step::Multiply {
@@ -84,13 +83,17 @@ impl RecordedRows {
 
     /// Records that a multiple of a row is added to another one, of which no entry is read any more.
     #[inline(always)]
-    pub fn record_multiple(&mut self, dest: usize, src: usize, scalar: Octet) -> Result<(), Error>
+    pub fn record_multiple(
+        &mut self,
+        dest: usize,
+        src: usize,
+        scalar: Octet,
+    ) -> Result<(), AllocError>
         requires two { dest ≢ src }
         requires dest { dest < length self.old.table.rows }
         requires src { src < length self.old.table.rows }
         ensures recorded { OnOk result (Records (sum_step dest src scalar ∷ []) self.old self.new) }
         ensures counted { OnOk result (additions self.new.operations ≡ additions self.old.operations + 1) }
-        ensures err { IfErr result (λ e. e ≡ OutOfMemory) }
     {
         self.operations
             .push(addition(dest as u32, src as u32, scalar))?;

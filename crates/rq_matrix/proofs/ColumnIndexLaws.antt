@@ -1,5 +1,5 @@
 -- The rows that have a one in a column, row after row, and the places of the rows in a list.
-use Rattle.std.proofs.Common.{◌≡◌, ℕ, suc, ◌+◌, ◌<◌, ◌≤◌, ◌⊎◌, List, [], ◌∷◌, ◌++◌, length, map, filter, get_or, take, replicate, Bool, cond, Result, Ok, Err, IfOk, refl, sym, ap, subst, ◌∙◌, arith, inl, inr, zero-add, append-nil, append_assoc, add-zero}
+use Rattle.std.proofs.Common.{◌≡◌, ℕ, suc, ◌+◌, ◌<◌, ◌≤◌, ◌⊎◌, List, [], ◌∷◌, ◌++◌, length, map, filter, get_or, take, replicate, Bool, cond, refl, sym, ap, subst, ◌∙◌, arith, inl, inr, zero-add, append-nil, append_assoc, add-zero}
 use Rattle.std.specs.Prelude.{◌==◌}
 use Rattle.std.proofs.lemmas.Bool.{cases_eq}
 use Rattle.std.proofs.lemmas.Bool.Decides.{eqb_tells}
@@ -7,8 +7,6 @@ use Rattle.std.proofs.lemmas.List.{map-append, take_more, length-append}
 use Rattle.std.proofs.lemmas.List.Elements.{filter-append}
 use Rattle.std.proofs.lemmas.List.FromFn.{get_or-map-range_with_len, length-map-range_with_len}
 use Rattle.rq_standard.specs.BitTableSteps.{ArePlacesOfOnes}
-use Rattle.rq_bytes.specs.Refusals.{IsAnswer}
-use Rattle.rq_bytes.specs.declared.error.Error.{Error}
 use Rattle.rq_parts.specs.BitPairs.{in_range, sparse_pairs}
 use Rattle.rq_parts.specs.ImmutableListMap.{Pairs, values_of, lists_of}
 use Rattle.rq_parts.specs.SparseBinaryVec.{listed_bit}
@@ -59,7 +57,7 @@ places-add bit row column old new ones places adds is small =
 
 -- ---- the map of them
 
-index-built : (columns : ℕ) (rows : List (List ℕ)) (pairs : Pairs) (lists : List (List ℕ)) → pairs.keys ≡ columns → lists ≡ lists_of pairs
+pub index-built : (columns : ℕ) (rows : List (List ℕ)) (pairs : Pairs) (lists : List (List ℕ)) → pairs.keys ≡ columns → lists ≡ lists_of pairs
     → ((column : ℕ) → column < columns → ArePlacesOfOnes (λ row. listed_bit (get_or rows row []) column) 0 (length rows) (values_of pairs.pairs column)) → IsColumnIndex columns rows lists
 index-built columns rows pairs lists keys is each = record {
   count = ap length is ∙ length-map-range_with_len (values_of pairs.pairs) 0 pairs.keys ∙ keys;
@@ -67,11 +65,6 @@ index-built columns rows pairs lists keys is each = record {
       let list = ap (λ (l : List (List ℕ)). get_or l column []) is ∙ get_or-map-range_with_len (values_of pairs.pairs) 0 pairs.keys column column [] (omega (arith, keys)) (zero-add column) in
       subst (ArePlacesOfOnes (λ row. listed_bit (get_or rows row []) column) 0 (length rows)) (sym list) (each column below);
 }
-
-pub index-answered : (columns : ℕ) (rows : List (List ℕ)) (pairs : Pairs) (result : Result (List (List ℕ)) Error) → pairs.keys ≡ columns → IsAnswer (λ (lists : List (List ℕ)). lists) result (Ok (lists_of pairs))
-    → ((column : ℕ) → column < columns → ArePlacesOfOnes (λ row. listed_bit (get_or rows row []) column) 0 (length rows) (values_of pairs.pairs column)) → IfOk result (IsColumnIndex columns rows)
-index-answered columns rows pairs (Ok lists) keys answer each = (let is : lists ≡ lists_of pairs = cc in index-built columns rows pairs lists keys is each)
-index-answered columns rows pairs (Err e) keys answer each = tt
 
 -- ---- the ones of a row that stand in a range
 

@@ -1,9 +1,8 @@
 -- What becomes of a sparse matrix's bits.
-use Rattle.std.proofs.Common.{◌≡◌, ◌≢◌, ℕ, ◌+◌, ◌-◌, ◌<◌, ◌≤◌, List, [], length, set, get_or, cond, nat_lt, Bool, Result, Ok, Err, IfOk, refl, sym, ap, subst, ◌∙◌, arith, inl, inr, get_or-set_same, get_or-set_other}
+use Rattle.std.proofs.Common.{◌≡◌, ◌≢◌, ℕ, ◌+◌, ◌-◌, ◌<◌, ◌≤◌, List, [], length, set, get_or, cond, nat_lt, Bool, refl, sym, ap, subst, ◌∙◌, arith, inl, inr, get_or-set_same, get_or-set_other}
 use Rattle.std.specs.Int.Bits.{bit_xor}
 use Rattle.std.proofs.lemmas.Bool.{cases_lt, cases_eq}
 use Rattle.rq_bytes.specs.BinaryOctetVec.{packed_bit}
-use Rattle.rq_bytes.specs.declared.error.Error.{Error}
 use Rattle.rq_standard.specs.BitTable.{BitTable}
 use Rattle.rq_standard.specs.BitTableSteps.{SwapsPlaces, SetsBit, SetsBoundary, AddsRowFrom, ArePlacesOfOnes, AreBitsOf, bit_of}
 use Rattle.rq_parts.specs.SparseBinaryVec.{listed_bit, SetsListed, IsListedSum}
@@ -122,15 +121,15 @@ sets_tail height width boundary indexed rows row_order columns tail new i j r oc
 pub places-same : (f g : ℕ → ℕ) (start end : ℕ) (places : List ℕ) → ((k : ℕ) → start ≤ k → k < end → f k ≡ g k) → ArePlacesOfOnes f start end places → ArePlacesOfOnes g start end places
 places-same f g start end places same are = record { within = are.within; once = λ k from below. are.once k from below ∙ same k from below }
 
-pub octets-from : (bits : List ℕ) (f : ℕ → ℕ) (n start end : ℕ) (result : Result (List ℕ) Error) → start + n ≡ end → ((k : ℕ) → k < n → packed_bit bits k ≡ f (start + k)) → IfOk result (AreBitsOf (packed_bit bits) 0 n) → IfOk result (AreBitsOf f start end)
-octets-from bits f n start end (Ok octets) whole same are = record {
+pub octets-from : (bits : List ℕ) (f : ℕ → ℕ) (n start end : ℕ) (octets : List ℕ) → start + n ≡ end → ((k : ℕ) → k < n → packed_bit bits k ≡ f (start + k))
+    → AreBitsOf (packed_bit bits) 0 n octets → AreBitsOf f start end octets
+octets-from bits f n start end octets whole same are = record {
   len = omega (arith, are.len);
   octet = λ k from below.
       let first : k - start ≡ k - start - 0 = omega arith in
       let back : start + (k - start) ≡ k = omega arith in
       ap (λ j. get_or octets j 0) first ∙ are.octet (k - start) (omega arith) (omega arith) ∙ same (k - start) (omega arith) ∙ ap f back;
 }
-octets-from bits f n start end (Err e) whole same are = tt
 
 module _ (width boundary : ℕ) (rows : List (List ℕ)) (row_order columns : Order) (tail : Tail) (i r : ℕ) (at_r : r ≡ get_or row_order.order i 0) where
   pub dense_bit : (k : ℕ) → boundary ≤ k → tail_bit tail r (width - 1 - k) ≡ sparse_bit width boundary rows row_order columns tail i k

@@ -8,7 +8,6 @@ use Rattle.std.proofs.lemmas.Bool.{cases_eq}
 use Rattle.std.proofs.lemmas.Bool.Decides.{eqb_tells}
 use Rattle.std.proofs.lemmas.List.{get_or_default}
 use Rattle.std.proofs.lemmas.List.Elements.{All-cons, All-filter, All-map, All-set, filter_passes}
-use Rattle.rq_bytes.specs.declared.error.Error.{Error}
 use Rattle.rq_standard.specs.BitTableSteps.{ones_at, ones_below, ones_between, AreOnesOf, ArePlacesOfOnes}
 use Rattle.rq_standard.proofs.BitTableLaws.{is_one_at, is_one_at-other, is_one_at-one, ones_at-cons}
 use Rattle.rq_parts.specs.BitPairs.{in_range, sparse_pairs}
@@ -46,7 +45,7 @@ pub no_ones : (count row k : ℕ) → listed_bit (get_or (replicate count []) ro
 no_ones count row k = ap (λ (l : List ℕ). listed_bit l k) (empty_row count row)
 
 -- a row that has a bit set anew, or none
-pub row_set : (n : ℕ) (old new : List ℕ) (column octet : ℕ) (result : Result (Unit {0}) Error) → IsSparseRow n old → column < n → OnOk result (SetsListed old column octet new) → OnErr result (new ≡ old) → IsStrictlyIncreasing new → IsSparseRow n new
+pub row_set : {E : Type 0} → (n : ℕ) (old new : List ℕ) (column octet : ℕ) (result : Result (Unit {0}) E) → IsSparseRow n old → column < n → OnOk result (SetsListed old column octet new) → OnErr result (new ≡ old) → IsStrictlyIncreasing new → IsSparseRow n new
 row_set n old new column octet (Ok t) is below sets same rises = sparse_row n new rises (λ k above. sets.elsewhere k (λ e. omega (arith, e)) ∙ unlisted n old k is above)
 row_set n old new column octet (Err e) is below sets same rises = subst (IsSparseRow n) (sym same) is
 
@@ -173,7 +172,7 @@ sparse_count bit ones places start end range are =
 
 -- ---- a row added to another one
 
-pub rows_added : (n : ℕ) (rows new : List (List ℕ)) (dest src : ℕ) (result : Result (Unit {0}) Error) → All (IsSparseRow n) rows → dest < length rows → src < length rows → new ≡ set rows dest (get_or new dest []) → OnOk result (IsListedSum (get_or rows dest []) (get_or rows src []) (get_or new dest []))
+pub rows_added : {E : Type 0} → (n : ℕ) (rows new : List (List ℕ)) (dest src : ℕ) (result : Result (Unit {0}) E) → All (IsSparseRow n) rows → dest < length rows → src < length rows → new ≡ set rows dest (get_or new dest []) → OnOk result (IsListedSum (get_or rows dest []) (get_or rows src []) (get_or new dest []))
     → OnErr result (new ≡ rows) → IsStrictlyIncreasing (get_or new dest []) → All (IsSparseRow n) new
 rows_added n rows new dest src (Ok t) sparse in_dest in_src is sums same rises =
     let row = sparse_row n (get_or new dest []) rises (λ k above.

@@ -4,7 +4,6 @@ use Rattle.std.specs.List.Sorted.{IsStrictlyIncreasing}
 use Rattle.std.specs.Option.{is_some, ForSome}
 use Rattle.std.proofs.lemmas.List.{get_or_read}
 use Rattle.std.proofs.lemmas.List.Elements.{All-set}
-use Rattle.rq_bytes.specs.declared.error.Error.{Error}
 use Rattle.rq_standard.specs.BitTableSteps.{AreOnesOf}
 use Rattle.rq_parts.specs.BitPairs.{sparse_pairs}
 use Rattle.rq_parts.specs.SparseBinaryVec.{listed_bit, SetsListed}
@@ -74,7 +73,7 @@ module _ (m : SparseBinaryMatrix) where
   }
 
   -- one stored row had a bit set, or is as it was
-  pub with_row_set : is_some m.index ≡ false → (row : ℕ) → row < length m.rows.items → (old new : List ℕ) → old ≡ get_or m.rows.items row old → (column octet : ℕ) (result : Result (Unit {0}) Error) → column < length m.column_order.order
+  pub with_row_set : {E : Type 0} → is_some m.index ≡ false → (row : ℕ) → row < length m.rows.items → (old new : List ℕ) → old ≡ get_or m.rows.items row old → (column octet : ℕ) (result : Result (Unit {0}) E) → column < length m.column_order.order
       → OnOk result (SetsListed old column octet new) → OnErr result (new ≡ old) → IsStrictlyIncreasing new → IsMatrixOf m.height m.width m.boundary (set m.rows.items row new) m.tail m.row_order m.column_order m.index
   with_row_set off row within old new is column octet result in_columns sets same rises =
       let columns = length m.column_order.order in

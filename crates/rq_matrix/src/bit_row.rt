@@ -1,13 +1,11 @@
 //! A row of packed bits in words of its own, and parts of rows.
-ghost use Rattle.std.specs.Prelude.{◌≡◌, ◌≢◌, ℕ, ◌+◌, ◌-◌, ◌*◌, ◌^◌, ◌<◌, ◌≤◌, length, replicate, slice_index, IfOk, IfErr};
+ghost use Rattle.std.specs.Prelude.{◌≡◌, ◌≢◌, ℕ, ◌+◌, ◌-◌, ◌*◌, ◌^◌, ◌<◌, ◌≤◌, length, replicate, slice_index, IfOk};
 ghost use Rattle.std.specs.Int.Bits.{bit_xor};
-ghost use Rattle.rq_bytes.specs.declared.error.Error.TheVariants.{OutOfMemory};
 ghost use Rattle.rq_standard.specs.BitTableSteps.{bit_of, AreBitsOf};
 ghost use Rattle.rq_bytes.specs.BinaryOctetVec.{packed_bit};
 ghost use Rattle.rq_parts.specs.PackedBits.{word_count};
 ghost use Rattle.rq_matrix.specs.DenseTails.{with_word_added};
 
-use rq_bytes::error::Error;
 use rq_bytes::octet::Octet;
 use rq_bytes::octets::{BinaryOctetVec, WORD_BITS};
 use rq_parts::packed_bits::{flip_bit, get_bit, words_for, write_bit};
@@ -116,12 +114,11 @@ pub(crate) fn part_of(
     row: &[u64],
     start: usize,
     end: usize,
-) -> Result<BinaryOctetVec, Error>
+) -> Result<BinaryOctetVec, AllocError>
     requires range { start ≤ end }
     requires within { end ≤ 64 * length row.now }
     requires width { end < 65536 }
-    ensures ok { IfOk result (λ octets. AreBitsOf (packed_bit row.now) start end octets) }
-    ensures err { IfErr result (λ e. e ≡ OutOfMemory) }
+    ensures { IfOk result (λ octets. AreBitsOf (packed_bit row.now) start end octets) }
 {
     let len = end - start;
     let mut part = BitRow::zero(alloc, len)?;

@@ -340,7 +340,8 @@ impl BinaryMatrix for DenseBinaryMatrix {
     }
 
     fn get_sub_row_as_octets(&self, row: usize, start_col: usize) -> Result<BinaryOctetVec, Error> {
-        part_of(self.allocator(), self.rows.row(row), start_col, self.width)
+        let row = self.rows.row(row);
+        Ok(part_of(self.allocator(), row, start_col, self.width)?)
     }
 
     fn query_non_zero_columns_into(

@@ -183,12 +183,8 @@ impl BinaryMatrix for SparseBinaryMatrix {
 
     fn get_sub_row_as_octets(&self, row: usize, _: usize) -> Result<BinaryOctetVec, Error> {
         let bits = self.tail.row(self.allocator(), self.stored_row(row))?;
-        part_of(
-            self.allocator(),
-            bits.as_slice(),
-            0,
-            self.width - self.boundary,
-        )
+        let columns = self.width - self.boundary;
+        Ok(part_of(self.allocator(), bits.as_slice(), 0, columns)?)
     }
 
     fn query_non_zero_columns_into(

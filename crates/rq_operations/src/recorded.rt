@@ -1,14 +1,12 @@
 //! The operations of a plan or of a solution.
-ghost use Rattle.std.specs.Prelude.{◌≡◌, ◌++◌, ◌∷◌, [], length, map, IfOk, OnOk, IfErr, OnErr};
+ghost use Rattle.std.specs.Prelude.{◌≡◌, ◌++◌, ◌∷◌, [], length, map, IfOk, OnOk, OnErr};
 ghost use Rattle.rq_algebra.specs.Operations.{AreAllowed, Reorder};
-ghost use Rattle.rq_bytes.specs.declared.error.Error.TheVariants.{OutOfMemory};
 ghost use Rattle.rq_bytes.specs.SymbolOps.{operation_of};
 ghost use Rattle.rq_bytes.specs.SymbolSlab.{after_all};
 ghost use Rattle.rq_operations.specs.RecordedSteps.{operation_of_step};
 
 use crate::replay::replay;
 use crate::steps::Step;
-use rq_bytes::error::Error;
 use rq_bytes::operation_vector::SymbolOps;
 use rq_bytes::symbol_slab::SymbolSlab;
 use std::alloc::AllocError;
@@ -33,11 +31,10 @@ impl RecordedOperations {
 
     /// Performs the operations on the symbols of a slab, first to last. Where memory for a copy of the
     /// order is refused, the slab stays as it was.
-    pub fn replay(&self, symbols: &mut SymbolSlab) -> Result<(), Error>
+    pub fn replay(&self, symbols: &mut SymbolSlab) -> Result<(), AllocError>
         requires { AreAllowed (length symbols.old.values) symbols.old.order (operations_of self.now) }
         ensures ok { OnOk result (symbols.new ≡ after_all (operations_of self.now) symbols.old) }
         ensures unchanged { OnErr result (symbols.new ≡ symbols.old) }
-        ensures err { IfErr result (λ e. e ≡ OutOfMemory) }
     {
         let order = self.order.clone()?;
         replay(self.steps.as_slice(), symbols);
@@ -46,9 +43,8 @@ impl RecordedOperations {
     }
 
     /// The operations one by one, as the Rust crate records them.
-    pub fn into_symbol_ops(self) -> Result<Vec<SymbolOps>, Error>
-        ensures operations { IfOk result (λ operations. map operation_of operations.items ≡ operations_of self) }
-        ensures err { IfErr result (λ e. e ≡ OutOfMemory) }
+    pub fn into_symbol_ops(self) -> Result<Vec<SymbolOps>, AllocError>
+        ensures { IfOk result (λ operations. map operation_of operations.items ≡ operations_of self) }
     {
         let RecordedOperations { steps, order } = self;
         let mut operations = Vec::with_capacity(*steps.allocator(), steps.len() + 1)?;

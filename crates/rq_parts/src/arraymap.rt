@@ -9,7 +9,7 @@ mod lists;
 
 pub use lists::{ImmutableListMap, ImmutableListMapBuilder};
 use rq_bytes::error::Error;
-use std::alloc::Global;
+use std::alloc::{AllocError, Global};
 use std::marker::Model;
 use std::ops::Range;
 
@@ -194,19 +194,17 @@ impl U32VecMap {
 }
 
 // A list of `len` zeros.
-fn zeros(alloc: Global, len: usize) -> Result<Vec<u32>, Error>
-    ensures zeros { IfOk result (λ v. v.items ≡ replicate len 0) }
-    ensures err { IfErr result (λ e. e ≡ OutOfMemory) }
+fn zeros(alloc: Global, len: usize) -> Result<Vec<u32>, AllocError>
+    ensures { IfOk result (λ v. v.items ≡ replicate len 0) }
 {
     Ok(vec![in alloc; 0; len]?)
 }
 
 // Appends zeros until there is an element at `index`.
-fn grow(elements: &mut Vec<u32>, index: usize) -> Result<(), Error>
+fn grow(elements: &mut Vec<u32>, index: usize) -> Result<(), AllocError>
     requires { index + 1 < 2 ^ 64 }
     ensures reaches { OnOk result (index < vec_len elements.new) }
     ensures same { (k : ℕ) → slice_index elements.new.items k ≡ slice_index elements.old.items k }
-    ensures err { IfErr result (λ e. e ≡ OutOfMemory) }
 {
     if index >= elements.len() {
         elements.resize(index + 1, 0)?;

@@ -5,6 +5,7 @@ pub mod arraymap;
 pub mod bit_rows;
 pub mod graph;
 pub mod iterators;
+pub mod memory;
 pub mod octet_matrix;
 pub mod packed_bits;
 pub mod sparse_vec;

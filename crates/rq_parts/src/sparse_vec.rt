@@ -178,12 +178,11 @@ impl SparseBinaryVec {
 
     /// Sets the bit at an index to 1 where it was 0, and to 0 where it was 1. A refusal leaves the row
     /// as it was.
-    pub fn flip(&mut self, i: usize) -> Result<(), Error>
+    pub fn flip(&mut self, i: usize) -> Result<(), AllocError>
         requires { i < 65536 }
         ensures ok { OnOk result (SetsListed self.old i (bit_xor (listed_bit self.old i) 1) self.new) }
         ensures increasing { IsStrictlyIncreasing self.new }
         ensures refused { OnErr result (self.new ≡ self.old) }
-        ensures err { IfErr result (λ e. e ≡ OutOfMemory) }
     {
         push(&mut self.elements, i as u16)?;
         if insert_last(&mut self.elements) {
@@ -194,13 +193,12 @@ impl SparseBinaryVec {
 
     // Lists an index where it goes. A refusal leaves the row as it was.
     #[inline(always)]
-    fn list_at(&mut self, gap: usize, i: usize) -> Result<(), Error>
+    fn list_at(&mut self, gap: usize, i: usize) -> Result<(), AllocError>
         requires index { i < 65536 }
         requires gap { IsGap self.old i gap }
         ensures ok { OnOk result (SetsListed self.old i 1 self.new) }
         ensures increasing { IsStrictlyIncreasing self.new }
         ensures refused { OnErr result (self.new ≡ self.old) }
-        ensures err { IfErr result (λ e. e ≡ OutOfMemory) }
     {
         push(&mut self.elements, i as u16)?;
         move_last_to(&mut self.elements, gap);

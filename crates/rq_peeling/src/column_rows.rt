@@ -1,16 +1,14 @@
 //! The rows that have ones in a column: a row loses an active column where one gets a pivot or is
 //! inactive (RFC 6330, section 5.4.2.2).
-ghost use Rattle.std.specs.Prelude.{◌≡◌, ℕ, ◌+◌, ◌-◌, ◌*◌, ◌^◌, ◌<◌, ◌≤◌, ◌==◌, [], List, length, count_by, sum, sum_by, take, All, IfSome, IfOk, OnOk, IfErr, slice_index_or};
+ghost use Rattle.std.specs.Prelude.{◌≡◌, ℕ, ◌+◌, ◌-◌, ◌*◌, ◌^◌, ◌<◌, ◌≤◌, ◌==◌, [], List, length, count_by, sum, sum_by, take, All, IfSome, IfOk, OnOk, slice_index_or};
 ghost use Rattle.rq_algebra.specs.Systems.{at};
-ghost use Rattle.rq_bytes.specs.declared.error.Error.TheVariants.{OutOfMemory};
 ghost use Rattle.rq_peeling.specs.ColumnRows.{AreEnds, ListsColumns, PlacesRow};
 ghost use Rattle.rq_peeling.specs.RowDegrees.{LowersRows};
 
 use crate::degrees::RowDegrees;
 use crate::ones::RowOnes;
-use rq_bytes::error::Error;
 use rq_bytes::slices::part;
-use std::alloc::Global;
+use std::alloc::{AllocError, Global};
 use std::marker::Model;
 
 /// The rows of all ones, column by column, and where those of each column start. They tell which
@@ -37,13 +35,12 @@ impl Model for ColumnRows {
 
 impl ColumnRows {
     /// The ones of rows, column by column.
-    pub fn of_rows(alloc: Global, ones: &RowOnes, width: usize) -> Result<ColumnRows, Error>
+    pub fn of_rows(alloc: Global, ones: &RowOnes, width: usize) -> Result<ColumnRows, AllocError>
         requires columns { All (λ row. All (λ column. column < width) row) ones.now }
         requires few_rows { length ones.now < 2 ^ 31 }
         ensures height { IfOk result (λ columns. columns.height ≡ length ones.now) }
         ensures width { IfOk result (λ columns. length columns.lists ≡ width) }
         ensures lists { IfOk result (ListsColumns ones.now) }
-        ensures err { IfErr result (λ e. e ≡ OutOfMemory) }
     {
         let count = ones.len();
         let mut starts = column_ends(alloc, ones, width)?;
@@ -80,12 +77,11 @@ impl ColumnRows {
 
     /// Each row has one active column less for each one that it has in a column.
     #[inline(always)]
-    pub fn lower_rows(&self, column: usize, degrees: &mut RowDegrees) -> Result<(), Error>
+    pub fn lower_rows(&self, column: usize, degrees: &mut RowDegrees) -> Result<(), AllocError>
         requires column { column < length self.now.lists }
         requires rows { self.now.height ≡ length degrees.old }
         ensures rows { length degrees.new ≡ length degrees.old }
         ensures lowered { OnOk result (LowersRows (slice_index_or self.now.lists column []) degrees.old degrees.new) }
-        ensures err { IfErr result (λ e. e ≡ OutOfMemory) }
     {
         degrees.lower(self.rows_in(column))
     }
@@ -123,12 +119,11 @@ fn place_row(row: u32, columns: &[u16], starts: &mut [usize], rows: &mut [u32])
 }
 
 // Where the ones of each column end, where all stand column by column.
-fn column_ends(alloc: Global, ones: &RowOnes, width: usize) -> Result<Vec<usize>, Error>
+fn column_ends(alloc: Global, ones: &RowOnes, width: usize) -> Result<Vec<usize>, AllocError>
     requires columns { All (λ row. All (λ column. column < width) row) ones.now }
     requires few { sum_by length ones.now < 2 ^ 64 }
     ensures len { IfOk result (λ ends. length ends.items ≡ width) }
     ensures ends { IfOk result (λ ends. (counts : List ℕ) × AreEnds ones.now counts ends.items) }
-    ensures err { IfErr result (λ e. e ≡ OutOfMemory) }
 {
     let mut ends = vec![in alloc; 0; width]?;
     count_columns(ones.columns(), ends.as_mut_slice());

@@ -1,12 +1,10 @@
 //! The columns in an order: those with pivots, the active ones and the inactive ones, which are I,
 //! V and U of RFC 6330 (section 5.4.2.2).
-ghost use Rattle.std.specs.Prelude.{◌≡◌, ◌+◌, ◌<◌, ◌≤◌, ◌↔◌, length, IsTrue, IfOk, IfErr};
-ghost use Rattle.rq_bytes.specs.declared.error.Error.TheVariants.{OutOfMemory};
+ghost use Rattle.std.specs.Prelude.{◌≡◌, ◌+◌, ◌<◌, ◌≤◌, ◌↔◌, length, IsTrue, IfOk};
 ghost use Rattle.rq_peeling.specs.ColumnState.{IsOrderOf, IsActive, first_columns, ExchangesColumns, EndsActive};
 ghost use Rattle.rq_algebra.specs.Systems.{at};
 
-use rq_bytes::error::Error;
-use std::alloc::Global;
+use std::alloc::{AllocError, Global};
 use std::marker::Model;
 
 /// The columns in an order, and the place of each column in it: first those that have pivots, from
@@ -31,11 +29,10 @@ impl Model for ColumnOrder {
 
 impl ColumnOrder {
     /// `width` columns in their own order, the first `lt_columns` active and the others inactive.
-    pub fn new(alloc: Global, width: usize, lt_columns: usize) -> Result<ColumnOrder, Error>
+    pub fn new(alloc: Global, width: usize, lt_columns: usize) -> Result<ColumnOrder, AllocError>
         requires lt_columns { lt_columns ≤ width }
         requires narrow { width < 65536 }
-        ensures columns { IfOk result (λ columns. columns ≡ first_columns width lt_columns) }
-        ensures err { IfErr result (λ e. e ≡ OutOfMemory) }
+        ensures { IfOk result (λ columns. columns ≡ first_columns width lt_columns) }
     {
         Ok(ColumnOrder {
             order: (0..width as u16).collect(alloc)?,

@@ -1,12 +1,10 @@
 //! `RowDegrees`: how many active columns each row has, the least of which is r of RFC 6330 (section
 //! 5.4.2.2), and which row to take next.
-ghost use Rattle.std.specs.Prelude.{◌≡◌, ◌+◌, ◌-◌, ◌^◌, ◌<◌, ◌≤◌, [], All, Contains, length, take, IfSome, IfNone, IfOk, OnOk, IfErr};
+ghost use Rattle.std.specs.Prelude.{◌≡◌, ◌+◌, ◌-◌, ◌^◌, ◌<◌, ◌≤◌, [], All, Contains, length, take, IfSome, IfNone, IfOk, OnOk};
 ghost use Rattle.rq_algebra.specs.Systems.{at};
-ghost use Rattle.rq_bytes.specs.declared.error.Error.TheVariants.{OutOfMemory};
 ghost use Rattle.rq_peeling.specs.RowDegrees.{AllHaveNone, AreListed, HasLeastDegree, LowersRows, MayAdd, NoneHas};
 
-use rq_bytes::error::Error;
-use std::alloc::Global;
+use std::alloc::{AllocError, Global};
 use std::marker::Model;
 
 /// How many active columns each row has, the rows that came to have one alone, and those that came
@@ -34,10 +32,9 @@ impl Model for RowDegrees {
 
 impl RowDegrees {
     /// These degrees, one a row.
-    pub fn new(alloc: Global, degrees: Vec<u16>) -> Result<RowDegrees, Error>
+    pub fn new(alloc: Global, degrees: Vec<u16>) -> Result<RowDegrees, AllocError>
         requires few_rows { length degrees.items < 2 ^ 31 }
-        ensures degrees { IfOk result (λ made. made ≡ degrees.items) }
-        ensures err { IfErr result (λ e. e ≡ OutOfMemory) }
+        ensures { IfOk result (λ made. made ≡ degrees.items) }
     {
         // Each row is listed once at most, and a column has at most all rows: this is always enough.
         let room = 2 * degrees.len();
@@ -53,11 +50,10 @@ impl RowDegrees {
     }
 
     /// Each row has one active column less for each time that it is among these.
-    pub fn lower(&mut self, rows: &[u32]) -> Result<(), Error>
+    pub fn lower(&mut self, rows: &[u32]) -> Result<(), AllocError>
         requires { All (λ row. row < length self.old) rows.now }
         ensures rows { length self.new ≡ length self.old }
         ensures lowered { OnOk result (LowersRows rows.now self.old self.new) }
-        ensures err { IfErr result (λ e. e ≡ OutOfMemory) }
     {
         self.singles.make_room(rows.len())?;
         self.pairs.make_room(rows.len())?;
@@ -138,7 +134,7 @@ fn list_rows(degrees: &[u16], singles: &mut RowList, pairs: &mut RowList)
     requires no_pairs { pairs.old.rows ≡ [] }
     requires single_room { length degrees.now ≤ singles.old.room }
     requires pair_room { length degrees.now ≤ pairs.old.room }
-    ensures listed { AreListed degrees.now singles.new.rows pairs.new.rows }
+    ensures { AreListed degrees.now singles.new.rows pairs.new.rows }
 {
     for row in 0..degrees.len() {
         let degree = degrees[row];
@@ -187,10 +183,9 @@ impl Model for RowList {
 
 impl RowList {
     // No rows, and room for `room` of them.
-    fn with_room(alloc: Global, room: usize) -> Result<RowList, Error>
+    fn with_room(alloc: Global, room: usize) -> Result<RowList, AllocError>
         ensures rows { IfOk result (λ made. made.rows ≡ []) }
         ensures room { IfOk result (λ made. made.room ≡ room) }
-        ensures err { IfErr result (λ e. e ≡ OutOfMemory) }
     {
         Ok(RowList {
             rows: vec![in alloc; 0; room]?,
@@ -207,11 +202,10 @@ impl RowList {
     }
 
     // Makes room for `more` rows behind the listed ones, where there is less.
-    fn make_room(&mut self, more: usize) -> Result<(), Error>
+    fn make_room(&mut self, more: usize) -> Result<(), AllocError>
         requires { more < 2 ^ 62 }
         ensures rows { self.new.rows ≡ self.old.rows }
         ensures room { OnOk result (more ≤ self.new.room) }
-        ensures err { IfErr result (λ e. e ≡ OutOfMemory) }
     {
         let needed = self.count + more;
         if self.rows.len() < needed {

@@ -1,14 +1,13 @@
 //! The ones of a matrix of bits, row by row, as the phases read them (RFC 6330, section 5.4.2.1).
-ghost use Rattle.std.specs.Prelude.{◌≡◌, ℕ, ◌^◌, ◌<◌, ◌++◌, All, count_by, drop, length, nat_lt, IfOk, OnOk, IfErr};
+ghost use Rattle.std.specs.Prelude.{◌≡◌, ℕ, ◌^◌, ◌<◌, ◌++◌, All, count_by, drop, length, nat_lt, IfOk, OnOk};
 ghost use Rattle.std.specs.List.{concat, sum_by};
-ghost use Rattle.rq_bytes.specs.declared.error.Error.TheVariants.{OutOfMemory};
 ghost use Rattle.rq_peeling.specs.RowDegrees.{CountsBefore};
 ghost use Rattle.rq_peeling.specs.RowOnes.{ones_of, AreOnesOfRows, AddsOneColumns};
 
-use rq_bytes::error::Error;
 use rq_bytes::slices::part;
 use rq_matrix::matrix::BinaryMatrix;
-use std::alloc::Global;
+use rq_parts::memory::memory_alone;
+use std::alloc::{AllocError, Global};
 use std::marker::Model;
 
 // How many ones there is room for a row: in blocks of all sizes rows have ten on average, or fewer.
@@ -42,13 +41,12 @@ impl RowOnes {
         alloc: Global,
         bits: &T,
         lt_columns: usize,
-    ) -> Result<(RowOnes, Vec<u16>), Error>
+    ) -> Result<(RowOnes, Vec<u16>), AllocError>
         requires lt_columns { lt_columns ≡ (T.content bits.now).boundary }
         ensures ones { IfOk result (λ listed. AreOnesOfRows (T.content bits.now).height (T.content bits.now).width (T.content bits.now).bit listed.0) }
         ensures few { IfOk result (λ listed. length listed.0 < 2 ^ 31) }
         ensures rows { IfOk result (λ listed. length listed.1.items ≡ length listed.0) }
         ensures counted { IfOk result (λ listed. CountsBefore lt_columns listed.0 listed.1.items) }
-        ensures err { IfErr result (λ e. e ≡ OutOfMemory) }
     {
         let mut starts = Vec::with_capacity(alloc, bits.height() + 1)?;
         let mut columns = Vec::with_capacity(alloc, USUAL_ONES * bits.height())?;
@@ -102,12 +100,11 @@ fn push_ones<T: BinaryMatrix>(
     lt_columns: usize,
     dense: &mut Vec<usize>,
     columns: &mut Vec<u16>,
-) -> Result<u16, Error>
+) -> Result<u16, AllocError>
     requires lt_columns { lt_columns ≡ (T.content bits.now).boundary }
     requires row { row < (T.content bits.now).height }
     ensures counted { IfOk result (λ count. count ≡ count_by (λ column. nat_lt column lt_columns) (drop (length columns.old.items) columns.new.items)) }
     ensures ones { OnOk result (AddsOneColumns ((T.content bits.now).bit row) (T.content bits.now).width columns.old.items columns.new.items) }
-    ensures err { IfErr result (λ e. e ≡ OutOfMemory) }
 {
     let start = columns.len();
     for (column, octet) in bits.get_row_iter(row, 0, lt_columns) {
@@ -116,16 +113,16 @@ fn push_ones<T: BinaryMatrix>(
         }
     }
     let count = columns.len() - start;
-    bits.query_non_zero_columns_into(row, lt_columns, dense)?;
+    bits.query_non_zero_columns_into(row, lt_columns, dense)
+        .map_err(memory_alone)?;
     push_columns(dense.as_slice(), columns)?;
     Ok(count as u16)
 }
 
 // Appends columns to a list of them.
-fn push_columns(more: &[usize], columns: &mut Vec<u16>) -> Result<(), Error>
+fn push_columns(more: &[usize], columns: &mut Vec<u16>) -> Result<(), AllocError>
     requires { All (λ column. column < 65536) more.now }
-    ensures pushed { OnOk result (columns.new.items ≡ columns.old.items ++ more.now) }
-    ensures err { IfErr result (λ e. e ≡ OutOfMemory) }
+    ensures { OnOk result (columns.new.items ≡ columns.old.items ++ more.now) }
 {
     for column in more {
         columns.push(*column as u16)?;

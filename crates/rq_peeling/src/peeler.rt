@@ -1,7 +1,6 @@
 //! `Peeler`: the state of the choice of pivots, and one turn of it (RFC 6330, section 5.4.2.2).
 //! Where all rows have two active columns or more, a graph of components decides.
-ghost use Rattle.std.specs.Prelude.{◌≡◌, false, ◌<◌, ◌≤◌, [], length, slice_index_or, All, Contains, IsTrue, IfSome, IfNone, OnOk, IfOk, IfErr};
-ghost use Rattle.rq_bytes.specs.declared.error.Error.TheVariants.{OutOfMemory};
+ghost use Rattle.std.specs.Prelude.{◌≡◌, false, ◌<◌, ◌≤◌, [], length, slice_index_or, All, Contains, IsTrue, IfSome, IfNone, OnOk, IfOk};
 ghost use Rattle.rq_algebra.specs.Systems.{at};
 ghost use Rattle.rq_peeling.specs.RowDegrees.{AllHaveNone, CountsActive, HasLeastDegree, KeepsDegrees, LowersRows, TakesColumnsLeft, TakesFewest, active_ones};
 ghost use Rattle.rq_peeling.specs.ColumnState.{IsOrderOf, IsActive, HasNoActive, TakesRow, InactivatesRow};
@@ -11,9 +10,9 @@ ghost use Rattle.rq_peeling.specs.Chosen.{HasChosen, IsPeeledSo};
 use crate::columns::ColumnOrder;
 use crate::degrees::RowDegrees;
 use crate::system::System;
-use rq_bytes::error::Error;
 use rq_parts::graph::ConnectedComponentGraph;
-use std::alloc::Global;
+use rq_parts::memory::memory_alone;
+use std::alloc::{AllocError, Global};
 
 /// What is worked on while columns of a system get pivots: how many active columns each row has, the
 /// columns in their order, and which columns rows of two join.
@@ -30,14 +29,13 @@ pub struct Peeler<'a> {
 
 impl<'a> Peeler<'a> {
     /// No column has a pivot, and the dense columns are inactive.
-    pub fn new(alloc: Global, system: &'a System) -> Result<Peeler<'a>, Error>
+    pub fn new(alloc: Global, system: &'a System) -> Result<Peeler<'a>, AllocError>
         ensures system { IfOk result (λ peeler. peeler.system.now ≡ system.now) }
         ensures chosen { IfOk result (λ peeler. HasChosen system.now.width system.now.lt_columns system.now.ones [] peeler.columns peeler.degrees) }
-        ensures err { IfErr result (λ e. e ≡ OutOfMemory) }
     {
         let degrees = RowDegrees::new(alloc, system.degrees.clone()?)?;
         let columns = ColumnOrder::new(alloc, system.width, system.lt_columns)?;
-        let graph = ConnectedComponentGraph::new(alloc, system.lt_columns)?;
+        let graph = ConnectedComponentGraph::new(alloc, system.lt_columns).map_err(memory_alone)?;
         Ok(Peeler {
             system,
             degrees,
@@ -47,13 +45,12 @@ impl<'a> Peeler<'a> {
     }
 
     /// Gives columns pivots in row after row, while rows have active columns. The rows that have them.
-    pub fn choose_rows(&mut self, alloc: Global) -> Result<Vec<u32>, Error>
+    pub fn choose_rows(&mut self, alloc: Global) -> Result<Vec<u32>, AllocError>
         requires { HasChosen self.old.system.now.width self.old.system.now.lt_columns self.old.system.now.ones [] self.old.columns self.old.degrees }
         ensures peeled { IfOk result (λ rows. IsPeeledSo self.old.system.now.ones rows.items self.new.columns) }
         ensures fewest { IfOk result (λ rows. TakesFewest self.old.system.now.ones self.old.system.now.lt_columns rows.items) }
         ensures columns { IfOk result (λ rows. TakesColumnsLeft self.old.system.now.ones self.old.system.now.lt_columns rows.items self.new.columns.order) }
         ensures system { self.new.system ≡ self.old.system }
-        ensures err { IfErr result (λ e. e ≡ OutOfMemory) }
     {
         let lt_columns = self.system.lt_columns;
         let mut rows = Vec::with_capacity(alloc, lt_columns)?;
@@ -77,7 +74,7 @@ impl<'a> Peeler<'a> {
     }
 
     // Peels the next row. `None` where no row has an active column.
-    fn take_next(&mut self) -> Result<Option<usize>, Error>
+    fn take_next(&mut self) -> Result<Option<usize>, AllocError>
         requires { CountsActive self.old.system.now.ones self.old.columns self.old.degrees }
         ensures row { IfOk result (λ taken. IfSome taken (HasLeastDegree self.old.degrees)) }
         ensures taken { IfOk result (λ taken. IfSome taken (λ row. TakesRow (ones_of self.old.system.now.ones row) self.old.columns self.new.columns)) }
@@ -85,7 +82,6 @@ impl<'a> Peeler<'a> {
         ensures none { IfOk result (λ taken. IfNone taken (AllHaveNone self.old.degrees)) }
         ensures left { IfOk result (λ taken. IfNone taken (self.new.columns ≡ self.old.columns)) }
         ensures system { self.new.system ≡ self.old.system }
-        ensures err { IfErr result (λ e. e ≡ OutOfMemory) }
     {
         let Some(row) = self.next_row() else {
             return Ok(None);
@@ -163,14 +159,13 @@ impl<'a> Peeler<'a> {
 
     // Gives the first active column of a row the next pivot, and makes the others inactive. Says
     // whether there is one.
-    fn take_row(&mut self, row: usize) -> Result<bool, Error>
+    fn take_row(&mut self, row: usize) -> Result<bool, AllocError>
         requires row { row < length self.old.degrees }
         requires degree { at self.old.degrees row ≡ active_ones self.old.columns (ones_of self.old.system.now.ones row) }
         ensures taken { IfOk result (λ taken. IsTrue taken → TakesRow (ones_of self.old.system.now.ones row) self.old.columns self.new.columns) }
         ensures none { IfOk result (λ taken. (taken ≡ false) → HasNoActive (ones_of self.old.system.now.ones row) self.old.columns) }
         ensures counted { OnOk result (KeepsDegrees self.old.system.now.ones self.old.columns self.new.columns self.old.degrees self.new.degrees) }
         ensures system { self.new.system ≡ self.old.system }
-        ensures err { IfErr result (λ e. e ≡ OutOfMemory) }
     {
         let system = self.system;
         let degree = self.degrees.degree(row);
@@ -188,12 +183,11 @@ impl<'a> Peeler<'a> {
     }
 
     // Makes the active columns of a row inactive.
-    fn inactivate_columns(&mut self, row: &[u16]) -> Result<(), Error>
+    fn inactivate_columns(&mut self, row: &[u16]) -> Result<(), AllocError>
         requires { All (λ column. column < self.old.system.now.width) row.now }
         ensures inactive { OnOk result (InactivatesRow row.now self.old.columns self.new.columns) }
         ensures counted { OnOk result (KeepsDegrees self.old.system.now.ones self.old.columns self.new.columns self.old.degrees self.new.degrees) }
         ensures system { self.new.system ≡ self.old.system }
-        ensures err { IfErr result (λ e. e ≡ OutOfMemory) }
     {
         for column in row {
             if self.columns.is_active(*column as usize) {
@@ -207,12 +201,11 @@ impl<'a> Peeler<'a> {
     // Takes a column that isn't active any more out of its component, and counts one active column
     // less for each one that a row has there.
     #[inline(always)]
-    fn leave_column(&mut self, column: usize) -> Result<(), Error>
+    fn leave_column(&mut self, column: usize) -> Result<(), AllocError>
         requires { column < self.old.system.now.width }
         ensures lowered { OnOk result (LowersRows (slice_index_or self.old.system.now.column_rows.lists column []) self.old.degrees self.new.degrees) }
         ensures columns { self.new.columns ≡ self.old.columns }
         ensures system { self.new.system ≡ self.old.system }
-        ensures err { IfErr result (λ e. e ≡ OutOfMemory) }
     {
         if column < self.system.lt_columns {
             self.graph.remove_node(column);

@@ -1,15 +1,13 @@
 //! `peel`: the whole choice of pivots (RFC 6330, section 5.4.2.2), turn after turn of a `Peeler`. And
 //! `Peeling`, its result: which column has its pivot in which row, and the order of the columns.
-ghost use Rattle.std.specs.Prelude.{◌≡◌, ◌<◌, ◌≤◌, drop, length, IfOk, IfErr};
-ghost use Rattle.rq_bytes.specs.declared.error.Error.TheVariants.{OutOfMemory};
+ghost use Rattle.std.specs.Prelude.{◌≡◌, ◌<◌, ◌≤◌, drop, length, IfOk};
 ghost use Rattle.rq_algebra.specs.Systems.{at};
 ghost use Rattle.rq_peeling.specs.RowDegrees.{TakesColumnsLeft, TakesFewest};
 ghost use Rattle.rq_peeling.specs.Peeling.{IsPeeled};
 
 use crate::peeler::Peeler;
 use crate::system::System;
-use rq_bytes::error::Error;
-use std::alloc::Global;
+use std::alloc::{AllocError, Global};
 use std::marker::Model;
 
 /// Columns with pivots among rows of bits, and the order of all columns: pivots' first, in the
@@ -101,11 +99,10 @@ impl Peeling {
 /// Chooses pivots among rows of bits, of which the dense columns are inactive from the start (RFC
 /// 6330, section 5.4.2.2): again and again a row with least active columns has one of them as its
 /// pivot, and the others are inactive.
-pub fn peel(alloc: Global, system: &System) -> Result<Peeling, Error>
+pub fn peel(alloc: Global, system: &System) -> Result<Peeling, AllocError>
     ensures peeled { IfOk result (IsPeeled system.now.width system.now.ones) }
     ensures fewest { IfOk result (λ peeling. TakesFewest system.now.ones system.now.lt_columns peeling.rows) }
     ensures columns { IfOk result (λ peeling. TakesColumnsLeft system.now.ones system.now.lt_columns peeling.rows peeling.order) }
-    ensures err { IfErr result (λ e. e ≡ OutOfMemory) }
 {
     let mut peeler = Peeler::new(alloc, system)?;
     let rows = peeler.choose_rows(alloc)?;

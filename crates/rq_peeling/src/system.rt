@@ -1,7 +1,6 @@
 //! The equations of a block as the phases take them, which is the matrix A of RFC 6330 (section
 //! 5.4.2.1).
-ghost use Rattle.std.specs.Prelude.{◌≡◌, ℕ, ◌+◌, ◌^◌, ◌<◌, ◌≤◌, length, IfOk, IfErr};
-ghost use Rattle.rq_bytes.specs.declared.error.Error.TheVariants.{OutOfMemory};
+ghost use Rattle.std.specs.Prelude.{◌≡◌, ℕ, ◌+◌, ◌^◌, ◌<◌, ◌≤◌, length, IfOk};
 ghost use Rattle.rq_parts.specs.DenseOctetMatrix.{HasOctets};
 ghost use Rattle.rq_peeling.specs.SystemRows.{AreOctetRows, AreRowsOfBits};
 ghost use Rattle.rq_peeling.specs.ColumnRows.{ListsColumns};
@@ -9,10 +8,9 @@ ghost use Rattle.rq_peeling.specs.RowDegrees.{CountsBefore};
 
 use crate::column_rows::ColumnRows;
 use crate::ones::RowOnes;
-use rq_bytes::error::Error;
 use rq_matrix::matrix::BinaryMatrix;
 use rq_parts::octet_matrix::DenseOctetMatrix;
-use std::alloc::Global;
+use std::alloc::{AllocError, Global};
 
 /// The equations of a block, row by row: the ones of rows of bits, but octets in the HDPC rows, which
 /// have the places from `first_hdpc` on. The ones are listed column by column too. The first
@@ -52,14 +50,13 @@ impl System {
         hdpc: DenseOctetMatrix,
         first_hdpc: usize,
         lt_columns: usize,
-    ) -> Result<System, Error>
+    ) -> Result<System, AllocError>
         requires lt_columns { lt_columns ≡ (T.content bits.now).boundary }
         requires width { hdpc.width ≡ (T.content bits.now).width }
         requires few_hdpc { length hdpc.rows ≤ (T.content bits.now).width }
         requires within { first_hdpc + length hdpc.rows ≤ (T.content bits.now).height }
         requires zeros { (i k : ℕ) → i < length hdpc.rows → k < (T.content bits.now).width → (T.content bits.now).bit (first_hdpc + i) k ≡ 0 }
-        ensures system { IfOk result (IsSystemOf (T.content bits.now) hdpc first_hdpc) }
-        ensures memory { IfErr result (λ e. e ≡ OutOfMemory) }
+        ensures { IfOk result (IsSystemOf (T.content bits.now) hdpc first_hdpc) }
     {
         let width = hdpc.width();
         let (ones, degrees) = RowOnes::of_matrix(alloc, bits, lt_columns)?;

@@ -1,21 +1,20 @@
 //! `OwnOctets`: one buffer for all rows of the matrix U (RFC 6330, section 5.4.2.2) that are
 //! octets, and the place of each row in it.
-ghost use Rattle.std.specs.Prelude.{◌≡◌, ◌≢◌, ◌*◌, ◌%◌, ◌+◌, ◌^◌, ◌<◌, ◌≤◌, ◌++◌, ◌∷◌, [], true, false, None, All, length, replicate, slice_index_or, slice_set, IfOk, OnOk, IfErr, OnErr};
+ghost use Rattle.std.specs.Prelude.{◌≡◌, ◌≢◌, ◌*◌, ◌%◌, ◌+◌, ◌^◌, ◌<◌, ◌≤◌, ◌++◌, ◌∷◌, [], true, false, None, All, length, replicate, slice_index_or, slice_set, IfOk, OnOk, OnErr};
 ghost use Rattle.rq_algebra.specs.Systems.{at};
 ghost use Rattle.rq_bytes.specs.BinaryOctetVec.{octets_of_bits};
-ghost use Rattle.rq_bytes.specs.declared.error.Error.TheVariants.{OutOfMemory};
 ghost use Rattle.rq_parts.specs.DenseOctetMatrix.{IsOctetRow, row_at, with_row};
 ghost use Rattle.rq_elimination.specs.InactiveEntries.{place_before, entry_row, with_column_octets};
 ghost use Rattle.rq_standard.specs.Rows.{row_sum, row_multiple};
 
-use rq_bytes::error::Error;
 use rq_bytes::octet::Octet;
 use rq_bytes::octets::{add_bit_multiples, are_octets};
 use rq_bytes::row_multiples::{add_row_multiple, multiply_row};
 use rq_bytes::symbol_slab::SymbolSlab;
 use rq_parts::bit_rows::BitRows;
+use rq_parts::memory::memory_alone;
 use rq_parts::octet_matrix::DenseOctetMatrix;
-use std::alloc::Global;
+use std::alloc::{AllocError, Global};
 use std::marker::Model;
 
 // For how many rows room is made with the first. The standard's tables have no more HDPC rows; where
@@ -45,12 +44,11 @@ impl Model for OwnOctets {
 
 impl OwnOctets {
     /// `height` rows that have none, and that each get `width` of them where they get some.
-    pub(super) fn new(alloc: Global, height: usize, width: usize) -> Result<OwnOctets, Error>
+    pub(super) fn new(alloc: Global, height: usize, width: usize) -> Result<OwnOctets, AllocError>
         requires few { height < 2 ^ 31 }
         requires narrow { width < 2 ^ 17 }
         requires whole { width % 32 ≡ 0 }
-        ensures none { IfOk result (λ own. own ≡ record { width = width; rows = replicate height [] }) }
-        ensures err { IfErr result (λ e. e ≡ OutOfMemory) }
+        ensures { IfOk result (λ own. own ≡ record { width = width; rows = replicate height [] }) }
     {
         Ok(OwnOctets {
             rows: SymbolSlab::from_bytes(Vec::new(alloc), 0, width),
@@ -91,13 +89,12 @@ impl OwnOctets {
 
     /// Makes octets of a row's bits, where it has none.
     #[inline(always)]
-    pub(super) fn unpack_row(&mut self, row: usize, bits: &BitRows) -> Result<(), Error>
+    pub(super) fn unpack_row(&mut self, row: usize, bits: &BitRows) -> Result<(), AllocError>
         requires row { row < length self.old.rows }
         requires bits { row < length bits.now }
         requires room { self.old.width ≤ 64 * length (slice_index_or bits.now row []) }
         ensures row { OnOk result (self.new ≡ with_row self.old row (entry_row self.old.width (slice_index_or bits.now row []) (row_at self.old row))) }
         ensures refused { OnErr result (self.new ≡ self.old) }
-        ensures err { IfErr result (λ e. e ≡ OutOfMemory) }
     {
         if self.places[row] == 0 {
             push_bits(&mut self.rows, bits.row(row))?;
@@ -217,7 +214,7 @@ fn copy_columns(own: &mut [u8], octets: &DenseOctetMatrix, from: usize, columns:
 }
 
 // Appends a row of bits as octets.
-fn push_bits(rows: &mut SymbolSlab, bits: &[u64]) -> Result<(), Error>
+fn push_bits(rows: &mut SymbolSlab, bits: &[u64]) -> Result<(), AllocError>
     requires no_order { rows.old.order ≡ None }
     requires few { length rows.old.values < 2 ^ 31 }
     requires room { rows.old.symbol_size ≤ 64 * length bits.now }
@@ -225,13 +222,12 @@ fn push_bits(rows: &mut SymbolSlab, bits: &[u64]) -> Result<(), Error>
     requires whole { rows.old.symbol_size % 32 ≡ 0 }
     ensures ok { OnOk result (rows.new ≡ record rows.old { values = rows.old.values ++ octets_of_bits rows.old.symbol_size bits.now ∷ [] }) }
     ensures refused { OnErr result (rows.new ≡ rows.old) }
-    ensures err { IfErr result (λ e. e ≡ OutOfMemory) }
 {
     let place = rows.len();
     if place == 0 {
-        rows.reserve(FIRST_ROWS)?;
+        rows.reserve(FIRST_ROWS).map_err(memory_alone)?;
     }
-    rows.push_zeros()?;
+    rows.push_zeros().map_err(memory_alone)?;
     add_bit_multiples(rows.get_mut(place), bits, 1);
     Ok(())
 }

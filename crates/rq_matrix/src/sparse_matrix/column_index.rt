@@ -1,29 +1,29 @@
 //! The stored rows that have a one in each stored column.
-ghost use Rattle.std.specs.Prelude.{◌≡◌, ◌^◌, ◌<◌, [], All, length, slice_index_or, IfOk, IfErr, OnOk, OnErr};
+ghost use Rattle.std.specs.Prelude.{◌≡◌, ◌^◌, ◌<◌, [], All, length, slice_index_or, IfOk, OnOk, OnErr};
 ghost use Rattle.std.specs.Option.{ForSome};
-ghost use Rattle.rq_bytes.specs.declared.error.Error.TheVariants.{OutOfMemory};
 ghost use Rattle.rq_matrix.specs.SparseRows.{IsSparseRow, IsColumnIndex, AddsRowPairs, places_between};
 
-use rq_bytes::error::Error;
 use rq_parts::arraymap::{ImmutableListMap, ImmutableListMapBuilder};
+use rq_parts::memory::memory_alone;
 use rq_parts::sparse_vec::SparseBinaryVec;
+use std::alloc::AllocError;
 
 /// For each column below `columns` the rows that have a one there.
 pub(super) fn column_index(
     rows: &Vec<SparseBinaryVec>,
     columns: usize,
-) -> Result<ImmutableListMap, Error>
+) -> Result<ImmutableListMap, AllocError>
     requires columns { columns < 65536 }
     requires count { length rows.now.items < 2 ^ 31 }
     requires rows { All (IsSparseRow columns) rows.now.items }
-    ensures ok { IfOk result (IsColumnIndex columns rows.now.items) }
-    ensures err { IfErr result (λ e. e ≡ OutOfMemory) }
+    ensures { IfOk result (IsColumnIndex columns rows.now.items) }
 {
     let mut builder = ImmutableListMapBuilder::new(*rows.allocator(), columns);
     for row in 0..rows.len() {
         add_ones(&mut builder, &rows[row], row as u32)?;
     }
-    builder.build()
+    let index = builder.build().map_err(memory_alone)?;
+    Ok(index)
 }
 
 // Adds a row at each column in which it has a one.
@@ -31,15 +31,14 @@ fn add_ones(
     builder: &mut ImmutableListMapBuilder,
     ones: &SparseBinaryVec,
     row: u32,
-) -> Result<(), Error>
+) -> Result<(), AllocError>
     requires columns { All (λ one. one < builder.old.keys) ones.now }
     requires keys { builder.old.keys < 65536 }
-    ensures ok { OnOk result (AddsRowPairs builder.old row ones.now builder.new) }
-    ensures err { IfErr result (λ e. e ≡ OutOfMemory) }
+    ensures { OnOk result (AddsRowPairs builder.old row ones.now builder.new) }
 {
     for i in 0..ones.len() {
         let (column, _) = ones.get_by_raw_index(i);
-        builder.add(column as u16, row)?;
+        builder.add(column as u16, row).map_err(memory_alone)?;
     }
     Ok(())
 }
@@ -63,11 +62,10 @@ pub(super) fn places_between(
     start: usize,
     end: usize,
     out: &mut Vec<u32>,
-) -> Result<(), Error>
+) -> Result<(), AllocError>
     requires { All (λ row. row < length places.now) rows.now }
     ensures ok { OnOk result (out.new.items ≡ places_between rows.now places.now start end) }
     ensures refused { OnErr result (out.new.items ≡ out.old.items) }
-    ensures err { IfErr result (λ e. e ≡ OutOfMemory) }
 {
     out.reserve(rows.len())?;
     out.clear();

@@ -1,29 +1,31 @@
 //! The stored rows of a sparse matrix.
-ghost use Rattle.std.specs.Prelude.{◌≡◌, ◌≢◌, ◌<◌, [], All, length, replicate, slice_index_or, slice_set, IfOk, IfErr, OnOk, OnErr};
+ghost use Rattle.std.specs.Prelude.{◌≡◌, ◌≢◌, ◌<◌, [], All, length, replicate, slice_index_or, slice_set, IfOk, OnOk, OnErr};
 ghost use Rattle.std.specs.List.Sorted.{IsStrictlyIncreasing};
-ghost use Rattle.rq_bytes.specs.declared.error.Error.TheVariants.{OutOfMemory};
 ghost use Rattle.rq_parts.specs.BitPairs.{sparse_pairs};
 ghost use Rattle.rq_parts.specs.SparseBinaryVec.{IsListedSum};
 
-use rq_bytes::error::Error;
 use rq_bytes::util::get_both_indices;
+use rq_parts::memory::memory_alone;
 use rq_parts::sparse_vec::{INLINE_ONES, SparseBinaryVec};
-use std::alloc::Global;
+use std::alloc::{AllocError, Global};
 
 /// `count` rows without ones, each with room for the ones that most rows get.
-pub(super) fn empty_rows(alloc: Global, count: usize) -> Result<Vec<SparseBinaryVec>, Error>
-    ensures ok { IfOk result (λ rows. rows.items ≡ replicate count []) }
-    ensures err { IfErr result (λ e. e ≡ OutOfMemory) }
+pub(super) fn empty_rows(alloc: Global, count: usize) -> Result<Vec<SparseBinaryVec>, AllocError>
+    ensures { IfOk result (λ rows. rows.items ≡ replicate count []) }
 {
     let mut rows = Vec::with_capacity(alloc, count)?;
     for _ in 0..count {
-        rows.push(SparseBinaryVec::with_capacity(alloc, INLINE_ONES)?)?;
+        rows.push(SparseBinaryVec::with_capacity(alloc, INLINE_ONES).map_err(memory_alone)?)?;
     }
     Ok(rows)
 }
 
 /// Adds a row to another one. A refusal leaves the rows as they were.
-pub(super) fn add_row(rows: &mut [SparseBinaryVec], dest: usize, src: usize) -> Result<(), Error>
+pub(super) fn add_row(
+    rows: &mut [SparseBinaryVec],
+    dest: usize,
+    src: usize,
+) -> Result<(), AllocError>
     requires two { dest ≢ src }
     requires dest { dest < length rows.old }
     requires src { src < length rows.old }
@@ -31,10 +33,9 @@ pub(super) fn add_row(rows: &mut [SparseBinaryVec], dest: usize, src: usize) -> 
     ensures sum { OnOk result (IsListedSum (slice_index_or rows.old dest []) (slice_index_or rows.old src []) (slice_index_or rows.new dest [])) }
     ensures increasing { IsStrictlyIncreasing (slice_index_or rows.new dest []) }
     ensures refused { OnErr result (rows.new ≡ rows.old) }
-    ensures err { IfErr result (λ e. e ≡ OutOfMemory) }
 {
     let (to, from) = get_both_indices(rows, dest, src);
-    to.add_assign(from)?;
+    to.add_assign(from).map_err(memory_alone)?;
     Ok(())
 }
 

@@ -102,20 +102,18 @@ impl Clone for ImmutableListMap {
 }
 
 // The pairs with their keys in ascending order; those of one key stay in their order.
-fn sorted_by_key(mut entries: Vec<(u16, u32)>) -> Result<Vec<(u16, u32)>, Error>
+fn sorted_by_key(mut entries: Vec<(u16, u32)>) -> Result<Vec<(u16, u32)>, AllocError>
     ensures sorted { IfOk result (λ sorted. IsNonDecreasingBy (λ entry. entry.0) sorted.items) }
     ensures stable { IfOk result (λ sorted. IsStableByKey (λ entry. entry.0) nat_cmp entries.items sorted.items) }
-    ensures memory { IfErr result (λ e. e ≡ OutOfMemory) }
 {
     entries.sort_by_key(|entry| entry.0)?;
     Ok(entries)
 }
 
 // Where the pairs of each key start, and then where those of the last key end.
-fn starts_of(entries: &Vec<(u16, u32)>, num_keys: usize) -> Result<Vec<usize>, Error>
+fn starts_of(entries: &Vec<(u16, u32)>, num_keys: usize) -> Result<Vec<usize>, AllocError>
     requires { IsNonDecreasingBy (λ entry. entry.0) entries.now.items }
-    ensures starts { IfOk result (λ starts. AreStartsOf entries.now.items num_keys starts.items) }
-    ensures memory { IfErr result (λ e. e ≡ OutOfMemory) }
+    ensures { IfOk result (λ starts. AreStartsOf entries.now.items num_keys starts.items) }
 {
     let mut starts = Vec::new(*entries.allocator());
     for key in 0..num_keys {
@@ -134,9 +132,8 @@ fn start_of(entries: &[(u16, u32)], key: usize) -> usize
 }
 
 // The values of pairs, in the pairs' order.
-fn values_in_order(entries: &Vec<(u16, u32)>) -> Result<Vec<u32>, Error>
-    ensures values { IfOk result (λ values. values.items ≡ map (λ entry. entry.1) entries.now.items) }
-    ensures memory { IfErr result (λ e. e ≡ OutOfMemory) }
+fn values_in_order(entries: &Vec<(u16, u32)>) -> Result<Vec<u32>, AllocError>
+    ensures { IfOk result (λ values. values.items ≡ map (λ entry. entry.1) entries.now.items) }
 {
     let values = entries
         .iter()

@@ -4,8 +4,8 @@ use Rattle.rq_bytes.specs.BinaryOctetVec.{packed_bit, padding_of}
 use Rattle.rq_bytes.proofs.PackedRows.{get_or-packed_bits}
 use Rattle.rq_matrix.proofs.bit_row.part_of.Goals as goal
 
-pub returns-clause-ok : goal.returns-clause-ok
-returns-clause-ok c =
+pub returns : goal.returns
+returns c =
     let len = c.args.end - c.args.start in
     let part = c.loop-k.part in
     record {

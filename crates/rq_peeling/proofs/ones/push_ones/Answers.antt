@@ -3,6 +3,7 @@ use Rattle.std.proofs.Common.{◌≡◌, ℕ, List, [], ◌<◌, ◌≤◌, ◌+
 use Rattle.std.proofs.lemmas.List.{length-append}
 use Rattle.std.proofs.lemmas.List.Elements.{All-weaker}
 use Rattle.rq_standard.specs.BitTableSteps.{AreOnesOf, ArePlacesOfOnes}
+use Rattle.rq_parts.proofs.MemoryAlone.{on_ok_past}
 use Rattle.rq_peeling.proofs.MatrixRows.{few_columns}
 use Rattle.rq_peeling.proofs.RowLists.{adds_counted, adds_ones, places_among, places_of_pairs, places_together}
 use Rattle.rq_peeling.proofs.ones.push_ones.Goals as goal
@@ -19,9 +20,9 @@ returns-clause-ones g c =
     let v = c.loop-column.invariant in
     let taken = c.loop-column.yielded in
     let first = first_places bit c.args.lt_columns taken _ c.in-None.ensures.steps.0 v.whole in
-    let dense = c.in_ok-query_non_zero_columns_into.ensures.ok in
+    let dense = on_ok_past c.query_non_zero_columns_into.result c.in_ok-map_err.ensures.variant c.query_non_zero_columns_into.ensures.ok in
     let places = places_together bit 0 c.args.lt_columns content.width (places_among taken) c.query_non_zero_columns_into.new.out.items (omega arith) (omega (arith, c.requires.lt_columns, table.within)) first dense in
-    adds_ones c.args.columns.now.items (places_among taken) c.query_non_zero_columns_into.new.out.items c.as_slice.result.now c.loop-column.columns.items c.push_columns.new.columns.items v.columns c.in_ok-push_columns.ensures.pushed c.as_slice.ensures.value bit content.width places
+    adds_ones c.args.columns.now.items (places_among taken) c.query_non_zero_columns_into.new.out.items c.as_slice.result.now c.loop-column.columns.items c.push_columns.new.columns.items v.columns c.in_ok-push_columns.ensures c.as_slice.ensures.value bit content.width places
 
 pub overflow_cast-result : goal.overflow_cast-result
 overflow_cast-result g c =
@@ -44,13 +45,13 @@ returns-clause-counted g c =
     let bit = content.bit c.args.row in
     let v = c.loop-column.invariant in
     let low = first_places bit c.args.lt_columns c.loop-column.yielded _ c.in-None.ensures.steps.0 v.whole in
-    let dense = c.in_ok-query_non_zero_columns_into.ensures.ok in
-    let counted = adds_counted c.args.columns.now.items (places_among c.loop-column.yielded) c.query_non_zero_columns_into.new.out.items c.as_slice.result.now c.loop-column.columns.items c.push_columns.new.columns.items v.columns c.in_ok-push_columns.ensures.pushed c.as_slice.ensures.value bit c.args.lt_columns content.width low dense in
+    let dense = on_ok_past c.query_non_zero_columns_into.result c.in_ok-map_err.ensures.variant c.query_non_zero_columns_into.ensures.ok in
+    let counted = adds_counted c.args.columns.now.items (places_among c.loop-column.yielded) c.query_non_zero_columns_into.new.out.items c.as_slice.result.now c.loop-column.columns.items c.push_columns.new.columns.items v.columns c.in_ok-push_columns.ensures c.as_slice.ensures.value bit c.args.lt_columns content.width low dense in
     omega (arith, counted, c.args.columns.now.ok.0, c.loop-column.columns.ok.0)
 
 pub push_columns-requires : goal.push_columns-requires
 push_columns-requires g c =
     let table = g.met.T.BinaryMatrix.is_table c.args.bits.now in
     let content = g.T.BinaryMatrix.content c.args.bits.now in
-    let dense = c.in_ok-query_non_zero_columns_into.ensures.ok in
+    let dense = on_ok_past c.query_non_zero_columns_into.result c.in_ok-map_err.ensures.variant c.query_non_zero_columns_into.ensures.ok in
     rw c.as_slice.ensures.value (All-weaker (λ k. (c.args.lt_columns ≤ k) × (k < content.width)) (λ k. k < 65536) (λ k b. let below = b.1 in omega (arith, below, table.width_fits)) c.query_non_zero_columns_into.new.out.items dense.within)

@@ -10,12 +10,12 @@ pub invariant_of-result : goal.invariant_of-result
 invariant_of-result c =
     let own = c.in_ok-new.field-0 in
     subst (λ (bits : List (List ℕ)). AreEntries own.width bits own.rows) (sym c.in_ok-zeros.ensures)
-    (rw c.in_ok-new.ensures.none (zeros_are c.args.width c.args.height c.requires.narrow (replicate c.args.height []) refl))
+    (rw c.in_ok-new.ensures (zeros_are c.args.width c.args.height c.requires.narrow (replicate c.args.height []) refl))
 
-pub returns-clause-zeros : goal.returns-clause-zeros
-returns-clause-zeros c =
+pub returns : goal.returns
+returns c =
     let own = c.in_ok-new.field-0 in
     let size = word_count c.args.width in
     ap (λ (bits : List (List ℕ)). octet_table_of own.width bits own.rows) c.in_ok-zeros.ensures
-    ∙ ap (λ (t : OctetTable). octet_table_of t.width (replicate c.args.height (replicate size 0)) t.rows) c.in_ok-new.ensures.none
+    ∙ ap (λ (t : OctetTable). octet_table_of t.width (replicate c.args.height (replicate size 0)) t.rows) c.in_ok-new.ensures
     ∙ ap (λ (rows : List (List ℕ)). record { width = c.args.width; rows = rows }) (zero_rows c.args.width c.args.height size (replicate c.args.height []) refl)

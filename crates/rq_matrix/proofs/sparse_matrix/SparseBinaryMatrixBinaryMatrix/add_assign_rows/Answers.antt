@@ -4,7 +4,6 @@ use Rattle.std.specs.List.Sorted.{IsStrictlyIncreasing}
 use Rattle.std.specs.Option.{is_some}
 use Rattle.std.specs.Vec.{with_items}
 use Rattle.std.proofs.lemmas.List.{with_items_is}
-use Rattle.rq_bytes.specs.declared.error.Error.{Error}
 use Rattle.rq_matrix.proofs.OrderLaws.{order_apart}
 use Rattle.rq_standard.specs.BitTableSteps.{AddsRowFrom}
 use Rattle.rq_parts.specs.SparseBinaryVec.{IsListedSum}
@@ -25,7 +24,7 @@ add_row-requires-clause-two c =
     λ same. apart (sym c.stored_row-dest.ensures.value ∙ same ∙ c.stored_row-src.ensures.value)
 
 -- a matrix in which a row was added to another one, or was to be
-module _ (m : SparseBinaryMatrix) (given new : List (List ℕ)) (dest src : ℕ) (result : Result (Unit {0}) Error) (value : given ≡ m.rows.items) (in_dest : dest < length m.rows.items) (in_src : src < length m.rows.items) (others : new ≡ set given dest (get_or new dest []))
+module _ {E : Type 0} (m : SparseBinaryMatrix) (given new : List (List ℕ)) (dest src : ℕ) (result : Result (Unit {0}) E) (value : given ≡ m.rows.items) (in_dest : dest < length m.rows.items) (in_src : src < length m.rows.items) (others : new ≡ set given dest (get_or new dest []))
     (sum : OnOk result (IsListedSum (get_or given dest []) (get_or given src []) (get_or new dest []))) (refused : OnErr result (new ≡ given)) (rises : IsStrictlyIncreasing (get_or new dest [])) (count : length new ≡ m.rows.len) (off : is_some m.index ≡ false)
   where
     with_sum : (tail : Tail) → tail.rows ≡ m.tail.rows → tail.columns ≡ m.tail.columns → IsMatrixOf m.height m.width m.boundary (with_items m.rows new).items tail m.row_order m.column_order m.index

@@ -14,7 +14,7 @@ use Rattle.rq_matrix.proofs.sparse_matrix.SparseBinaryMatrixBinaryMatrix.new.Goa
 
 module _ (c : In_ok-new-3) where
   rows : length c.in_ok-empty_rows.field-0.items ≡ c.args.height
-  rows = ap length c.in_ok-empty_rows.ensures.ok ∙ length-replicate c.args.height []
+  rows = ap length c.in_ok-empty_rows.ensures ∙ length-replicate c.args.height []
 
   row_order : c.in_ok-new-2.field-0 ≡ first_order c.args.height
   row_order = first_made c.args.height c.in_ok-collect.field-0.items c.in_ok-new-2.field-0 (c.in_ok-collect.ensures.ran.2.0 ∙ first_numbers c.args.height c.in_ok-collect.ensures.ran.0 c.in_ok-collect.ensures.ran.1) c.in_ok-new-2.ensures
@@ -40,7 +40,7 @@ invariant_of-result c =
       ordered = ordered c ∙ sym (rows c);
       rows_in_order = subst IsPlacedOrder (sym (row_order c)) (first_is_order c.args.height);
       columns_in_order = subst IsPlacedOrder (sym (column_order c)) (first_is_order c.args.width);
-      sparse = subst (All (IsSparseRow n)) (sym c.in_ok-empty_rows.ensures.ok) (empty_rows_are n c.args.height);
+      sparse = subst (All (IsSparseRow n)) (sym c.in_ok-empty_rows.ensures) (empty_rows_are n c.args.height);
       tail_rows = c.in_ok-new.ensures.rows ∙ sym (rows c);
       tail_columns = omega (arith, c.in_ok-new.ensures.columns, c.requires.dense);
       index_is = λ lists is. cc;
@@ -62,7 +62,7 @@ returns-clause-ok c =
           elim (cases_lt k boundary) [
             | inl before ↦
                 bit-before c.args.width boundary items row_order column_order tail i k before
-                ∙ ap (λ (l : List (List ℕ)). listed_bit (get_or l (get_or row_order.order i 0) []) (get_or column_order.order k 0)) c.in_ok-empty_rows.ensures.ok
+                ∙ ap (λ (l : List (List ℕ)). listed_bit (get_or l (get_or row_order.order i 0) []) (get_or column_order.order k 0)) c.in_ok-empty_rows.ensures
                 ∙ no_ones c.args.height (get_or row_order.order i 0) (get_or column_order.order k 0)
             | inr from ↦ bit-from c.args.width boundary items row_order column_order tail i k from ∙ c.in_ok-new.ensures.zeros (get_or row_order.order i 0) (c.args.width - 1 - k)
           ];

@@ -2,11 +2,12 @@
 use Rattle.std.proofs.Common.{◌≡◌, ◌<◌, ℕ, List, [], All, length, get_or, ap, sym, subst, ◌∙◌, arith}
 use Rattle.std.proofs.lemmas.List.{get_or_read}
 use Rattle.rq_standard.specs.BitTableSteps.{ArePlacesOfOnes}
-use Rattle.rq_parts.specs.ImmutableListMap.{Pairs, values_of}
+use Rattle.rq_parts.specs.ImmutableListMap.{Pairs, lists_of, values_of}
 use Rattle.rq_parts.specs.SparseBinaryVec.{listed_bit}
+use Rattle.rq_parts.proofs.MemoryAlone.{ok_past}
 use Rattle.rq_matrix.specs.SparseTables.{stored-small}
 use Rattle.rq_matrix.proofs.FoundOnes.{places-none}
-use Rattle.rq_matrix.proofs.ColumnIndexLaws.{places-add, index-answered}
+use Rattle.rq_matrix.proofs.ColumnIndexLaws.{places-add, index-built}
 use Rattle.rq_matrix.proofs.sparse_matrix.column_index.column_index.Goals as goal
 
 pub loop-row-init : goal.loop-row-init
@@ -20,7 +21,7 @@ loop-row-preserved c =
     let rows = c.args.rows.now.items in
     let row = c.loop-row.row in
     let kept = c.loop-row.invariant in
-    let adds = c.in_ok-add_ones.ensures.ok in
+    let adds = c.in_ok-add_ones.ensures in
     let within : row < length rows = omega (arith, c.args.rows.now.ok.0, c.len-row-end.ensures) in
     let read = get_or_read rows row c.index.result.now within c.index.ensures [] in
     record {
@@ -37,9 +38,12 @@ add_ones-requires-clause-columns c =
     let below : All (λ one. one < c.args.columns) c.index.result.now = subst (All (λ one. one < c.args.columns)) (sym read) (c.requires.rows c.loop-row.row [] within).below in
     λ k d l. omega (arith, below k d l, c.loop-row.invariant.keys)
 
-pub returns-clause-ok : goal.returns-clause-ok
-returns-clause-ok c =
+pub returns : goal.returns
+returns c =
     let rows = c.args.rows.now.items in
     let all : c.loop-row.row ≡ length rows = omega (arith, c.args.rows.now.ok.0, c.len-row-end.ensures) in
-    index-answered c.args.columns rows c.loop-row.builder c.build.result c.loop-row.invariant.keys c.build.ensures
+    let answered = ok_past _ _ c.build.result c.in_ok-index.ensures.variant c.in_ok-index.ensures.cases in
+    let answer = rw answered at c.build.ensures in
+    let is : c.in_ok-index.index ≡ lists_of c.loop-row.builder = cc in
+    index-built c.args.columns rows c.loop-row.builder c.in_ok-index.index c.loop-row.invariant.keys is
     (λ column _. subst (λ n. ArePlacesOfOnes (λ row. listed_bit (get_or rows row []) column) 0 n (values_of c.loop-row.builder.pairs column)) all (c.loop-row.invariant.each column))

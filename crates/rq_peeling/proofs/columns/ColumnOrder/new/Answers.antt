@@ -16,5 +16,5 @@ module _ (c : In_ok-collect-2) where
 pub invariant_of-result : goal.invariant_of-result
 invariant_of-result c = rw (order c, places c) (first_state c.args.width c.args.lt_columns c.requires.lt_columns)
 
-pub returns-clause-columns : goal.returns-clause-columns
-returns-clause-columns c = rw (order c, places c) refl
+pub returns : goal.returns
+returns c = rw (order c, places c) refl

@@ -6,9 +6,9 @@ use Rattle.rq_parts.proofs.arraymap.lists.ImmutableListMapBuilder.build.Goals as
 
 pub invariant_of-result : goal.invariant_of-result
 invariant_of-result c =
-    subst (AreStarts c.in_ok-starts.starts.items) (sym (ap length c.in_ok-values.ensures.values ∙ length-map c.in_ok-entries.entries.items (λ (pair : ℕ × ℕ). pair.1)))
-    (starts_hold c.in_ok-starts.ensures.starts)
+    subst (AreStarts c.in_ok-starts.starts.items) (sym (ap length c.in_ok-values.ensures ∙ length-map c.in_ok-entries.entries.items (λ (pair : ℕ × ℕ). pair.1)))
+    (starts_hold c.in_ok-starts.ensures)
 
 pub returns : goal.returns
 returns c =
-    ap Ok (ap lists_of (sym c.self.view_is) ∙ lists_stay c.self.inside.entries.items c.in_ok-entries.ensures.stable c.in_ok-values.ensures.values c.in_ok-starts.ensures.starts)
+    ap Ok (ap lists_of (sym c.self.view_is) ∙ lists_stay c.self.inside.entries.items c.in_ok-entries.ensures.stable c.in_ok-values.ensures c.in_ok-starts.ensures)
