@@ -110,10 +110,13 @@ module _ (height first count : ℕ) (within : first + count ≤ height) where
   turns_apart q t l m e = grind (arith, e, l, m, within)
 
   pub turn_of : (r : ℕ) → r < height → (q : ℕ) × (q < height) × (of_turn q ≡ r)
-  turn_of r l = all_places height of_turn (record { below = turn_below; apart = λ i j m n e. elim (cases_lt i j) [
-    | inl before ↦ absurd (turns_apart i j before n e)
-    | inr from ↦ elim (cases_eq i j) [ inl same ↦ same | inr d ↦ absurd (turns_apart j i (omega arith) m (sym e)) ]
-  ] }) r l
+  turn_of r l = all_places height of_turn (record {
+    below = turn_below;
+    apart = λ i j m n e. elim (cases_lt i j) [
+      | inl before ↦ absurd (turns_apart i j before n e)
+      | inr from ↦ elim (cases_eq i j) [ inl same ↦ same | inr d ↦ absurd (turns_apart j i (omega arith) m (sym e)) ]
+    ];
+  }) r l
 
   -- at the end each row is a marked one, or is listed
   pub lists_rows : (rows left : List ℕ) (marks : List Bool) → MarksRows rows marks → ListsTurns height (row_in_turn height first count) marks height left → ListsRows height rows left

@@ -31,7 +31,7 @@ use rq_peeling::system::System;
 use rq_tables::systematic_constants::{CheckedRow, SystematicTable};
 pub use solved::Solved;
 use solved::solve_system;
-use std::alloc::Global;
+use std::alloc::{AllocError, Global};
 
 /// Solves the equations of a block for its intermediate symbols (RFC 6330, section 5.4.2.1), once.
 /// Contracts see the equations, and the symbols until it has run.
@@ -213,9 +213,8 @@ impl<T: BinaryMatrix> IntermediateSymbolDecoder<T> {
     /// were handed in aren't wanted. `None` where the equations don't determine the symbols. The
     /// solver lets its symbols go at once, and its matrix once the ones of the rows are listed. Not in
     /// the Rust crate.
-    pub fn into_operations(self) -> Result<Option<RecordedOperations>, Error>
+    pub fn into_operations(self) -> Result<Option<RecordedOperations>, AllocError>
         ensures found { IfOk result (FindsOperations (solver_state self)) }
-        ensures memory { IfErr result (λ e. e ≡ OutOfMemory) }
     {
         let alloc = self.alloc;
         let found = run_phases(alloc, self.into_system()?)?;
@@ -225,9 +224,8 @@ impl<T: BinaryMatrix> IntermediateSymbolDecoder<T> {
     /// The operations as [`into_operations`](Self::into_operations) finds them, and a column that shows
     /// it where the equations don't determine the symbols. Want of memory for the column alone is no
     /// error. Not in the Rust crate.
-    pub fn solve(self) -> Result<Solved, Error>
+    pub fn solve(self) -> Result<Solved, AllocError>
         ensures solved { IfOk result (SolvesOrShows (solver_state self)) }
-        ensures memory { IfErr result (λ e. e ≡ OutOfMemory) }
     {
         let alloc = self.alloc;
         solve_system(alloc, self.into_system()?)
@@ -235,9 +233,8 @@ impl<T: BinaryMatrix> IntermediateSymbolDecoder<T> {
 
     // The equations as the phases take them. The symbols are let go at once, and the matrix once the
     // ones of the rows are listed.
-    fn into_system(self) -> Result<System, Error>
-        ensures system { IfOk result (IsSystemOf (T.content self.matrix) self.hdpc self.first_hdpc) }
-        ensures memory { IfErr result (λ e. e ≡ OutOfMemory) }
+    fn into_system(self) -> Result<System, AllocError>
+        ensures { IfOk result (IsSystemOf (T.content self.matrix) self.hdpc self.first_hdpc) }
     {
         let IntermediateSymbolDecoder {
             alloc,
@@ -253,9 +250,8 @@ impl<T: BinaryMatrix> IntermediateSymbolDecoder<T> {
     }
 
     // The equations as the phases take them, with a copy of the HDPC rows, so that matrix and rows stay.
-    fn to_system(&self) -> Result<System, Error>
-        ensures system { IfOk result (IsSystemOf (T.content self.now.matrix) self.now.hdpc self.now.first_hdpc) }
-        ensures memory { IfErr result (λ e. e ≡ OutOfMemory) }
+    fn to_system(&self) -> Result<System, AllocError>
+        ensures { IfOk result (IsSystemOf (T.content self.now.matrix) self.now.hdpc self.now.first_hdpc) }
     {
         let hdpc = self.hdpc.clone()?;
         System::of_matrix(
@@ -268,11 +264,10 @@ impl<T: BinaryMatrix> IntermediateSymbolDecoder<T> {
     }
 
     // Runs the phases, and leaves matrix and rows.
-    fn solve_equations(&self) -> Result<PhaseOutcome, Error>
+    fn solve_equations(&self) -> Result<PhaseOutcome, AllocError>
         ensures found { IfOk result (λ found. SolvesRows (solver_state self.now).height (solver_state self.now).width (solver_state self.now).rows (in_row_order found)) }
         ensures phases { IfOk result (RunsOverEquations (solver_state self.now)) }
         ensures few { IfOk result (λ found. additions (recorded_in found) ≤ 2 * (solver_state self.now).width * (solver_state self.now).height) }
-        ensures memory { IfErr result (λ e. e ≡ OutOfMemory) }
     {
         run_phases(self.alloc, self.to_system()?)
     }

@@ -2,8 +2,7 @@
 //! cleared in all rows, in those of bits and in the HDPC rows. Its state is `RecordedRows`
 //! (of `rq_elimination`), with `HdpcRows` beside it for the HDPC rows, and in the end it makes
 //! `Peeled`, and lists the rows that are left.
-ghost use Rattle.std.specs.Prelude.{◌≡◌, ◌-◌, ◌/◌, length, IfOk, IfErr};
-ghost use Rattle.rq_bytes.specs.declared.error.Error.TheVariants.{OutOfMemory};
+ghost use Rattle.std.specs.Prelude.{◌≡◌, ◌-◌, ◌/◌, length, IfOk};
 ghost use Rattle.rq_peeling.specs.Peeling.{IsPeeled};
 ghost use Rattle.rq_solver.specs.FirstPhase.{AddsFirst, ClearsPivots, TakesPivotsAlone};
 ghost use Rattle.rq_solver.specs.Peeled.{IsUnderWay};
@@ -20,12 +19,11 @@ use clear_bits::clear_rows;
 use clear_hdpc::clear_octets;
 use inactive::fill_inactive;
 use left_rows::left_rows;
-use rq_bytes::error::Error;
 use rq_elimination::recorded::RecordedRows;
 use rq_peeling::ones::RowOnes;
 use rq_peeling::peeling::Peeling;
 use rq_peeling::system::System;
-use std::alloc::Global;
+use std::alloc::{AllocError, Global};
 
 /// Clears the columns that have the pivots of a peeling in the rows of a system: what no later phase
 /// changes, the rows that are left for them, and all rows with their entries in the inactive columns.
@@ -33,7 +31,7 @@ pub(super) fn first_phase(
     alloc: Global,
     system: System,
     peeling: Peeling,
-) -> Result<(Peeled, Vec<usize>, RecordedRows), Error>
+) -> Result<(Peeled, Vec<usize>, RecordedRows), AllocError>
     requires { IsPeeled system.width system.ones peeling }
     ensures peeling { IfOk result (λ made. made.0.peeling ≡ peeling) }
     ensures ones { IfOk result (λ made. made.0.ones ≡ system.ones) }
@@ -43,7 +41,6 @@ pub(super) fn first_phase(
     ensures cleared { IfOk result (λ made. ClearsPivots system peeling made.1.items made.2) }
     ensures alone { IfOk result (λ made. TakesPivotsAlone system peeling.rows made.2.operations) }
     ensures few { IfOk result (λ made. AddsFirst system peeling made.2) }
-    ensures err { IfErr result (λ e. e ≡ OutOfMemory) }
 {
     let height = system.ones.height();
     let hdpc_count = system.hdpc.height();
@@ -66,7 +63,7 @@ fn clear_pivots(
     system: System,
     peeling: &Peeling,
     left: &[usize],
-) -> Result<(RowOnes, Vec<usize>, RecordedRows), Error>
+) -> Result<(RowOnes, Vec<usize>, RecordedRows), AllocError>
     requires peeled { IsPeeled system.width system.ones peeling.now }
     requires listed { ListsRows (length system.ones) peeling.now.rows left.now }
     ensures ones { IfOk result (λ answer. answer.0 ≡ system.ones) }
@@ -74,7 +71,6 @@ fn clear_pivots(
     ensures alone { IfOk result (λ answer. TakesPivotsAlone system peeling.now.rows answer.2.operations) }
     ensures taken { IfOk result (λ answer. PivotsHaveTaken system.ones peeling.now answer.1.items answer.2) }
     ensures few { IfOk result (λ answer. AddsFirst system peeling.now answer.2) }
-    ensures err { IfErr result (λ e. e ≡ OutOfMemory) }
 {
     let table = fill_inactive(alloc, &system, peeling)?;
     let System {

@@ -2,9 +2,8 @@
 //! third (`sparsify`); the second, back (`back_substitute`); the fourth (`clear_inactive`) with the
 //! fifth (`redo_additions`). The third and the fifth are done for single rows, and counted as the
 //! fourth's. What the first phase leaves in `Peeled` is lent to the others.
-ghost use Rattle.std.specs.Prelude.{◌≡◌, ℕ, ◌+◌, ◌*◌, ◌<◌, ◌≤◌, ◌++◌, length, map, IfNone, IfOk, OnOk, IfErr};
+ghost use Rattle.std.specs.Prelude.{◌≡◌, ℕ, ◌+◌, ◌*◌, ◌<◌, ◌≤◌, ◌++◌, length, map, IfNone, IfOk, OnOk};
 ghost use Rattle.rq_algebra.specs.Systems.{at};
-ghost use Rattle.rq_bytes.specs.declared.error.Error.TheVariants.{OutOfMemory};
 ghost use Rattle.rq_elimination.specs.OperationCounts.{additions};
 ghost use Rattle.rq_solver.specs.PhaseOutcome.{in_row_order, recorded_in, RunsPhases};
 ghost use Rattle.rq_solver.specs.Peeled.{IsUnderWay};
@@ -17,19 +16,17 @@ use super::fourth_phase::sparsify::sparsify;
 use super::peeled::{Peeled, row_at};
 use super::phase_outcome::PhaseOutcome;
 use super::second_phase::{back_substitute, eliminate};
-use rq_bytes::error::Error;
 use rq_elimination::counts::PhaseEnds;
 use rq_elimination::recorded::RecordedRows;
 use rq_peeling::peeling::{Peeling, peel};
 use rq_peeling::system::System;
-use std::alloc::Global;
+use std::alloc::{AllocError, Global};
 
 /// Looks for the operations that solve a system.
-pub(super) fn run_phases(alloc: Global, system: System) -> Result<PhaseOutcome, Error>
+pub(super) fn run_phases(alloc: Global, system: System) -> Result<PhaseOutcome, AllocError>
     ensures found { IfOk result (λ outcome. SolvesSystem system (in_row_order outcome)) }
     ensures phases { IfOk result (RunsPhases system) }
     ensures few { IfOk result (λ outcome. additions (recorded_in outcome) ≤ 2 * system.width * length system.ones) }
-    ensures memory { IfErr result (λ e. e ≡ OutOfMemory) }
 {
     let peeling = peel(alloc, &system)?;
     let (peeled, mut left, mut recorded) = first_phase(alloc, system, peeling)?;
@@ -58,14 +55,13 @@ fn later_phases(
     peeled: &Peeled,
     left: &mut [usize],
     recorded: &mut RecordedRows,
-) -> Result<(PhaseEnds, Option<Vec<usize>>), Error>
+) -> Result<(PhaseEnds, Option<Vec<usize>>), AllocError>
     requires under_way { IsUnderWay peeled.now left.old recorded.old }
     requires listed { ListsRows (length peeled.now.ones) peeled.now.peeling.rows left.old }
     ensures left { IfOk result (λ made. IfNone made.1 (IsUnderWay peeled.now left.new recorded.new)) }
     ensures found { IfOk result (λ made. FindsOrder peeled.now left.old recorded.old recorded.new made.1) }
     ensures phases { IfOk result (RunsLater peeled.now left.old left.new recorded.old recorded.new) }
     ensures few { OnOk result (AddsLater peeled.now left.old recorded.old recorded.new) }
-    ensures err { IfErr result (λ e. e ≡ OutOfMemory) }
 {
     let inactive = peeled.peeling.width() - peeled.peeling.pivots();
     let cleared = recorded.operations.len();
@@ -96,10 +92,9 @@ fn later_phases(
 }
 
 // For each column the row that has its pivot.
-fn rows_in_order(alloc: Global, peeling: &Peeling, left: &[usize]) -> Result<Vec<usize>, Error>
+fn rows_in_order(alloc: Global, peeling: &Peeling, left: &[usize]) -> Result<Vec<usize>, AllocError>
     requires { (k : ℕ) → k < length peeling.now.places → at peeling.now.places k < length peeling.now.rows + length left.now }
-    ensures rows { IfOk result (λ rows. rows.items ≡ map (at (peeling.now.rows ++ left.now)) peeling.now.places) }
-    ensures err { IfErr result (λ e. e ≡ OutOfMemory) }
+    ensures { IfOk result (λ rows. rows.items ≡ map (at (peeling.now.rows ++ left.now)) peeling.now.places) }
 {
     let places = peeling.places();
     let mut rows = Vec::with_capacity(alloc, places.len())?;

@@ -1,18 +1,17 @@
 //! The second phase (RFC 6330, section 5.4.2.3): elimination over the inactive columns among the rows
 //! that have no pivot yet (`eliminate`) and, after `sparsify`, substitution back (`back_substitute`).
-ghost use Rattle.std.specs.Prelude.{◌≡◌, ◌≢◌, ◌+◌, ◌-◌, ◌<◌, ◌≤◌, ◌∷◌, [], length, OnOk, IfOk, IfErr, IsPermutation};
+ghost use Rattle.std.specs.Prelude.{◌≡◌, ◌≢◌, ◌+◌, ◌-◌, ◌<◌, ◌≤◌, ◌∷◌, [], length, OnOk, IfOk, IsPermutation};
 ghost use Rattle.rq_algebra.specs.Systems.{at};
-ghost use Rattle.rq_bytes.specs.declared.error.Error.TheVariants.{OutOfMemory};
 ghost use Rattle.rq_parts.specs.DenseOctetMatrix.{entry_of};
 ghost use Rattle.rq_elimination.specs.OperationCounts.{additions, multiples, triangle};
 ghost use Rattle.rq_elimination.specs.RecordedRows.{AddsAtMost, ChangesRows};
 ghost use Rattle.rq_elimination.specs.RowSteps.{AreRows, ClearsBelow, ClearsEntry, IsEchelon, ScalesToOne};
 ghost use Rattle.rq_solver.specs.SecondPhase.{AddsForward, AddsOnes, EndsForward, GivesMultiples, SubstitutesBack, TakesOnesBehind};
 
-use rq_bytes::error::Error;
 use rq_bytes::octet::Octet;
 use rq_elimination::pivot_search::find_pivot;
 use rq_elimination::recorded::RecordedRows;
+use std::alloc::AllocError;
 
 /// Gives each of the first `count` inactive columns a pivot: a row with 1 there, where the rows behind
 /// it have 0. Works on these rows alone. The list is put in the order of the pivots' columns. Where a
@@ -21,7 +20,7 @@ pub(super) fn eliminate(
     recorded: &mut RecordedRows,
     rows: &mut [usize],
     count: usize,
-) -> Result<bool, Error>
+) -> Result<bool, AllocError>
     requires rows { AreRows rows.old recorded.old.table }
     requires columns { count ≤ recorded.old.table.width }
     ensures permuted { IsPermutation rows.old rows.new }
@@ -29,7 +28,6 @@ pub(super) fn eliminate(
     ensures steps { OnOk result (ChangesRows rows.old recorded.old recorded.new) }
     ensures pivots { IfOk result (EndsForward rows.new count recorded.new) }
     ensures few { IfOk result (AddsForward (length rows.old) count recorded.old recorded.new) }
-    ensures err { IfErr result (λ e. e ≡ OutOfMemory) }
 {
     for done in 0..count {
         let Some(pivot) = find_pivot(&recorded.table, rows, done, done) else {
@@ -52,13 +50,12 @@ pub(super) fn back_substitute(
     recorded: &mut RecordedRows,
     rows: &[usize],
     count: usize,
-) -> Result<(), Error>
+) -> Result<(), AllocError>
     requires rows { AreRows rows.now recorded.old.table }
     requires columns { count ≤ recorded.old.table.width }
     requires echelon { IsEchelon rows.now count recorded.old.table }
     ensures reduced { OnOk result (SubstitutesBack rows.now count 0 recorded.old recorded.new) }
     ensures few { OnOk result (AddsAtMost (triangle count) recorded.old recorded.new) }
-    ensures err { IfErr result (λ e. e ≡ OutOfMemory) }
 {
     for done in 0..count {
         let place = count - 1 - done;
@@ -74,14 +71,13 @@ fn take_ones(
     rows: &[usize],
     place: usize,
     count: usize,
-) -> Result<(), Error>
+) -> Result<(), AllocError>
     requires rows { AreRows rows.now recorded.old.table }
     requires place { place < count }
     requires many { count ≤ length rows.now }
     requires columns { count ≤ recorded.old.table.width }
     ensures taken { OnOk result (TakesOnesBehind rows.now place count recorded.old recorded.new) }
     ensures few { OnOk result (AddsOnes rows.now place count recorded.old recorded.new) }
-    ensures err { IfErr result (λ e. e ≡ OutOfMemory) }
 {
     let row = rows[place];
     let mut from = place + 1;
@@ -96,13 +92,16 @@ fn take_ones(
 
 // Records that multiples of the row at a place are added to those before it that have another octet
 // than 0 and 1 in its column.
-fn give_multiples(recorded: &mut RecordedRows, rows: &[usize], place: usize) -> Result<(), Error>
+fn give_multiples(
+    recorded: &mut RecordedRows,
+    rows: &[usize],
+    place: usize,
+) -> Result<(), AllocError>
     requires rows { AreRows rows.now recorded.old.table }
     requires place { place < length rows.now }
     requires column { place < recorded.old.table.width }
     ensures given { OnOk result (GivesMultiples rows.now place place recorded.old recorded.new) }
     ensures few { OnOk result (AddsAtMost (multiples (λ i. entry_of recorded.old.table (at rows.now i) place) 0 place) recorded.old recorded.new) }
-    ensures err { IfErr result (λ e. e ≡ OutOfMemory) }
 {
     for i in 0..place {
         let scalar = recorded.table.get(rows[i], place);
@@ -114,14 +113,13 @@ fn give_multiples(recorded: &mut RecordedRows, rows: &[usize], place: usize) -> 
 }
 
 // Multiplies a row so that it has 1 in the column, where it isn't 0.
-fn scale_row(recorded: &mut RecordedRows, row: usize, column: usize) -> Result<(), Error>
+fn scale_row(recorded: &mut RecordedRows, row: usize, column: usize) -> Result<(), AllocError>
     requires row { row < length recorded.old.table.rows }
     requires column { column < recorded.old.table.width }
     requires nonzero { entry_of recorded.old.table row column ≢ 0 }
     ensures steps { OnOk result (ChangesRows (row ∷ []) recorded.old recorded.new) }
     ensures scaled { OnOk result (ScalesToOne row column recorded.old.table recorded.new.table) }
     ensures few { OnOk result (AddsAtMost 0 recorded.old recorded.new) }
-    ensures err { IfErr result (λ e. e ≡ OutOfMemory) }
 {
     let entry = recorded.table.get(row, column);
     if entry.byte() == 1 {
@@ -134,14 +132,13 @@ fn scale_row(recorded: &mut RecordedRows, row: usize, column: usize) -> Result<(
 
 // Adds multiples of the pivot's row, which has 1 in its column, to the rows behind it, so that
 // they have 0 there.
-fn clear_below(recorded: &mut RecordedRows, rows: &[usize], pivot: usize) -> Result<(), Error>
+fn clear_below(recorded: &mut RecordedRows, rows: &[usize], pivot: usize) -> Result<(), AllocError>
     requires rows { AreRows rows.now recorded.old.table }
     requires pivot { pivot < length rows.now }
     requires column { pivot < recorded.old.table.width }
     ensures steps { OnOk result (ChangesRows rows.now recorded.old recorded.new) }
     ensures cleared { OnOk result (ClearsBelow rows.now pivot (length rows.now) recorded.old.table recorded.new.table) }
     ensures few { OnOk result (additions recorded.new.operations + (pivot + 1) ≤ additions recorded.old.operations + length rows.now) }
-    ensures err { IfErr result (λ e. e ≡ OutOfMemory) }
 {
     for i in pivot + 1..rows.len() {
         clear_entry(recorded, rows[i], rows[pivot], pivot)?;
@@ -155,7 +152,7 @@ fn clear_entry(
     dest: usize,
     src: usize,
     column: usize,
-) -> Result<(), Error>
+) -> Result<(), AllocError>
     requires two { dest ≢ src }
     requires dest { dest < length recorded.old.table.rows }
     requires src { src < length recorded.old.table.rows }
@@ -163,7 +160,6 @@ fn clear_entry(
     ensures steps { OnOk result (ChangesRows (dest ∷ src ∷ []) recorded.old recorded.new) }
     ensures added { OnOk result (ClearsEntry dest src column recorded.old.table recorded.new.table) }
     ensures few { OnOk result (AddsAtMost 1 recorded.old recorded.new) }
-    ensures err { IfErr result (λ e. e ≡ OutOfMemory) }
 {
     let scalar = recorded.table.get(dest, column);
     if scalar.byte() == 0 {

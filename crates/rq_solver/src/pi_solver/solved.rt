@@ -1,16 +1,14 @@
 //! `Solved`: what equations give where operations alone are wanted (RFC 6330, section 5.4.2).
-ghost use Rattle.std.specs.Prelude.{◌≡◌, length, IfOk, IfErr};
-ghost use Rattle.rq_bytes.specs.declared.error.Error.TheVariants.{OutOfMemory};
+ghost use Rattle.std.specs.Prelude.{◌≡◌, length, IfOk};
 ghost use Rattle.rq_peeling.specs.System.{rows_of_system};
 ghost use Rattle.rq_solver.specs.Solving.{IsSolved};
 
 use super::phase_outcome::PhaseOutcome;
 use super::phases::run_phases;
 use super::stuck_column::stuck_column;
-use rq_bytes::error::Error;
 use rq_operations::recorded::RecordedOperations;
 use rq_peeling::system::System;
-use std::alloc::Global;
+use std::alloc::{AllocError, Global};
 
 /// What equations give: operations that find the intermediate symbols, or else what shows that they
 /// don't determine them.
@@ -25,9 +23,8 @@ pub enum Solved {
 }
 
 /// Looks for the operations that solve a system, and where there are none for a column that shows it.
-pub(super) fn solve_system(alloc: Global, system: System) -> Result<Solved, Error>
-    ensures solved { IfOk result (IsSolved (length system.ones) system.width (rows_of_system system)) }
-    ensures memory { IfErr result (λ e. e ≡ OutOfMemory) }
+pub(super) fn solve_system(alloc: Global, system: System) -> Result<Solved, AllocError>
+    ensures { IfOk result (IsSolved (length system.ones) system.width (rows_of_system system)) }
 {
     match run_phases(alloc, system)? {
         PhaseOutcome::Determined {

@@ -1,17 +1,16 @@
 //! The first phase clears the pivots' columns in the rows of bits (RFC 6330, section 5.4.2.2).
-ghost use Rattle.std.specs.Prelude.{◌≡◌, ◌*◌, ◌<◌, length, IfOk, OnOk, IfErr};
-ghost use Rattle.rq_bytes.specs.declared.error.Error.TheVariants.{OutOfMemory};
+ghost use Rattle.std.specs.Prelude.{◌≡◌, ◌*◌, ◌<◌, length, IfOk, OnOk};
 ghost use Rattle.rq_elimination.specs.RecordedRows.{AddsAtMost};
 ghost use Rattle.rq_peeling.specs.RowOnes.{ones_of};
 ghost use Rattle.rq_solver.specs.PivotAdditions.{ClearsAllRows, PeelsRows, PivotsHaveTaken, TakesPivots};
 ghost use Rattle.rq_solver.specs.RowOrder.{ListsRows};
 
 use crate::pi_solver::peeled::row_at;
-use rq_bytes::error::Error;
 use rq_bytes::octet::Octet;
 use rq_elimination::recorded::RecordedRows;
 use rq_peeling::ones::RowOnes;
 use rq_peeling::peeling::Peeling;
+use std::alloc::AllocError;
 
 /// Adds to each row, those of the pivots first and then those that are left, the rows of the other
 /// pivots in whose columns it has ones. Says where in the operations those of each row begin, and
@@ -21,14 +20,13 @@ pub(super) fn clear_rows(
     peeling: &Peeling,
     left: &[usize],
     recorded: &mut RecordedRows,
-) -> Result<Vec<usize>, Error>
+) -> Result<Vec<usize>, AllocError>
     requires peeled { PeelsRows ones.now peeling.now }
     requires listed { ListsRows (length ones.now) peeling.now.rows left.now }
     requires height { length recorded.old.table.rows ≡ length ones.now }
     ensures cleared { OnOk result (ClearsAllRows ones.now peeling.now left.now recorded.old recorded.new) }
     ensures taken { IfOk result (λ bounds. PivotsHaveTaken ones.now peeling.now bounds.items recorded.new) }
     ensures few { OnOk result (AddsAtMost (length ones.now * length peeling.now.rows) recorded.old recorded.new) }
-    ensures err { IfErr result (λ e. e ≡ OutOfMemory) }
 {
     let count = peeling.pivots() + left.len();
     let mut bounds = Vec::with_capacity(recorded.operations.allocator(), count.saturating_add(1))?;
@@ -47,13 +45,12 @@ fn take_pivots(
     row: usize,
     peeling: &Peeling,
     recorded: &mut RecordedRows,
-) -> Result<(), Error>
+) -> Result<(), AllocError>
     requires peeled { PeelsRows ones.now peeling.now }
     requires row { row < length ones.now }
     requires height { length recorded.old.table.rows ≡ length ones.now }
     ensures taken { OnOk result (TakesPivots peeling.now.rows peeling.now.order row (ones_of ones.now row) recorded.old recorded.new) }
     ensures few { OnOk result (AddsAtMost (length peeling.now.rows) recorded.old recorded.new) }
-    ensures err { IfErr result (λ e. e ≡ OutOfMemory) }
 {
     for column in ones.row(row) {
         let place = peeling.place_of(*column as usize);

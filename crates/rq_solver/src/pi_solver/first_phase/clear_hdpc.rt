@@ -1,7 +1,6 @@
 //! The first phase clears the pivots' columns in the HDPC rows (RFC 6330, section 5.4.2.2).
-ghost use Rattle.std.specs.Prelude.{◌≡◌, ◌≢◌, ℕ, ◌+◌, ◌-◌, ◌<◌, ◌≤◌, length, IsTrue, OnOk, IfErr};
+ghost use Rattle.std.specs.Prelude.{◌≡◌, ◌≢◌, ℕ, ◌+◌, ◌-◌, ◌<◌, ◌≤◌, length, IsTrue, OnOk};
 ghost use Rattle.rq_algebra.specs.Systems.{at};
-ghost use Rattle.rq_bytes.specs.declared.error.Error.TheVariants.{OutOfMemory};
 ghost use Rattle.rq_parts.specs.DenseOctetMatrix.{entry_of, HasOctets};
 ghost use Rattle.rq_elimination.specs.RecordedRows.{AddsAtMost};
 ghost use Rattle.rq_solver.specs.HdpcOctets.{hdpc_bound, AreOctetsIn, AreReadable, ClearsOctets, ClearsOwnColumn, ClearsPivotColumn, CombinesFrom};
@@ -9,13 +8,13 @@ ghost use Rattle.rq_solver.specs.HdpcOctets.{CombinesTables, HasNoPivot, HasZero
 ghost use Rattle.rq_elimination.specs.HdpcRows.{octet_in};
 ghost use Rattle.rq_peeling.specs.ColumnState.{IsOrderOf};
 
-use rq_bytes::error::Error;
 use rq_bytes::octet::Octet;
 use rq_elimination::entries::{next_in_vectors, nonzero_after_first};
 use rq_elimination::hdpc_rows::HdpcRows;
 use rq_elimination::recorded::RecordedRows;
 use rq_parts::octet_matrix::DenseOctetMatrix;
 use rq_peeling::peeling::Peeling;
+use std::alloc::AllocError;
 
 // Where the HDPC rows stand, from row `first` on, and the pivots of other rows.
 #[derive(Drop)]
@@ -34,14 +33,13 @@ pub(super) fn clear_octets(
     first_hdpc: usize,
     peeling: &Peeling,
     recorded: &mut RecordedRows,
-) -> Result<(), Error>
+) -> Result<(), AllocError>
     requires rows { AreOctetsIn first_hdpc (length hdpc.rows) recorded.old }
     requires few { length hdpc.rows < 65536 }
     requires octets { HasOctets hdpc }
     requires pivots { StandsBeside peeling.now first_hdpc hdpc recorded.old }
     ensures cleared { OnOk result (ClearsOctets peeling.now.rows peeling.now.order (entry_of hdpc) first_hdpc (length hdpc.rows) recorded.old recorded.new) }
     ensures few { OnOk result (AddsAtMost (hdpc_bound (length hdpc.rows) hdpc.width (length peeling.now.rows)) recorded.old recorded.new) }
-    ensures err { IfErr result (λ e. e ≡ OutOfMemory) }
 {
     if hdpc.height() == 0 || are_zeros_at_pivots(&hdpc, peeling) {
         return Ok(());
@@ -107,7 +105,7 @@ fn sum_rows(
     rows: &mut DenseOctetMatrix,
     first_hdpc: usize,
     recorded: &mut RecordedRows,
-) -> Result<(), Error>
+) -> Result<(), AllocError>
     requires rows { AreOctetsIn first_hdpc (length rows.old.rows) recorded.old }
     requires octets { HasOctets rows.old }
     requires some { 0 < length rows.old.rows }
@@ -117,7 +115,6 @@ fn sum_rows(
     ensures sum { OnOk result (SumsRows rows.old rows.new) }
     ensures summed { OnOk result (CombinesTables first_hdpc rows.old rows.new recorded.old recorded.new) }
     ensures few { OnOk result (AddsAtMost (length rows.old.rows - 1) recorded.old recorded.new) }
-    ensures err { IfErr result (λ e. e ≡ OutOfMemory) }
 {
     for row in 1..rows.height() {
         let one = Octet::one();
@@ -135,7 +132,7 @@ fn clear_column(
     column_octets: &mut [u8],
     places: &HdpcPlaces,
     recorded: &mut RecordedRows,
-) -> Result<(), Error>
+) -> Result<(), AllocError>
     requires hdpc { AreReadable places.now.first column hdpc_rows.old column_octets.old recorded.old }
     requires pivots { StandsBeside places.now.peeling.now places.now.first hdpc_rows.old.table recorded.old }
     ensures table { hdpc_rows.new.table ≡ hdpc_rows.old.table }
@@ -143,7 +140,6 @@ fn clear_column(
     ensures changed { OnOk result (ClearsPivotColumn places.now.peeling.now column places.now.first hdpc_rows.old hdpc_rows.new recorded.old recorded.new) }
     ensures few { OnOk result (AddsAtMost ((length hdpc_rows.old.table.rows - 1) + length hdpc_rows.old.table.rows) recorded.old recorded.new) }
     ensures idle { OnOk result (HasNoPivot places.now.peeling.now column → AddsAtMost (length hdpc_rows.old.table.rows - 1) recorded.old recorded.new) }
-    ensures err { IfErr result (λ e. e ≡ OutOfMemory) }
 {
     let lead = hdpc_rows.get(0, column);
     add_first_row(hdpc_rows, column, column_octets, places.first, recorded)?;
@@ -168,14 +164,13 @@ fn add_first_row(
     column_octets: &mut [u8],
     first_hdpc: usize,
     recorded: &mut RecordedRows,
-) -> Result<(), Error>
+) -> Result<(), AllocError>
     requires { AreReadable first_hdpc column hdpc_rows.old column_octets.old recorded.old }
     ensures table { hdpc_rows.new.table ≡ hdpc_rows.old.table }
     ensures lanes { length column_octets.new ≡ length hdpc_rows.new.factors }
     ensures alone { OnOk result (octet_in hdpc_rows.old 0 column ≢ 0 → IsFirstAlone column hdpc_rows.new) }
     ensures added { OnOk result (CombinesFrom column first_hdpc hdpc_rows.old hdpc_rows.new recorded.old recorded.new) }
     ensures few { OnOk result (AddsAtMost (length hdpc_rows.old.table.rows - 1) recorded.old recorded.new) }
-    ensures err { IfErr result (λ e. e ≡ OutOfMemory) }
 {
     let lead = hdpc_rows.get(0, column);
     if lead.byte() == 0 {
@@ -213,7 +208,7 @@ fn add_pivot(
     hdpc_rows: &HdpcRows,
     count: usize,
     recorded: &mut RecordedRows,
-) -> Result<(), Error>
+) -> Result<(), AllocError>
     requires rows { AreOctetsIn places.now.first (length hdpc_rows.now.table.rows) recorded.old }
     requires pivots { StandsBeside places.now.peeling.now places.now.first hdpc_rows.now.table recorded.old }
     requires place { place < length places.now.peeling.now.rows }
@@ -221,7 +216,6 @@ fn add_pivot(
     requires zeros { (i : ℕ) → count ≤ i → i < length hdpc_rows.now.table.rows → octet_in hdpc_rows.now i (at places.now.peeling.now.order place) ≡ 0 }
     ensures changed { OnOk result (ClearsOwnColumn places.now.peeling.now place places.now.first hdpc_rows.now recorded.old recorded.new) }
     ensures few { OnOk result (AddsAtMost (length hdpc_rows.now.table.rows) recorded.old recorded.new) }
-    ensures err { IfErr result (λ e. e ≡ OutOfMemory) }
 {
     let column = places.peeling.column_at(place);
     for row in 0..count {

@@ -1,28 +1,25 @@
 //! The first phase fills the matrix U of RFC 6330 (section 5.4.2.2) from the system: the entries of
 //! rows in the inactive columns.
-ghost use Rattle.std.specs.Prelude.{◌≡◌, ◌<◌, ◌≤◌, ◌+◌, ◌-◌, ℕ, All, length, IfOk, OnOk, IfErr};
-ghost use Rattle.rq_bytes.specs.declared.error.Error.TheVariants.{OutOfMemory};
+ghost use Rattle.std.specs.Prelude.{◌≡◌, ◌<◌, ◌≤◌, ◌+◌, ◌-◌, ℕ, All, length, IfOk, OnOk};
 ghost use Rattle.rq_parts.specs.DenseOctetMatrix.{entry_of, HasOctets};
 ghost use Rattle.rq_solver.specs.InactiveColumns.{AreFilled, FillsColumn, FillsHdpcRow, HasInactive};
 ghost use Rattle.rq_peeling.specs.ColumnState.{IsOrderOf};
 ghost use Rattle.rq_peeling.specs.Peeling.{IsPeeled};
 ghost use Rattle.rq_peeling.specs.System.{rows_of_system};
 
-use rq_bytes::error::Error;
 use rq_elimination::entries::{InactiveEntries, whole_vectors};
 use rq_peeling::peeling::Peeling;
 use rq_peeling::system::System;
-use std::alloc::Global;
+use std::alloc::{AllocError, Global};
 
 /// The entries of the rows in the inactive columns, in their order.
 pub(super) fn fill_inactive(
     alloc: Global,
     system: &System,
     peeling: &Peeling,
-) -> Result<InactiveEntries, Error>
+) -> Result<InactiveEntries, AllocError>
     requires { IsPeeled system.now.width system.now.ones peeling.now }
-    ensures entries { IfOk result (HasInactive (length system.now.ones) system.now.width (rows_of_system system.now) peeling.now) }
-    ensures err { IfErr result (λ e. e ≡ OutOfMemory) }
+    ensures { IfOk result (HasInactive (length system.now.ones) system.now.width (rows_of_system system.now) peeling.now) }
 {
     let inactive = system.width - peeling.pivots();
     let mut entries = InactiveEntries::new(alloc, system.ones.height(), whole_vectors(inactive))?;
@@ -67,15 +64,14 @@ fn fill_octets(
     peeling: &Peeling,
     inactive: usize,
     entries: &mut InactiveEntries,
-) -> Result<(), Error>
+) -> Result<(), AllocError>
     requires order { IsOrderOf system.now.hdpc.width peeling.now.order peeling.now.places }
     requires inactive { length peeling.now.rows + inactive ≡ system.now.hdpc.width }
     requires from { from < length system.now.hdpc.rows }
     requires row { system.now.first_hdpc + from < length entries.old.rows }
     requires width { inactive ≤ entries.old.width }
     requires octets { HasOctets entries.old }
-    ensures written { OnOk result (FillsHdpcRow system.now from peeling.now inactive entries.old entries.new) }
-    ensures err { IfErr result (λ e. e ≡ OutOfMemory) }
+    ensures { OnOk result (FillsHdpcRow system.now from peeling.now inactive entries.old entries.new) }
 {
     let row = system.first_hdpc + from;
     entries.fill(row, &system.hdpc, from, peeling.inactive_columns())

@@ -1,13 +1,11 @@
 //! The rows of a system that have no pivot, in the order in which they are worked on (RFC 6330, section
 //! 5.4.2.2).
-ghost use Rattle.std.specs.Prelude.{◌≡◌, ℕ, ◌+◌, ◌<◌, ◌≤◌, Bool, true, false, length, slice_index_or, IfOk, IfErr};
+ghost use Rattle.std.specs.Prelude.{◌≡◌, ℕ, ◌+◌, ◌<◌, ◌≤◌, Bool, true, false, length, slice_index_or, IfOk};
 ghost use Rattle.rq_algebra.specs.Arrangements.{ArePlaces};
 ghost use Rattle.rq_algebra.specs.Systems.{at};
-ghost use Rattle.rq_bytes.specs.declared.error.Error.TheVariants.{OutOfMemory};
 ghost use Rattle.rq_solver.specs.RowOrder.{row_in_turn, ListsRows, MarksRows};
 
-use rq_bytes::error::Error;
-use std::alloc::Global;
+use std::alloc::{AllocError, Global};
 
 /// All rows but those of the pivots, each once, and last the HDPC rows.
 pub(super) fn left_rows(
@@ -16,11 +14,10 @@ pub(super) fn left_rows(
     first_hdpc: usize,
     hdpc_count: usize,
     pivots: &[u32],
-) -> Result<Vec<usize>, Error>
+) -> Result<Vec<usize>, AllocError>
     requires pivots { ArePlaces (length pivots.now) height (at pivots.now) }
     requires hdpc { first_hdpc + hdpc_count ≤ height }
-    ensures listed { IfOk result (λ left. ListsRows height pivots.now left.items) }
-    ensures err { IfErr result (λ e. e ≡ OutOfMemory) }
+    ensures { IfOk result (λ left. ListsRows height pivots.now left.items) }
 {
     let mut marks = vec![in alloc; false; height]?;
     let has_pivot = marks.as_mut_slice();

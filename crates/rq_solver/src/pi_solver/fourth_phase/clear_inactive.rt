@@ -1,7 +1,6 @@
 //! The inactive columns in the pivots' rows (RFC 6330, section 5.4.2.5). Rows of bits take the rows
 //! with the inactive columns' pivots a word of them at a time.
-ghost use Rattle.std.specs.Prelude.{◌≡◌, ◌+◌, ◌*◌, ◌^◌, ◌<◌, ◌≤◌, length, OnOk, IfErr};
-ghost use Rattle.rq_bytes.specs.declared.error.Error.TheVariants.{OutOfMemory};
+ghost use Rattle.std.specs.Prelude.{◌≡◌, ◌+◌, ◌*◌, ◌^◌, ◌<◌, ◌≤◌, length, OnOk};
 ghost use Rattle.rq_parts.specs.DenseOctetMatrix.{entry_of};
 ghost use Rattle.rq_elimination.specs.RecordedRows.{AddsAtMost};
 ghost use Rattle.rq_elimination.specs.RowSteps.{CanTake};
@@ -11,10 +10,10 @@ ghost use Rattle.rq_solver.specs.SecondPhase.{TakesAll, TakesFrom};
 
 use super::redo_additions::{OnSymbols, redo_additions};
 use crate::pi_solver::peeled::Peeled;
-use rq_bytes::error::Error;
 use rq_bytes::octet::Octet;
 use rq_bytes::octets::WORD_BITS;
 use rq_elimination::recorded::RecordedRows;
+use std::alloc::AllocError;
 
 /// Adds to the pivots' rows, the first first, multiples of the rows with the inactive columns' pivots,
 /// each of which has 1 in its own inactive column and 0 in the others, so that they get 0 there. Those
@@ -24,14 +23,13 @@ pub(in crate::pi_solver) fn clear_inactive(
     left: &[usize],
     sparse: &[bool],
     recorded: &mut RecordedRows,
-) -> Result<(), Error>
+) -> Result<(), AllocError>
     requires under_way { IsUnderWay peeled.now left.now recorded.old }
     requires many { inactive_count peeled.now.peeling ≤ length left.now }
     requires long { length sparse.now ≡ length peeled.now.peeling.rows }
     requires short { TookAtMost peeled.now.sparsify_limit sparse.now peeled.now.bounds.items }
     ensures finished { OnOk result (FinishesAllPivots peeled.now left.now sparse.now recorded.old recorded.new) }
     ensures few { OnOk result (AddsAtMost (finish_bound peeled.now) recorded.old recorded.new) }
-    ensures err { IfErr result (λ e. e ≡ OutOfMemory) }
 {
     let peeling = &peeled.peeling;
     let bounds = &peeled.bounds;
@@ -54,13 +52,12 @@ fn clear_columns(
     inactive_rows: &[usize],
     inactive: usize,
     recorded: &mut RecordedRows,
-) -> Result<(), Error>
+) -> Result<(), AllocError>
     requires rows { CanTake row inactive_rows.now recorded.old.table }
     requires many { inactive ≤ length inactive_rows.now }
     requires width { inactive ≤ recorded.old.table.width }
     ensures taken { OnOk result (TakesAll inactive_rows.now inactive row (entry_of recorded.old.table row) recorded.old recorded.new) }
     ensures few { OnOk result (AddsAtMost inactive recorded.old recorded.new) }
-    ensures err { IfErr result (λ e. e ≡ OutOfMemory) }
 {
     for (word, rows) in inactive_rows[..inactive].chunks(WORD_BITS).enumerate() {
         take_word(row, rows, word, recorded)?;
@@ -76,7 +73,7 @@ fn take_word(
     inactive_rows: &[usize],
     word: usize,
     recorded: &mut RecordedRows,
-) -> Result<(), Error>
+) -> Result<(), AllocError>
     requires rows { CanTake row inactive_rows.now recorded.old.table }
     requires some { 0 < length inactive_rows.now }
     requires few { length inactive_rows.now ≤ 64 }
@@ -84,7 +81,6 @@ fn take_word(
     requires fits { 64 * word + length inactive_rows.now < 2 ^ 64 }
     ensures taken { OnOk result (TakesFrom inactive_rows.now row (64 * word) recorded.old recorded.new) }
     ensures few { OnOk result (AddsAtMost (length inactive_rows.now) recorded.old recorded.new) }
-    ensures err { IfErr result (λ e. e ≡ OutOfMemory) }
 {
     let Some(bits) = recorded.table.word_of(row, word) else {
         return take_octets(row, inactive_rows, WORD_BITS * word, recorded);
@@ -104,13 +100,12 @@ fn take_octets(
     inactive_rows: &[usize],
     start: usize,
     recorded: &mut RecordedRows,
-) -> Result<(), Error>
+) -> Result<(), AllocError>
     requires rows { CanTake row inactive_rows.now recorded.old.table }
     requires width { start + length inactive_rows.now ≤ recorded.old.table.width }
     requires fits { start + length inactive_rows.now < 2 ^ 64 }
     ensures taken { OnOk result (TakesFrom inactive_rows.now row start recorded.old recorded.new) }
     ensures few { OnOk result (AddsAtMost (length inactive_rows.now) recorded.old recorded.new) }
-    ensures err { IfErr result (λ e. e ≡ OutOfMemory) }
 {
     let end = start + inactive_rows.len();
     let mut from = start;

@@ -1,9 +1,8 @@
 //! Pivots' rows take again what they took: to be sparse for a while (the third phase, RFC 6330, section
 //! 5.4.2.4), and for good (the fifth, section 5.4.2.6).
-ghost use Rattle.std.specs.Prelude.{◌≡◌, ◌≢◌, ◌+◌, ◌-◌, ◌<◌, ◌≤◌, ◌∷◌, [], ◌++◌, All, List, length, slice_range, OnOk, IfErr};
+ghost use Rattle.std.specs.Prelude.{◌≡◌, ◌≢◌, ◌+◌, ◌-◌, ◌<◌, ◌≤◌, ◌∷◌, [], ◌++◌, All, List, length, slice_range, OnOk};
 ghost use Rattle.std.proofs.Common.{ap};
 ghost use Rattle.rq_algebra.specs.Operations.{Operation, AddAssign};
-ghost use Rattle.rq_bytes.specs.declared.error.Error.TheVariants.{OutOfMemory};
 ghost use Rattle.rq_parts.specs.DenseOctetMatrix.{OctetTable};
 ghost use Rattle.rq_elimination.specs.OperationCounts.{additions};
 ghost use Rattle.rq_elimination.specs.RecordedRows.{AddsAtMost, Performs, Records};
@@ -11,22 +10,21 @@ ghost use Rattle.rq_elimination.specs.declared.recorded.RecordedRows.{RecordedRo
 ghost use Rattle.rq_elimination.proofs.Performing.{performs_none, performs_more, records_none, records_more};
 ghost use Rattle.rq_solver.specs.PivotAdditions.{IsSumOf};
 
-use rq_bytes::error::Error;
 use rq_bytes::octet::Octet;
 use rq_elimination::recorded::RecordedRows;
+use std::alloc::AllocError;
 
 /// How a row takes another one again.
 pub(super) trait Redo {
     ghost done: { List Operation → RecordedRows → RecordedRows → Type 0 };
 
     /// Adds a row to another one.
-    fn redo(&self, row: usize, source: usize, recorded: &mut RecordedRows) -> Result<(), Error>
+    fn redo(&self, row: usize, source: usize, recorded: &mut RecordedRows) -> Result<(), AllocError>
         requires two { row ≢ source }
         requires row { row < length recorded.old.table.rows }
         requires source { source < length recorded.old.table.rows }
         ensures added { OnOk result (done (AddAssign row source ∷ []) recorded.old recorded.new) }
-        ensures counted { OnOk result (additions recorded.new.operations ≡ additions recorded.old.operations + 1) }
-        ensures err { IfErr result (λ e. e ≡ OutOfMemory) };
+        ensures counted { OnOk result (additions recorded.new.operations ≡ additions recorded.old.operations + 1) };
 
     ghost none: { (state : RecordedRows) → done [] state state };
 
@@ -45,7 +43,12 @@ impl Redo for OnRows {
     ghost done = { λ steps old new. Performs steps old new };
 
     #[inline(always)]
-    fn redo(&self, row: usize, source: usize, recorded: &mut RecordedRows) -> Result<(), Error> {
+    fn redo(
+        &self,
+        row: usize,
+        source: usize,
+        recorded: &mut RecordedRows,
+    ) -> Result<(), AllocError> {
         recorded.add_multiple(row, source, Octet::one())
     }
 
@@ -66,7 +69,12 @@ impl Redo for OnSymbols {
     ghost done = { λ steps old new. Records steps old new };
 
     #[inline(always)]
-    fn redo(&self, row: usize, source: usize, recorded: &mut RecordedRows) -> Result<(), Error> {
+    fn redo(
+        &self,
+        row: usize,
+        source: usize,
+        recorded: &mut RecordedRows,
+    ) -> Result<(), AllocError> {
         recorded.record_multiple(row, source, Octet::one())
     }
 
@@ -86,14 +94,13 @@ pub(super) fn redo_additions<R: Redo>(
     start: usize,
     end: usize,
     recorded: &mut RecordedRows,
-) -> Result<(), Error>
+) -> Result<(), AllocError>
     requires row { row < length recorded.old.table.rows }
     requires ordered { start ≤ end }
     requires within { end ≤ length recorded.old.operations }
     requires sums { All (IsSumOf row (length recorded.old.table.rows)) (slice_range recorded.old.operations start end) }
     ensures done { OnOk result (R.done (slice_range recorded.old.operations start end) recorded.old recorded.new) }
     ensures few { OnOk result (AddsAtMost (end - start) recorded.old recorded.new) }
-    ensures err { IfErr result (λ e. e ≡ OutOfMemory) }
 {
     for place in start..end {
         if let Some(source) = recorded.operations.source(place) {

@@ -1,17 +1,15 @@
 //! The third phase (RFC 6330, section 5.4.2.4), for single rows: those of pivots that took
 //! `sparsify_limit` rows at most are made sparse again, where that saves additions.
-ghost use Rattle.std.specs.Prelude.{◌≡◌, ◌+◌, ◌-◌, ◌*◌, ◌<◌, ◌≤◌, length, IsTrue, IfOk, OnOk, IfErr};
+ghost use Rattle.std.specs.Prelude.{◌≡◌, ◌+◌, ◌-◌, ◌*◌, ◌<◌, ◌≤◌, length, IsTrue, IfOk, OnOk};
 ghost use Rattle.rq_algebra.specs.Systems.{at};
-ghost use Rattle.rq_bytes.specs.declared.error.Error.TheVariants.{OutOfMemory};
 ghost use Rattle.rq_elimination.specs.RecordedRows.{AddsAtMost};
 ghost use Rattle.rq_solver.specs.FourthPhase.{Sparsifies, TookAtMost};
 ghost use Rattle.rq_solver.specs.Peeled.{HasTakenPivots};
 
 use super::redo_additions::{OnRows, redo_additions};
 use crate::pi_solver::peeled::Peeled;
-use rq_bytes::error::Error;
 use rq_elimination::recorded::RecordedRows;
-use std::alloc::Global;
+use std::alloc::{AllocError, Global};
 
 /// Adds to some of the pivots' rows, the last first, the pivots' rows again that they took in the first
 /// phase. So they are as they were handed in, and have few ones, where they came to have many in the
@@ -20,13 +18,12 @@ pub(in crate::pi_solver) fn sparsify(
     alloc: Global,
     peeled: &Peeled,
     recorded: &mut RecordedRows,
-) -> Result<Vec<bool>, Error>
+) -> Result<Vec<bool>, AllocError>
     requires { HasTakenPivots peeled.now recorded.old }
     ensures taken { IfOk result (λ sparse. Sparsifies peeled.now sparse.items 0 recorded.old recorded.new) }
     ensures long { IfOk result (λ sparse. length sparse.items ≡ length peeled.now.peeling.rows) }
     ensures short { IfOk result (λ sparse. TookAtMost peeled.now.sparsify_limit sparse.items peeled.now.bounds.items) }
     ensures few { OnOk result (AddsAtMost (length peeled.now.peeling.rows * peeled.now.sparsify_limit) recorded.old recorded.new) }
-    ensures err { IfErr result (λ e. e ≡ OutOfMemory) }
 {
     let mut sparse = vec![in alloc; false; peeled.peeling.pivots()]?;
     sparsify_rows(peeled, sparse.as_mut_slice(), recorded)?;
@@ -39,13 +36,12 @@ fn sparsify_rows(
     peeled: &Peeled,
     sparse: &mut [bool],
     recorded: &mut RecordedRows,
-) -> Result<(), Error>
+) -> Result<(), AllocError>
     requires taken { HasTakenPivots peeled.now recorded.old }
     requires long { length sparse.old ≡ length peeled.now.peeling.rows }
     ensures taken { OnOk result (Sparsifies peeled.now sparse.new 0 recorded.old recorded.new) }
     ensures short { OnOk result (TookAtMost peeled.now.sparsify_limit sparse.new peeled.now.bounds.items) }
     ensures few { OnOk result (AddsAtMost (length peeled.now.peeling.rows * peeled.now.sparsify_limit) recorded.old recorded.new) }
-    ensures err { IfErr result (λ e. e ≡ OutOfMemory) }
 {
     let bounds = &peeled.bounds;
     for done in 0..sparse.len() {

@@ -34,7 +34,7 @@ returns-clause-solved g c =
     let operations = operations_of c.in-Some-in_row_order.operations in
     let finds = rw c.in-Some-in_row_order.is at (recorded_found _ _ _ _ c.in_row_order.result c.in_ok-found.ensures.found c.in_row_order.ensures) in
     if_some solver.symbols handed _ (sym c.in-Some.ensures.value)
-    (rw c.in_ok-into_symbol_ops.ensures.operations
+    (rw c.in_ok-into_symbol_ops.ensures
     (is_solution m.height m.width rows operations finds handed _ (solver.unordered handed (sym c.in-Some.ensures.value)) (c.symbols-2.view_is ∙ c.in_ok-replay.ensures.ok)))
 
 pub returns-in_default-in_row_order-clause-counted : goal.returns-in_default-in_row_order-clause-counted
@@ -59,7 +59,7 @@ returns-clause-counted g c =
     let totals = recorded_totals found c.counts-self.result c.in-Some-in_row_order.operations in_order c.counts-self.ensures (rw c.in-Some-in_row_order.is at c.in_row_order.ensures) in
     let a = c.counts-self.ensures.additions_are in
     let m = c.counts-self.ensures.multiplications_are in
-    rw c.in_ok-into_symbol_ops.ensures.operations (record {
+    rw c.in_ok-into_symbol_ops.ensures (record {
       found = found;
       runs = c.in_ok-found.ensures.phases;
       answers = rw c.in-Some-in_row_order.is at c.in_row_order.ensures;

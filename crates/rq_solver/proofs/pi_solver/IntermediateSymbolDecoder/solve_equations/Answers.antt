@@ -10,14 +10,14 @@ pub returns-clause-found : goal.returns-clause-found
 returns-clause-found g c =
     let solver = c.args.self.now in
     let bits = g.T.BinaryMatrix.content solver.matrix in
-    IfOk-weaker c.run_phases.result _ _ (λ phases found. attempt_of_bits bits solver.hdpc solver.first_hdpc c.in_ok-to_system.field-0 c.in_ok-to_system.ensures.system (in_row_order phases) found) c.run_phases.ensures.found
+    IfOk-weaker c.run_phases.result _ _ (λ phases found. attempt_of_bits bits solver.hdpc solver.first_hdpc c.in_ok-to_system.field-0 c.in_ok-to_system.ensures (in_row_order phases) found) c.run_phases.ensures.found
 
 pub returns-clause-phases : goal.returns-clause-phases
 returns-clause-phases g c =
     let solver = c.args.self.now in
     let bits = g.T.BinaryMatrix.content solver.matrix in
     let system = c.in_ok-to_system.field-0 in
-    let is = c.in_ok-to_system.ensures.system in
+    let is = c.in_ok-to_system.ensures in
     IfOk-weaker c.run_phases.result _ _
     (λ found ran. record {
       system = system;

@@ -16,7 +16,7 @@ clear_octets-requires-clause-pivots c =
     let pivots = c.args.peeling.now in
     let peeled = c.requires.peeled in
     let height : length c.clear_rows.new.recorded.table.rows ≡ length system.ones =
-    c.in_ok-bounds.ensures.cleared.performs.height ∙ ap (λ (t : OctetTable). length t.rows) c.in_ok-recorded.ensures.table ∙ c.in_ok-table.ensures.entries.height_is in
+    c.in_ok-bounds.ensures.cleared.performs.height ∙ ap (λ (t : OctetTable). length t.rows) c.in_ok-recorded.ensures.table ∙ c.in_ok-table.ensures.height_is in
     record {
       columns = rw system.octet_rows.width_is peeled.columns;
       few = rw system.octet_rows.width_is peeled.few;
@@ -32,7 +32,7 @@ returns-clause-cleared c =
     let wide : length pivots.rows + inactive ≡ system.width = omega (arith, c.requires.peeled.few) in
     peeled_pivots system.ones system.first_hdpc system.hdpc system.width system.bits system.octet_rows pivots.rows pivots.order pivots.places c.requires.peeled c.args.left.now c.requires.listed
     c.in_ok-recorded.recorded c.clear_rows.new.recorded c.clear_octets.new.recorded c.in_ok-bounds.ensures.cleared c.in_ok-clear_octets.ensures.cleared
-    system.octets inactive wide c.in_ok-recorded.ensures.operations (rw c.in_ok-recorded.ensures.table c.in_ok-table.ensures.entries)
+    system.octets inactive wide c.in_ok-recorded.ensures.operations (rw c.in_ok-recorded.ensures.table c.in_ok-table.ensures)
 
 pub returns-clause-alone : goal.returns-clause-alone
 returns-clause-alone c =

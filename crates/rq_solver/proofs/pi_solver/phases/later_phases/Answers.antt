@@ -81,7 +81,7 @@ returns-clause-phases c = solved (goal.at.returns-clause-phases c).After-rows_in
 pub returns-clause-found : goal.returns-clause-found
 returns-clause-found c =
     finds_rows c.args.peeled.now c.args.left.now c.eliminate.new.rows c.args.recorded.now c.clear_inactive.new.recorded _ c.requires.under_way c.requires.listed
-    (solved (goal.at.returns-clause-found c).After-rows_in_order) c.in_ok-order.order c.in_ok-order.ensures.rows
+    (solved (goal.at.returns-clause-found c).After-rows_in_order) c.in_ok-order.order c.in_ok-order.ensures
 
 pub returns-clause-few : goal.returns-clause-few
 unfolding solved

@@ -30,14 +30,14 @@ stuck_column-requires-clause-stuck c =
     rw c.in-Undetermined.is at c.in_ok-recorded.ensures.phases in
     rw c.as_slice.ensures.value ran.0.later.stuck
 
-pub returns-in-Determined-clause-solved : goal.returns-in-Determined-clause-solved
-returns-in-Determined-clause-solved c =
+pub returns-in-Determined : goal.returns-in-Determined
+returns-in-Determined c =
     let found : SolvesSystem c.args.system (in_row_order (Determined c.in-Determined.recorded c.in-Determined.ends c.in-Determined.order)) = rw c.in-Determined.is at c.in_ok-recorded.ensures.found in
     let operations = c.new-operations.ensures ∙ ap (λ (l : List Operation). l ++ Reorder c.in-Determined.order.items ∷ []) c.into_steps.ensures in
     subst (FindsColumn octets (length c.args.system.ones) c.args.system.width (rows_of_system c.args.system)) (sym operations) found
 
-pub returns-in-Undetermined-clause-solved : goal.returns-in-Undetermined-clause-solved
-returns-in-Undetermined-clause-solved c =
+pub returns-in-Undetermined : goal.returns-in-Undetermined
+returns-in-Undetermined c =
     let system = c.args.system in
     let outcome : PhaseOutcome = Undetermined c.in-Undetermined.peeled c.in-Undetermined.left c.in-Undetermined.recorded c.in-Undetermined.ends in
     let found : SolvesSystem system (in_row_order outcome) = rw c.in-Undetermined.is at c.in_ok-recorded.ensures.found in

@@ -7,4 +7,4 @@ pub loop-from-preserved : goal.loop-from-preserved
 loop-from-preserved c =
     let system = c.args.system.now in
     let p = c.args.peeling.now in
-    leading_next system.ones system.first_hdpc system.hdpc p.order (length p.rows) _ c.loop-from.from c.loop-from.entries c.fill_octets.new.entries c.loop-from.invariant c.in_ok-fill_octets.ensures.written
+    leading_next system.ones system.first_hdpc system.hdpc p.order (length p.rows) _ c.loop-from.from c.loop-from.entries c.fill_octets.new.entries c.loop-from.invariant c.in_ok-fill_octets.ensures

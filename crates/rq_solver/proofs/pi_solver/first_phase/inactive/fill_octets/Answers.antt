@@ -7,8 +7,8 @@ use Rattle.rq_parts.specs.DenseOctetMatrix.{entry_of, row_at}
 use Rattle.rq_elimination.proofs.Writes.{writes_columns}
 use Rattle.rq_solver.proofs.pi_solver.first_phase.inactive.fill_octets.Goals as goal
 
-pub returns-clause-written : goal.returns-clause-written
-returns-clause-written c =
+pub returns : goal.returns
+returns c =
     let p = c.args.peeling.now in
     let pivots : ℕ = length p.rows in
     let columns = c.inactive_columns.result.now in

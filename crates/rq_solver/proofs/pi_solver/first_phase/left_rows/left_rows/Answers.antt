@@ -24,8 +24,8 @@ loop-turn-preserved c =
       | else-not-has_pivot-row w ↦ rw w.left-is (turns_skipped c.args.height of marks t old c.loop-turn.invariant (rw (← row) w.if-not-has_pivot-row.false))
     ]
 
-pub returns-clause-listed : goal.returns-clause-listed
-returns-clause-listed c =
+pub returns : goal.returns
+returns c =
     let all : c.loop-turn.turn ≡ c.args.height = omega (arith, c.loop-turn.auto.turn-end, c.loop-turn-test.false) in
     lists_rows c.args.height c.args.first_hdpc c.args.hdpc_count c.requires.hdpc c.args.pivots.now c.loop-turn.left.items c.mark_rows.new.marks
     c.mark_rows.ensures (rw all at c.loop-turn.invariant)
