@@ -5,6 +5,7 @@ use Rattle.std.proofs.Math.Nat.{mul-le-mul_left, mul-le-mul_right}
 use Rattle.rq_algebra.specs.Arrangements.{ArePlaces}
 use Rattle.rq_algebra.specs.Changes.{with_at}
 use Rattle.rq_algebra.proofs.ChangeLaws.{with_at_same, with_at_other}
+use Rattle.rq_algebra.proofs.Places.{more_places}
 use Rattle.rq_elimination.specs.OperationCounts.{beyond_one, multiples, multiples-none, multiples-more, triangle, triangle-none, triangle-more}
 use Rattle.rq_solver.specs.HdpcOctets.{hdpc_bound}
 
@@ -30,38 +31,17 @@ module _ (bound : ℕ) (place : ℕ → ℕ) where
       met = λ s l. let q = has.met s l in (q.0, (let early = q.1 in omega arith), q.2);
     }
 
-    abbrev next : ℕ → ℕ
-    next = with_at has.which n (place t)
-
-    next_here : (s : ℕ) → s ≡ n → next s ≡ place t
-    next_here = with_at_same has.which n (place t)
-
-    next_other : (s : ℕ) → s ≢ n → next s ≡ has.which s
-    next_other = with_at_other has.which n (place t)
-
     further : ((q : ℕ) → q < t → place q ≢ place t) → (s : ℕ) → s < n → has.which s ≢ place t
     further fresh s l e = let q = has.met s l in fresh q.0 q.1 (q.2 ∙ e)
 
     -- the next one is a further place
     pub met_more : place t < bound → ((q : ℕ) → q < t → place q ≢ place t) → HasMet bound place (t + 1) (n + 1)
     met_more below fresh = record {
-      which = next;
-      are = record {
-        below = λ s l. elim (cases_eq s n) [ inl e ↦ rw (next_here s e) below | inr d ↦ rw (next_other s d) (has.are.below s (omega arith)) ];
-        apart = λ s r l m same. elim (cases_eq s n) [
-          | inl e ↦ elim (cases_eq r n) [
-            | inl f ↦ e ∙ sym f
-            | inr d ↦ absurd (further fresh r (omega arith) (sym (next_other r d) ∙ sym same ∙ next_here s e))
-          ]
-          | inr d ↦ elim (cases_eq r n) [
-            | inl f ↦ absurd (further fresh s (omega arith) (sym (next_other s d) ∙ same ∙ next_here r f))
-            | inr g ↦ has.are.apart s r (omega arith) (omega arith) (sym (next_other s d) ∙ same ∙ next_other r g)
-          ]
-        ];
-      };
+      which = with_at has.which n (place t);
+      are = rw (add-one n) (more_places n bound has.which (place t) has.are below (further fresh));
       met = λ s l. elim (cases_eq s n) [
-        | inl e ↦ (t, (omega arith), sym (next_here s e))
-        | inr d ↦ let q = has.met s (omega arith) in (q.0, (let early = q.1 in omega arith), q.2 ∙ sym (next_other s d))
+        | inl e ↦ (t, (omega arith), sym (with_at_same has.which n (place t) s e))
+        | inr d ↦ let q = has.met s (omega arith) in (q.0, (let early = q.1 in omega arith), q.2 ∙ sym (with_at_other has.which n (place t) s d))
       ];
     }
 

@@ -10,13 +10,12 @@ use Rattle.rq_algebra.specs.Arrangements.{ArePlaces, IsFewOn}
 use Rattle.rq_algebra.specs.PivotColumns.{ReadsPivots, HasFirstPivots}
 use Rattle.rq_algebra.specs.Following.{Follows}
 use Rattle.rq_algebra.specs.Operations.{Operation, Reorder, FindsColumn}
-use Rattle.rq_algebra.specs.Systems.{at, dot, stacked, HasElements, HasHomogeneousColumn, IsColumn, IsHomogeneousColumn, Solves}
+use Rattle.rq_algebra.specs.Systems.{at, dot, HasElements, HasHomogeneousColumn, IsColumn, IsHomogeneousColumn, Solves}
 use Rattle.rq_algebra.proofs.FewEquations.{homogeneous_of_few}
 use Rattle.rq_algebra.proofs.FewPlaces.{dot_places}
 use Rattle.rq_algebra.proofs.Pivots.{finds_by_pivots, homogeneous_back, zeros_back}
 use Rattle.rq_algebra.proofs.Reduction.{pivots_of_first}
 use Rattle.rq_algebra.proofs.OperationRuns.{follows_none}
-use Rattle.rq_algebra.proofs.Stacks.{stacked_above, stacked_below}
 use Rattle.rq_algebra.proofs.Sums.{dot_same, dot_split, dot_zero, zero_mul}
 use Rattle.rq_standard.specs.OctetField.{octets}
 use Rattle.rq_parts.specs.DenseOctetMatrix.{entry_of}
@@ -27,7 +26,6 @@ use Rattle.rq_solver.specs.PivotAdditions.{IsCleared}
 use Rattle.rq_solver.specs.RowOrder.{ListsRows}
 use Rattle.rq_solver.specs.SecondPhase.{AreUnits, SubstitutesBack}
 use Rattle.rq_peeling.specs.ColumnState.{IsOrderOf}
-use Rattle.rq_peeling.specs.Peeling.{Pivots}
 use Rattle.rq_elimination.specs.RecordedRows.{ChangesRows}
 use Rattle.rq_elimination.specs.declared.recorded.RecordedRows.{RecordedRows}
 use Rattle.rq_elimination.specs.RowSteps.{AreStepsBelow, IsEchelon, IsStuck, IsStepAmong, rows_after}
@@ -52,9 +50,6 @@ module _ (p : Peeled) (left : List ℕ) (middle : RecordedRows) (under : IsUnder
     (last : RecordedRows) (changes : ChangesRows left middle last) (inactive_rows : List ℕ) (permuted : IsPermutation left inactive_rows) where
   abbrev height : ℕ
   height = length p.ones
-
-  abbrev peeling : Pivots
-  peeling = p.peeling
 
   abbrev rows : List ℕ
   rows = p.peeling.rows
@@ -83,9 +78,6 @@ module _ (p : Peeled) (left : List ℕ) (middle : RecordedRows) (under : IsUnder
   arranged : IsOrderOf width order places
   arranged = under.pivots.peeled.peeled.columns
 
-  rows_are : ArePlaces pivots height (at rows)
-  rows_are = under.pivots.peeled.peeled.in_rows
-
   abbrev mid : ℕ → ℕ → ℕ
   mid = rows_after octets middle.operations system
 
@@ -109,16 +101,17 @@ module _ (p : Peeled) (left : List ℕ) (middle : RecordedRows) (under : IsUnder
 
   -- ---- rows in the order of their pivots' columns
 
-  ordered_row : ℕ → ℕ
-  ordered_row = stacked pivots (at rows) (at inactive_rows)
+  abbrev placed : List ℕ
+  placed = rows ++ inactive_rows
 
-  of_pivot : (p : ℕ) → p < pivots → ordered_row p ≡ at rows p
-  unfolding ordered_row
-  of_pivot p l = stacked_above pivots (at rows) (at inactive_rows) p l
+  abbrev ordered_row : ℕ → ℕ
+  ordered_row = at placed
+
+  of_pivot : (q : ℕ) → q < pivots → ordered_row q ≡ at rows q
+  of_pivot q l = get_or_append_left rows inactive_rows 0 q l
 
   of_left : (q : ℕ) → ordered_row (pivots + q) ≡ at inactive_rows q
-  unfolding ordered_row
-  of_left q = stacked_below pivots (at rows) (at inactive_rows) q
+  of_left q = get_or-append-add rows inactive_rows q 0
 
   in_left : (q : ℕ) → q < length inactive_rows → Contains left (at inactive_rows q)
   in_left q l = Contains-permutation inactive_rows left (at inactive_rows q) (IsPermutation-sym left inactive_rows permuted) (Contains-get_or inactive_rows q 0 l)
@@ -127,7 +120,7 @@ module _ (p : Peeled) (left : List ℕ) (middle : RecordedRows) (under : IsUnder
   reduced_below q l = left_below height rows left listing (at inactive_rows q) (in_left q l)
 
   pivot_below : (p : ℕ) → p < pivots → at rows p < height
-  pivot_below p l = rows_are.below p l
+  pivot_below p l = under.pivots.peeled.peeled.in_rows.below p l
 
   apart : (p q : ℕ) → p < pivots → q < length inactive_rows → at rows p ≢ at inactive_rows q
   apart p q l n = left_apart height rows left listing (at inactive_rows q) p (in_left q n) l
@@ -244,9 +237,6 @@ module _ (p : Peeled) (left : List ℕ) (middle : RecordedRows) (under : IsUnder
   module _ (marks : List Bool) (returned reduced_state final : RecordedRows) (echelon : IsEchelon inactive_rows inactive last.table)
       (back : Sparsifies p marks 0 last returned) (reduces : SubstitutesBack inactive_rows inactive 0 returned reduced_state)
       (finishes : FinishesAllPivots p inactive_rows marks reduced_state final) where
-    abbrev placed : List ℕ
-    placed = rows ++ inactive_rows
-
     abbrev late_steps : List Operation
     late_steps = back.steps ++ (reduces.steps ++ finishes.steps)
 
@@ -312,14 +302,14 @@ module _ (p : Peeled) (left : List ℕ) (middle : RecordedRows) (under : IsUnder
     meant_cleared : (p : ℕ) → p < pivots → IsCleared rows order meant (at rows p)
     meant_cleared p l = record { entries = λ i n. pivot_pivot p i l n }
 
-    finished : (p : ℕ) → p < pivots → IsFinished peeling (λ f. at order (length rows + f)) (rows_after octets finishes.steps between) (at rows p)
-    finished p l = finishes.final between (λ f. at order (length rows + f)) (record {
+    finished : (q : ℕ) → q < pivots → IsFinished p.peeling (λ f. at order (length rows + f)) (rows_after octets finishes.steps between) (at rows q)
+    finished i l = finishes.final between (λ f. at order (length rows + f)) (record {
       units = units;
       zeros = λ f i n o. between_pivot (at inactive_rows f) i o ∙ given_zero f i n o;
       shown = λ q f n o. between_row q (at order (pivots + f)) n ∙ given_at (at rows q) f (pivot_below q n) o ∙ ap (λ table. entry_of table (at rows q) f) (sym reduces.records.table);
       plain = λ q n e. record { entries = λ i o. between_row q (at order i) n ∙ back.unmarked meant q (at order i) (omega arith) n e ∙ pivot_pivot q i n o };
       raw = λ q n e. record { entries = λ i o. between_row q (at order i) n ∙ (back.uncleared meant meant_cleared q (omega arith) n e).entries i o };
-    }) p l
+    }) i l
 
     cleared : (p f : ℕ) → p < pivots → f < inactive → ended (at rows p) (at order (pivots + f)) ≡ 0
     cleared p f l n = ended_is (at rows p) (at order (pivots + f)) ∙ (finished p l).zeros f n
@@ -346,7 +336,7 @@ module _ (p : Peeled) (left : List ℕ) (middle : RecordedRows) (under : IsUnder
     row_zero : (i p : ℕ) → i < width → p < width → i ≢ p → ended (ordered_row i) (at order p) ≡ 0
     row_zero i p l n d = elim (cases_lt i pivots) [
       | inl early ↦ ap (λ (r : ℕ). ended r (at order p)) (of_pivot i early) ∙ elim (cases_lt p pivots) [
-        | inl first_p ↦ ended_own i p early first_p ∙ if_apart (at rows p) (at rows i) 1 0 (λ e. d (sym (rows_are.apart p i first_p early e)))
+        | inl first_p ↦ ended_own i p early first_p ∙ if_apart (at rows p) (at rows i) 1 0 (λ e. d (sym (under.pivots.peeled.peeled.in_rows.apart p i first_p early e)))
         | inr late_p ↦ let f = inactive_place p n late_p in rw (← f.2) (cleared i f.0 early f.1)
       ]
       | inr late ↦
@@ -399,13 +389,7 @@ module _ (p : Peeled) (left : List ℕ) (middle : RecordedRows) (under : IsUnder
     reads : ReadsPivots width ordered_row (at order) (map (at placed) places)
     reads = record {
       count = length-map places (at placed) ∙ arranged.place_count;
-      reads = λ p l.
-          get_or-map (at placed) places (at order p) 0 0 (omega (arith, arranged.place_count, (arranged.ordered p l).0))
-          ∙ ap (at placed) (arranged.ordered p l).1
-          ∙ elim (cases_lt p pivots) [
-            | inl early ↦ get_or_append_left rows inactive_rows 0 p early ∙ sym (of_pivot p early)
-            | inr late ↦ let f = inactive_place p l late in rw (← f.2) (get_or-append-add rows inactive_rows f.0 0 ∙ sym (of_left f.0))
-          ];
+      reads = λ q l. get_or-map (at placed) places (at order q) 0 0 (omega (arith, arranged.place_count, (arranged.ordered q l).0)) ∙ ap (at placed) (arranged.ordered q l).1;
     }
 
     pub finds_by_peeled : FindsColumn octets height width system (final.operations ++ Reorder (map (at placed) places) ∷ [])
