@@ -1,5 +1,5 @@
 -- The second phase: rows that have no pivot yet are brought into echelon form, and then substituted back.
-use Rattle.std.specs.Prelude.{◌≡◌, ◌≢◌, ℕ, ◌+◌, ◌-◌, ◌*◌, ◌<◌, ◌≤◌, ◌==◌, if◌then◌else◌, Bool, List, All, Contains, length, MatchBool}
+use Rattle.std.specs.Prelude.{◌≡◌, ◌≢◌, ℕ, ◌+◌, ◌-◌, ◌*◌, ◌<◌, ◌≤◌, ◌==◌, if◌then◌else◌, Bool, List, All, Contains, MatchBool}
 use Rattle.rq_algebra.specs.Systems.{at}
 use Rattle.rq_algebra.specs.Operations.{Operation, AddAssign, MulAssign, Fma, Reorder}
 use Rattle.rq_standard.specs.OctetField.{octets}
@@ -59,9 +59,9 @@ pub record ClearsColumns (inactive_rows : List ℕ) (row start count done : ℕ)
 abbrev pub TakesAll : List ℕ → ℕ → ℕ → (ℕ → ℕ) → RecordedRows → RecordedRows → Type 0
 TakesAll inactive_rows count row entries old new = ClearsColumns inactive_rows row 0 count count entries old new
 
--- a row takes multiples of all rows of a list, whose columns begin at column `start`
-abbrev pub TakesFrom : List ℕ → ℕ → ℕ → RecordedRows → RecordedRows → Type 0
-TakesFrom inactive_rows row start old new = TakesAll inactive_rows (length inactive_rows) row (λ f. entry_of old.table row (start + f)) old new
+-- a row takes multiples of the rows at these places, so that it gets 0 in their columns
+abbrev pub TakesBetween : List ℕ → ℕ → ℕ → ℕ → RecordedRows → RecordedRows → Type 0
+TakesBetween inactive_rows row start end old new = ClearsColumns inactive_rows row start end end (entry_of old.table row) old new
 
 -- ---- back
 

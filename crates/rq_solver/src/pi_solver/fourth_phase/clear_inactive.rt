@@ -1,12 +1,12 @@
 //! The inactive columns in the pivots' rows (RFC 6330, section 5.4.2.5). Rows of bits take the rows
 //! with the inactive columns' pivots a word of them at a time.
-ghost use Rattle.std.specs.Prelude.{◌≡◌, ◌+◌, ◌*◌, ◌^◌, ◌<◌, ◌≤◌, length, OnOk};
+ghost use Rattle.std.specs.Prelude.{◌≡◌, ◌+◌, ◌-◌, ◌*◌, ◌<◌, ◌≤◌, length, OnOk};
 ghost use Rattle.rq_parts.specs.DenseOctetMatrix.{entry_of};
 ghost use Rattle.rq_elimination.specs.RecordedRows.{AddsAtMost};
 ghost use Rattle.rq_elimination.specs.RowSteps.{CanTake};
 ghost use Rattle.rq_solver.specs.FourthPhase.{finish_bound, FinishesAllPivots, TookAtMost};
 ghost use Rattle.rq_solver.specs.Peeled.{inactive_count, IsUnderWay};
-ghost use Rattle.rq_solver.specs.SecondPhase.{TakesAll, TakesFrom};
+ghost use Rattle.rq_solver.specs.SecondPhase.{TakesAll, TakesBetween};
 
 use super::redo_additions::{OnSymbols, redo_additions};
 use crate::pi_solver::peeled::Peeled;
@@ -59,58 +59,69 @@ fn clear_columns(
     ensures taken { OnOk result (TakesAll inactive_rows.now inactive row (entry_of recorded.old.table row) recorded.old recorded.new) }
     ensures few { OnOk result (AddsAtMost inactive recorded.old recorded.new) }
 {
-    for (word, rows) in inactive_rows[..inactive].chunks(WORD_BITS).enumerate() {
-        take_word(row, rows, word, recorded)?;
+    for word in 0..inactive.div_ceil(WORD_BITS) {
+        let start = WORD_BITS * word;
+        take_word(
+            row,
+            inactive_rows,
+            word,
+            inactive.min(start + WORD_BITS),
+            recorded,
+        )?;
     }
     Ok(())
 }
 
-// Adds to a row multiples of the rows whose columns have bits in one word: to a row of bits those for
-// which the word has ones, its lowest bit for the first of them.
+// Adds to a row multiples of the rows whose columns have bits in one word, those before column `end`:
+// to a row of bits those for which the word has ones, its lowest bit for the first of them.
 #[inline(always)]
 fn take_word(
     row: usize,
     inactive_rows: &[usize],
     word: usize,
+    end: usize,
     recorded: &mut RecordedRows,
 ) -> Result<(), AllocError>
     requires rows { CanTake row inactive_rows.now recorded.old.table }
-    requires some { 0 < length inactive_rows.now }
-    requires few { length inactive_rows.now ≤ 64 }
-    requires width { 64 * word + length inactive_rows.now ≤ recorded.old.table.width }
-    requires fits { 64 * word + length inactive_rows.now < 2 ^ 64 }
-    ensures taken { OnOk result (TakesFrom inactive_rows.now row (64 * word) recorded.old recorded.new) }
-    ensures few { OnOk result (AddsAtMost (length inactive_rows.now) recorded.old recorded.new) }
+    requires some { 64 * word < end }
+    requires few { end ≤ 64 * word + 64 }
+    requires many { end ≤ length inactive_rows.now }
+    requires width { end ≤ recorded.old.table.width }
+    ensures taken { OnOk result (TakesBetween inactive_rows.now row (64 * word) end recorded.old recorded.new) }
+    ensures few { OnOk result (AddsAtMost (end - 64 * word) recorded.old recorded.new) }
 {
+    let start = WORD_BITS * word;
     let Some(bits) = recorded.table.word_of(row, word) else {
-        return take_octets(row, inactive_rows, WORD_BITS * word, recorded);
+        return take_octets(row, inactive_rows, start, end, recorded);
     };
-    let mut rest = bits & (u64::MAX >> (WORD_BITS - inactive_rows.len()));
+    let mut rest = bits & (u64::MAX >> (WORD_BITS - (end - start)));
     while rest != 0 {
         let f = rest.trailing_zeros() as usize;
-        recorded.record_multiple(row, inactive_rows[f], Octet::one())?;
+        recorded.record_multiple(row, inactive_rows[start + f], Octet::one())?;
         rest &= rest - 1;
     }
     Ok(())
 }
 
-// Adds multiples of rows to a row for the columns from `start` on, one that isn't 0 after another.
+// Adds multiples of rows to a row for the columns from one on and before another, one that isn't 0
+// after another.
 fn take_octets(
     row: usize,
     inactive_rows: &[usize],
     start: usize,
+    end: usize,
     recorded: &mut RecordedRows,
 ) -> Result<(), AllocError>
     requires rows { CanTake row inactive_rows.now recorded.old.table }
-    requires width { start + length inactive_rows.now ≤ recorded.old.table.width }
-    requires fits { start + length inactive_rows.now < 2 ^ 64 }
-    ensures taken { OnOk result (TakesFrom inactive_rows.now row start recorded.old recorded.new) }
-    ensures few { OnOk result (AddsAtMost (length inactive_rows.now) recorded.old recorded.new) }
+    requires ordered { start ≤ end }
+    requires many { end ≤ length inactive_rows.now }
+    requires width { end ≤ recorded.old.table.width }
+    ensures taken { OnOk result (TakesBetween inactive_rows.now row start end recorded.old recorded.new) }
+    ensures few { OnOk result (AddsAtMost (end - start) recorded.old recorded.new) }
 {
-    let end = start + inactive_rows.len();
     let mut from = start;
     while let Some((column, scalar)) = recorded.table.next_entry(row, from, end) {
-        recorded.record_multiple(row, inactive_rows[column - start], scalar)?;
+        recorded.record_multiple(row, inactive_rows[column], scalar)?;
         from = column + 1;
     }
     Ok(())
