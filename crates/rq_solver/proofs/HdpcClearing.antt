@@ -15,7 +15,7 @@ use Rattle.rq_elimination.proofs.Performing.{sum_step-here, sum_step-elsewhere, 
 use Rattle.rq_algebra.proofs.Choices.{if_same, if_apart}
 use Rattle.rq_solver.proofs.OctetSums.{plus_zero_times, plus_own}
 use Rattle.rq_solver.proofs.PivotsTaken.{cleared_small}
-use Rattle.rq_solver.proofs.OctetColumns.{before_column, from_column, zero_here, same_beside, same_behind, zeros_in_all}
+use Rattle.rq_solver.proofs.OctetColumns.{before_column, zero_here, same_beside, same_behind, zeros_in_all}
 
 -- a row with 0 in a column keeps it as it takes a multiple of another one
 zero_takes_zero : (dest src scalar : ℕ) (m : ℕ → ℕ → ℕ) (k : ℕ) → m src k ≡ 0 → m dest k ≡ 0 → rows_after octets (sum_step dest src scalar ∷ []) m dest k ≡ 0
@@ -145,25 +145,13 @@ module _ (rows order places : List ℕ) (first count width : ℕ) where
 
     other_rows : (i k : ℕ) → i ≢ row → now i k ≡ was i k
     unfolding now was
-    other_rows i k d = elim (cases_lt i row) [
-      | inl before ↦ elim (cases_eq k (at order place)) [
-        | inl e ↦ rw e (zero_here (at order place) (row + 1) octet i (omega (arith, before)) ∙ sym (zero_here (at order place) row octet i before))
-        | inr other ↦ same_beside (at order place) (row + 1) octet i k other ∙ sym (same_beside (at order place) row octet i k other)
-      ]
-      | inr from ↦ same_behind (at order place) (row + 1) octet i k (omega (arith, from, d)) ∙ sym (same_behind (at order place) row octet i k from)
-    ]
+    other_rows i k d = grind (arith, d)
 
     -- a row that has 0 there takes nothing
     module _ (zero : octet row (at order place) ≡ 0) where
       pub zeros_skipped : (i p : ℕ) → i < count → p < length rows → with_zeros (at order place) row octet i (at order p) ≡ with_zeros (at order place) (row + 1) octet i (at order p)
       unfolding now was
-      zeros_skipped i p l n = elim (cases_eq i row) [
-        | inr d ↦ sym (other_rows i (at order p) d)
-        | inl e ↦ rw e (same_behind (at order place) row octet row (at order p) (omega arith) ∙ elim (cases_eq (at order p) (at order place)) [
-          | inl f ↦ rw f (zero ∙ sym (zero_here (at order place) (row + 1) octet row (omega arith)))
-          | inr f ↦ sym (same_beside (at order place) (row + 1) octet row (at order p) f)
-        ])
-      ]
+      zeros_skipped i p l n = grind (arith, zero)
 
     -- another takes its octet times the pivot's row
     module _ (small : scalar < 256) (scalar_is : scalar ≡ octet row (at order place)) (performs : Performs (sum_step (first + row) (at rows place) scalar ∷ []) old new) where
@@ -217,10 +205,7 @@ module _ (rows order places : List ℕ) (first count width : ℕ) where
   -- the column has no pivot
   pub column_skipped : (column : ℕ) (octet was : ℕ → ℕ → ℕ) (old new : RecordedRows) → ((p : ℕ) → p < length rows → at order p ≢ column) → ChangesOctets rows order first count was (octets_from column octet) old new → ChangesOctets rows order first count was (octets_from (column + 1) octet) old new
   column_skipped column octet was old new none changes = changes_same was (octets_from column octet) (octets_from (column + 1) octet) old new
-      (λ i p l n. elim (cases_lt (at order p) column) [
-        | inl before ↦ before_column column octet i (at order p) before ∙ sym (before_column (column + 1) octet i (at order p) (omega (arith, before)))
-        | inr from ↦ let other = none p n in from_column column octet i (at order p) from ∙ sym (from_column (column + 1) octet i (at order p) (omega (arith, from, other)))
-      ])
+      (λ i p l n. grind (arith, none p n))
       changes
 
   -- there are zeros in the columns of all pivots

@@ -1,13 +1,13 @@
 -- Rows whose entries in the inactive columns are filled in: first those of the rows of bits, column by column, and then the rows of octets.
 use Rattle.std.proofs.Common.{◌≡◌, ◌≢◌, ℕ, ◌+◌, ◌<◌, List, length, min, take, refl, sym, ap, ◌∙◌, arith, inl, inr}
-use Rattle.std.proofs.lemmas.Bool.{cases_eq, cases_lt}
+use Rattle.std.proofs.lemmas.Bool.{cases_eq}
 use Rattle.rq_algebra.specs.Systems.{at}
 use Rattle.rq_parts.specs.DenseOctetMatrix.{OctetTable, entry_of, HasOctets}
 use Rattle.rq_standard.specs.ConstraintMatrix.{with_octet_rows}
 use Rattle.rq_elimination.specs.LeadingRows.{HasLeading, WritesRow}
 use Rattle.rq_solver.specs.InactiveColumns.{FillsColumn}
 use Rattle.rq_peeling.specs.SystemRows.{one_in}
-use Rattle.rq_solver.proofs.OctetRows.{octet_row, octet_row_or_bit_row, bit_row}
+use Rattle.rq_solver.proofs.OctetRows.{octet_row}
 use Rattle.rq_peeling.proofs.Counting.{count_next, count_skipped}
 use Rattle.rq_elimination.proofs.Writes.{SetsEntry}
 
@@ -41,14 +41,7 @@ module _ (lists : List (List ℕ)) (first : ℕ) (hdpc : OctetTable) (order : Li
 
   -- a row of octets changes no other row
   apart : (done i f : ℕ) → first + done ≢ i → rows_so_far done i f ≡ rows_so_far (done + 1) i f
-  apart done i f d =
-      let k : ℕ = at order (pivots + f) in
-      elim (octet_row_or_bit_row first done (entry_of hdpc) i) [
-        | inl q ↦ rw (← q.2) (octet_row first done (entry_of hdpc) (one_in lists) q.0 k q.1 ∙ sym (octet_row first (done + 1) (entry_of hdpc) (one_in lists) q.0 k (omega (arith, q.1))))
-        | inr out ↦
-            bit_row first done (entry_of hdpc) (one_in lists) i k out
-            ∙ sym (bit_row first (done + 1) (entry_of hdpc) (one_in lists) i k (λ j l e. elim (cases_lt j done) [ inl m ↦ out j m e | inr m ↦ let last : j ≡ done = omega (arith, l, m) in d (ap (λ (n : ℕ). first + n) (sym last) ∙ e) ]))
-      ]
+  apart done i f d = grind (arith, d)
 
   pub leading_next : (inactive done : ℕ) (old new : OctetTable) → HasLeading (length lists) inactive (length lists) (rows_so_far done) old → WritesRow (first + done) 0 inactive (λ f. entry_of hdpc done (at order (pivots + f))) old new
       → HasLeading (length lists) inactive (length lists) (rows_so_far (done + 1)) new

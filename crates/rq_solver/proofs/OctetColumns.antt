@@ -1,34 +1,24 @@
 -- What HDPC rows have in the columns that weren't worked on yet.
-use Rattle.std.proofs.Common.{◌≡◌, ◌≢◌, ℕ, ◌+◌, ◌<◌, ◌≤◌, Bool, refl, sym, ap, ◌∙◌, arith, inl, inr, lit<, if◌then◌else◌}
+use Rattle.std.proofs.Common.{◌≡◌, ◌≢◌, ℕ, ◌+◌, ◌<◌, ◌≤◌, sym, ap, arith, inl, inr, if◌then◌else◌}
 use Rattle.std.specs.Prelude.{nat_lt}
-use Rattle.std.proofs.lemmas.Bool.{cases_eq, cases_lt, lt-ltb, le-ltb}
+use Rattle.std.proofs.lemmas.Bool.{cases_lt}
 use Rattle.rq_algebra.specs.Steps.{AddsRow, ScalesRow}
 use Rattle.rq_algebra.specs.Systems.{HasElements}
 use Rattle.rq_algebra.proofs.Sums.{mul_zero}
 use Rattle.rq_standard.specs.OctetField.{octets}
 use Rattle.rq_solver.specs.HdpcOctets.{octets_from, with_zeros}
-use Rattle.rq_algebra.proofs.Choices.{if_same, if_apart}
 
 -- ---- columns from one on
 
-pub if_below : (a b x y : ℕ) → a < b → (if nat_lt a b then x else y) ≡ x
-if_below a b x y l = ap (λ (t : Bool). if t then x else y) (lt-ltb a b l)
-
-pub if_from : (a b x y : ℕ) → b ≤ a → (if nat_lt a b then x else y) ≡ y
-if_from a b x y l = ap (λ (t : Bool). if t then x else y) (le-ltb a b l)
-
 module _ (column : ℕ) (octet : ℕ → ℕ → ℕ) where
   pub before_column : (i k : ℕ) → k < column → octets_from column octet i k ≡ 0
-  before_column i k l = if_below k column 0 (octet i k) l
+  before_column i k l = grind (arith, l)
 
   pub from_column : (i k : ℕ) → column ≤ k → octets_from column octet i k ≡ octet i k
-  from_column i k l = if_from k column 0 (octet i k) l
+  from_column i k l = grind (arith, l)
 
   pub from_elements : (count width : ℕ) → HasElements octets count width octet → HasElements octets count width (octets_from column octet)
-  from_elements count width are = λ i k l m. elim (cases_lt k column) [
-    | inl before ↦ rw (before_column i k before) (lit< tt)
-    | inr from ↦ rw (from_column i k from) (are i k l m)
-  ]
+  from_elements count width are = λ i k l m. grind (arith, are i k l m)
 
 module _ (column count width dest scalar : ℕ) (was now : ℕ → ℕ → ℕ) where
   pub from_adds : (src : ℕ) → AddsRow octets count width dest src scalar was now → AddsRow octets count width dest src scalar (octets_from column was) (octets_from column now)
@@ -53,26 +43,14 @@ module _ (column count width dest scalar : ℕ) (was now : ℕ → ℕ → ℕ) 
 
 module _ (column done : ℕ) (octet : ℕ → ℕ → ℕ) where
   pub zero_here : (i : ℕ) → i < done → with_zeros column done octet i column ≡ 0
-  zero_here i l = if_below i done _ _ l ∙ if_same column column 0 (octet i column) refl
+  zero_here i l = grind (arith, l)
 
   pub same_beside : (i k : ℕ) → k ≢ column → with_zeros column done octet i k ≡ octet i k
-  same_beside i k d = elim (cases_lt i done) [
-    | inl before ↦ if_below i done _ _ before ∙ if_apart k column 0 (octet i k) d
-    | inr from ↦ if_from i done _ _ from
-  ]
+  same_beside i k d = grind (arith, d)
 
   pub same_behind : (i k : ℕ) → done ≤ i → with_zeros column done octet i k ≡ octet i k
-  same_behind i k l = if_from i done _ _ l
+  same_behind i k l = grind (arith, l)
 
 -- where all rows have 0 in the column, those from place `done` on from the start, only the columns behind it are left
 pub zeros_in_all : (column done count : ℕ) (octet : ℕ → ℕ → ℕ) → ((i : ℕ) → done ≤ i → i < count → octet i column ≡ 0) → (i k : ℕ) → i < count → with_zeros column done (octets_from column octet) i k ≡ octets_from (column + 1) octet i k
-zeros_in_all column done count octet zeros i k l = elim (cases_eq k column) [
-  | inl e ↦ rw e (elim (cases_lt i done) [
-    | inl first ↦ zero_here column done (octets_from column octet) i first
-    | inr behind ↦ same_behind column done (octets_from column octet) i column behind ∙ from_column column octet i column (omega arith) ∙ zeros i behind l
-  ] ∙ sym (before_column (column + 1) octet i column (omega arith)))
-  | inr d ↦ same_beside column done (octets_from column octet) i k d ∙ elim (cases_lt k column) [
-    | inl before ↦ before_column column octet i k before ∙ sym (before_column (column + 1) octet i k (omega (arith, before)))
-    | inr from ↦ from_column column octet i k from ∙ sym (from_column (column + 1) octet i k (omega (arith, from, d)))
-  ]
-]
+zeros_in_all column done count octet zeros i k l = grind (arith, l, zeros i)
