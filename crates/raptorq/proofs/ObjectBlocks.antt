@@ -1,6 +1,7 @@
 -- The blocks of an object in a list, in the order of their numbers.
-use Rattle.std.proofs.Common.{◌≡◌, ◌≢◌, ℕ, suc, ◌+◌, ◌<◌, Bool, true, false, List, [], ◌++◌, length, get_or, set, take, map, All, Option, Some, None, Result, Ok, Err, refl, sym, ap, ◌∙◌, subst, arith, eq-eqb}
+use Rattle.std.proofs.Common.{◌≡◌, ◌≢◌, ℕ, suc, ◌+◌, ◌<◌, Bool, true, false, List, [], ◌++◌, length, get_or, set, take, map, All, Option, Some, None, Result, Ok, Err, refl, sym, ap, ◌∙◌, subst, arith, eq-eqb, inl, inr}
 use Rattle.std.specs.Prelude.{is_some, IsSome, option_map, unwrap_or, ltb, IfSome}
+use Rattle.rq_bytes.specs.declared.error.Error.{Error}
 use denote.Ref.{Bor}
 use Rattle.std.specs.List.{range_with_len}
 use Rattle.std.specs.Option.{option_copied}
@@ -23,8 +24,7 @@ use Rattle.rq_block.specs.declared.decoder.last_outcome.LastOutcome.TheVariants.
 use Rattle.raptorq.specs.Decoder.{received_at, answer_at, answer_of, IsBlockAt}
 use Rattle.rq_block.specs.RefusedBlocks.{block_refusal}
 use Rattle.raptorq.specs.Stopping.{AddsHereOrStops, AddsOrStops}
-use Rattle.rq_block.specs.declared.decoder.packet_stop.PacketStop.{PacketStop}
-use Rattle.rq_block.specs.declared.decoder.packet_stop.PacketStop.TheVariants.{Refused, NotRecorded, NotSolved, Contradicted, NotJoined}
+use Rattle.raptorq.specs.Refused.{packet_refusal}
 use Rattle.rq_block.proofs.Numbered.{length-mapped, length-numbered, mapped_through}
 use Rattle.raptorq.specs.declared.decoder.object.ObjectBlock.{ObjectBlock}
 
@@ -125,16 +125,14 @@ module _ (c : Configuration) (items : List ObjectBlock) (p : Packet) (x y : Obje
       λ i. record { configuration = c; received = λ n. get_or (received_same i) n (nothing_received c n no_row 0); answer = λ n. get_or (answer_same i) n None }
 
   -- what the packet did to its block it did to the object's decoder
-  pub takes_at : (result : Result (Unit {0}) PacketStop) → AddsHereOrStops (received_of x.decoder) (answer_of x) p result (received_of y.decoder) (answer_of y) → AddsOrStops (state c items) p result (state c (set items p.id.block y))
-  takes_at (Ok u) so = adds_at so
-  takes_at (Err NotSolved) so = records_at so
-  takes_at (Err Contradicted) so = record {
-    records = records_at so.0;
-    contradictory = subst IsContradictory (sym (received_here c (set items p.id.block y) p.id.block y (within items p.id.block y below) (set_there items p.id.block y below))) so.1;
-  }
-  takes_at (Err NotRecorded) so = stays_at so.0 so.1
-  takes_at (Err NotJoined) so = so
-  takes_at (Err (Refused e)) so = absurd so
+  pub takes_at : (result : Result (Unit {0}) Error) → packet_refusal c p ≡ Ok tt
+      → AddsHereOrStops (received_of x.decoder) (answer_of x) p result (received_of y.decoder) (answer_of y) → AddsOrStops (state c items) p result (state c (set items p.id.block y))
+  takes_at (Ok u) passes so = (passes, adds_at so)
+  takes_at (Err e) passes (inl (is, inl same)) = inr (inl (passes, is, inl (stays_at same.0 same.1)))
+  takes_at (Err e) passes (inl (is, inr more)) = inr (inl (passes, is, inr (records_at more)))
+  takes_at (Err e) passes (inr found) =
+      let there = received_here c (set items p.id.block y) p.id.block y (within items p.id.block y below) (set_there items p.id.block y below) in
+      inr (inr (passes, found.0, record { records = records_at found.1; contradictory = subst IsContradictory (sym there) found.2 }))
 
 -- ---- all blocks joined
 

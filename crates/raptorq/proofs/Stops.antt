@@ -1,21 +1,18 @@
 -- What a decoder of an object stands for where the work on a packet stopped.
-use Rattle.std.proofs.Common.{◌≡◌, ◌≢◌, ◌⊎◌, eqb, ltb, Bool, true, false, length, Result, Ok, Err, sym, ◌∙◌, subst, refl, inl, inr}
+use Rattle.std.proofs.Common.{◌≡◌, ◌≢◌, eqb, ltb, Bool, true, false, length, Result, Ok, Err, IfErr, sym, ◌∙◌, subst, refl, inl, inr}
 use Rattle.rq_bytes.specs.declared.error.Error.{Error}
 use Rattle.rq_bytes.specs.declared.error.Error.TheVariants.{OutOfMemory, Contradiction}
 use Rattle.rq_standard.specs.Configuration.{IsAligned}
 use Rattle.rq_standard.specs.Packet.{Packet}
 use Rattle.rq_standard.specs.DecoderState.{State}
 use Rattle.rq_standard.specs.DecoderSteps.{Adds, StopsEarly, Stops, Contradicts, KeepsContradictions}
-use Rattle.rq_standard.specs.Standing.{IsHonestPacket, LeavesBlockLate, AnswersLateBlock}
+use Rattle.rq_standard.specs.Standing.{IsHonestPacket}
 use Rattle.rq_standard.specs.TableRows.{IsChecked}
 use Rattle.rq_standard.proofs.Contradictions.{keeps_added, keeps_recorded, keeps_same, honest_fits, no_more, received_more}
-use Rattle.rq_standard.proofs.StandingSteps.{stands_more, answers_late, leaves_late}
+use Rattle.rq_standard.proofs.StandingSteps.{stands_more, answers_late}
 use Rattle.raptorq.specs.Refused.{packet_refusal, IsPacketRefusal}
-use Rattle.raptorq.specs.Stopping.{StopsAsTested, AddsOrStops, AddsAndJoinsOrStops}
-use Rattle.rq_block.specs.PacketStops.{refusal_of}
+use Rattle.raptorq.specs.Stopping.{AddsOrStops, StopsBy}
 use Rattle.raptorq.specs.TakesPacket.{TakesPacket}
-use Rattle.rq_block.specs.declared.decoder.packet_stop.PacketStop.{PacketStop}
-use Rattle.rq_block.specs.declared.decoder.packet_stop.PacketStop.TheVariants.{Refused, NotRecorded, NotSolved, Contradicted, NotJoined}
 use Rattle.rq_block.proofs.TakenPackets.{packet_tests}
 use Rattle.raptorq.proofs.FollowedRuns.{passes_below, taken_fits, follows_more, refused_next}
 use Rattle.raptorq.proofs.Lists.{packet_refusal-packet}
@@ -27,81 +24,56 @@ never_contradiction true true h = absurd (cc h)
 never_contradiction true false h = absurd (cc h)
 never_contradiction false s h = absurd (cc h)
 
--- what a caller sees is the tests' refusal, or comes where they refuse nothing
-refused_as_tested : (at : PacketStop) (tested : Result (Unit {0}) Error) → StopsAsTested {X = Unit {0}} (Err at) tested → IsPacketRefusal (refusal_of at) tested
-refused_as_tested (Refused e) tested is = subst (IsPacketRefusal e) (sym is) refl
-refused_as_tested NotRecorded tested is = subst (IsPacketRefusal OutOfMemory) (sym is) (inl refl)
-refused_as_tested NotSolved tested is = subst (IsPacketRefusal OutOfMemory) (sym is) (inl refl)
-refused_as_tested Contradicted tested is = subst (IsPacketRefusal Contradiction) (sym is) (inr refl)
-refused_as_tested NotJoined tested is = subst (IsPacketRefusal OutOfMemory) (sym is) (inl refl)
-
 -- ---- what was received then
 
-module _ (old : State) (p : Packet) (new : State) where
-  -- nothing changed, or the packet is recorded
-  pub stops_early : (at : PacketStop) → AddsOrStops old p (Err at) new → StopsEarly old p new
-  stops_early (Refused e) so = inl so
-  stops_early NotRecorded so = inl so
-  stops_early NotSolved so = inr so
-  stops_early Contradicted so = inr so.records
-  stops_early NotJoined so = absurd so
+module _ (old : State) (p : Packet) (e : Error) (new : State) where
+  pub stops_early : StopsBy (StopsEarly old p new) old p e new → StopsEarly old p new
+  stops_early (inl refused) = inl refused.1
+  stops_early (inr (inl memory)) = memory.2
+  stops_early (inr (inr found)) = inr found.2.records
 
   -- where no blocks are joined, less can stop
-  pub not_joined : (at : PacketStop) → AddsOrStops old p (Err at) new → AddsAndJoinsOrStops old p (Err at) new
-  not_joined (Refused e) so = so
-  not_joined NotRecorded so = so
-  not_joined NotSolved so = so
-  not_joined Contradicted so = so
-  not_joined NotJoined so = absurd so
+  pub not_joined : StopsBy (StopsEarly old p new) old p e new → StopsBy (Stops old p new) old p e new
+  not_joined (inl refused) = inl refused
+  not_joined (inr (inl memory)) = inr (inl (memory.0, memory.1, inl memory.2))
+  not_joined (inr (inr found)) = inr (inr found)
 
-  pub stops : (at : PacketStop) → AddsAndJoinsOrStops old p (Err at) new → Stops old p new
-  stops (Refused e) so = inl (inl so)
-  stops NotRecorded so = inl (inl so)
-  stops NotSolved so = inl (inr so)
-  stops Contradicted so = inl (inr so.records)
-  stops NotJoined so = inr so
+  -- what a caller sees is the tests' refusal, or comes where they refuse nothing
+  refused_as_tested : StopsBy (Stops old p new) old p e new → IsPacketRefusal e (packet_refusal old.configuration p)
+  refused_as_tested (inl refused) = subst (IsPacketRefusal e) (sym refused.0) refl
+  refused_as_tested (inr (inl memory)) = subst (IsPacketRefusal e) (sym memory.0) (inl memory.1)
+  refused_as_tested (inr (inr found)) = subst (IsPacketRefusal e) (sym found.0) (inr found.1)
 
   -- a refusal by the tests changes nothing
-  unchanged : (at : PacketStop) → AddsAndJoinsOrStops old p (Err at) new → refusal_of at ≢ OutOfMemory → refusal_of at ≢ Contradiction → new ≡ old
-  unchanged (Refused e) so memory contradiction = so
-  unchanged NotRecorded so memory contradiction = so
-  unchanged NotSolved so memory contradiction = absurd (memory refl)
-  unchanged Contradicted so memory contradiction = absurd (contradiction refl)
-  unchanged NotJoined so memory contradiction = absurd (memory refl)
+  unchanged : StopsBy (Stops old p new) old p e new → e ≢ OutOfMemory → e ≢ Contradiction → new ≡ old
+  unchanged (inl refused) memory contradiction = refused.1
+  unchanged (inr (inl stop)) memory contradiction = absurd (memory stop.1)
+  unchanged (inr (inr stop)) memory contradiction = absurd (contradiction stop.1)
 
   -- a contradiction stays
-  keeps_stopped : (at : PacketStop) → AddsAndJoinsOrStops old p (Err at) new → KeepsContradictions old new
-  keeps_stopped (Refused e) so = keeps_same old new so
-  keeps_stopped NotRecorded so = keeps_same old new so
-  keeps_stopped NotSolved so = keeps_recorded old p new so
-  keeps_stopped Contradicted so = keeps_recorded old p new so.records
-  keeps_stopped NotJoined so = keeps_added old p new so
+  keeps_left : Stops old p new → KeepsContradictions old new
+  keeps_left (inl (inl same)) = keeps_same old new same
+  keeps_left (inl (inr records)) = keeps_recorded old p new records
+  keeps_left (inr adds) = keeps_added old p new adds
 
-  -- where the blocks weren't joined, it stands for the longer list
-  pub late_or_not : (at : PacketStop) → IsAligned old.configuration → AddsAndJoinsOrStops old p (Err at) new → LeavesBlockLate old p new ⊎ AnswersLateBlock old p new
-  late_or_not (Refused e) aligned so = inl (leaves_late p old new (inl so))
-  late_or_not NotRecorded aligned so = inl (leaves_late p old new (inl so))
-  late_or_not NotSolved aligned so = inl (leaves_late p old new (inr so))
-  late_or_not Contradicted aligned so = inl (leaves_late p old new (inr so.records))
-  late_or_not NotJoined aligned so = inr (answers_late p old new aligned so)
+  keeps_stopped : StopsBy (Stops old p new) old p e new → KeepsContradictions old new
+  keeps_stopped (inl refused) = keeps_same old new refused.1
+  keeps_stopped (inr (inl memory)) = keeps_left memory.2
+  keeps_stopped (inr (inr found)) = keeps_recorded old p new found.2.records
 
   -- what the tests refuse is no contradiction
-  contradicts : (at : PacketStop) → StopsAsTested {X = Unit {0}} (Err at) (packet_refusal old.configuration p) → AddsAndJoinsOrStops old p (Err at) new → refusal_of at ≡ Contradiction → Contradicts old p new
-  contradicts (Refused e) tested so is = absurd (never_contradiction (ltb p.id.block old.configuration.source_blocks) (eqb (length p.payload) old.configuration.symbol_size) (tested ∙ cc is))
-  contradicts NotRecorded tested so is = absurd (cc is)
-  contradicts NotSolved tested so is = absurd (cc is)
-  contradicts Contradicted tested so is = so
-  contradicts NotJoined tested so is = absurd (cc is)
+  contradicts : StopsBy (Stops old p new) old p e new → e ≡ Contradiction → Contradicts old p new
+  contradicts (inl refused) is = absurd (never_contradiction (ltb p.id.block old.configuration.source_blocks) (eqb (length p.payload) old.configuration.symbol_size) (refused.0 ∙ cc is))
+  contradicts (inr (inl memory)) is = absurd (cc (memory.1, is))
+  contradicts (inr (inr found)) is = found.2
 
   -- a packet of the object finds no memory, at the worst
-  honest_stops : (at : PacketStop) → StopsAsTested {X = Unit {0}} (Err at) (packet_refusal old.configuration p) → AddsAndJoinsOrStops old p (Err at) new → IsHonestPacket old p → refusal_of at ≡ OutOfMemory
-  honest_stops (Refused e) tested so honest =
+  honest_stops : StopsBy (Stops old p new) old p e new → IsHonestPacket old p → e ≡ OutOfMemory
+  honest_stops (inl refused) honest =
       let shape = honest.stands.shape p.id.block honest.of_object.block in
-      absurd (cc (tested, packet_refusal-packet honest.table old.configuration honest.object p (subst IsChecked shape.row shape.checked) honest.of_object))
-  honest_stops NotRecorded tested so honest = refl
-  honest_stops NotSolved tested so honest = refl
-  honest_stops Contradicted tested so honest = absurd (honest_fits old p new honest so)
-  honest_stops NotJoined tested so honest = refl
+      absurd (cc (refused.0, packet_refusal-packet honest.table old.configuration honest.object p (subst IsChecked shape.row shape.checked) honest.of_object))
+  honest_stops (inr (inl memory)) honest = memory.1
+  honest_stops (inr (inr found)) honest = absurd (honest_fits old p new honest found.2)
 
 -- ---- what is said of both calls
 
@@ -126,22 +98,32 @@ module _ {X : Type 0} (old : State) (p : Packet) (new : State) (same : new.confi
         answers_late = answers_late p old new aligned adds;
       }
 
-  pub takes_stopped : (at : PacketStop) → StopsAsTested {X = Unit {0}} (Err at) (packet_refusal old.configuration p) → AddsAndJoinsOrStops old p (Err at) new → TakesPacket {X = X} old p (Err (refusal_of at)) new
-  takes_stopped at tested so =
-      let refused = refused_as_tested at (packet_refusal old.configuration p) tested in
+  pub takes_stopped : (e : Error) → StopsBy (Stops old p new) old p e new → TakesPacket {X = X} old p (Err e) new
+  takes_stopped e so =
+      let refused = refused_as_tested old p e new so in
       record {
         refused = refused;
         accepted = tt;
-        unchanged = unchanged old p new at so;
+        unchanged = unchanged old p e new so;
         adds = tt;
         configuration = same;
-        contradiction = contradicts old p new at tested so;
+        contradiction = contradicts old p e new so;
         received = tt;
         goes_on = tt;
-        keeps = keeps_stopped old p new at so;
-        next = λ table earlier follows. refused_next table earlier p old new follows (refusal_of at) refused (contradicts old p new at tested so);
+        keeps = keeps_stopped old p e new so;
+        next = λ table earlier follows. refused_next table earlier p old new follows e refused (contradicts old p e new so);
         follows = tt;
-        honest = honest_stops old p new at tested so;
+        honest = honest_stops old p e new so;
         stands = tt;
         answers_late = tt;
       }
+
+module _ (old : State) (p : Packet) (new : State) where
+  pub takes_either : new.configuration ≡ old.configuration → IsAligned old.configuration → (r : Result (Unit {0}) Error) → AddsOrStops old p r new → TakesPacket old p r new
+  takes_either same aligned (Ok x) so = takes_added old p new same x aligned so.0 so.1
+  takes_either same aligned (Err e) so = takes_stopped old p new same e (not_joined old p e new so)
+
+  -- what is said of want of memory, from what may be left by it
+  pub where_refused : {Q : Type 0} (r : Result (Unit {0}) Error) → AddsOrStops old p r new → (StopsEarly old p new → Q) → IfErr r (λ e. e ≡ OutOfMemory → Q)
+  where_refused (Ok x) so then = tt
+  where_refused (Err e) so then = λ memory. then (stops_early old p e new so)

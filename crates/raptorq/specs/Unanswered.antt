@@ -1,5 +1,5 @@
 -- What is said of a block of an object by what was received of it and its answer.
-use Rattle.std.specs.Prelude.{◌≡◌, ℕ, ◌-◌, List, Option, Some, MatchOption, None}
+use Rattle.std.specs.Prelude.{◌≡◌, ℕ, List, Option, Some, MatchOption, None}
 use Rattle.rq_standard.specs.ReceivedBlock.{ReceivedBlock, has_received, ReceivedDetermine, IsHomogeneous}
 use Rattle.rq_standard.specs.Headline.{known_ids}
 use Rattle.rq_block.specs.MissingPackets.{TellsMissing, missing_after}

@@ -2,4 +2,4 @@
 mod object;
 
 pub use object::{Decoder, decode_all};
-pub use rq_block::decoder::{PacketStop, SourceBlockDecoder};
+pub use rq_block::decoder::SourceBlockDecoder;

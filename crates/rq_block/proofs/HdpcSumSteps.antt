@@ -1,5 +1,5 @@
 -- The sums of the HDPC equations over intermediate symbols, by Horner's rule.
-use Rattle.std.proofs.Common.{◌≡◌, ◌≢◌, ◌↔◌, ℕ, suc, ◌+◌, ◌-◌, ◌<◌, ◌||◌, eqb, List, [], ◌∷◌, ◌++◌, Result, Ok, Err, IfOk, length, map, get_or, set, None, refl, sym, ap, ◌∙◌, arith, subst, inl, inr}
+use Rattle.std.proofs.Common.{◌≡◌, ◌≢◌, ◌↔◌, ℕ, suc, ◌+◌, ◌-◌, ◌<◌, ◌||◌, eqb, List, [], ◌∷◌, ◌++◌, length, map, get_or, set, None, refl, sym, ap, ◌∙◌, arith, subst, inl, inr}
 use Rattle.std.proofs.lemmas.Bool.{cases_eq, cases_lt, eq-eqb, ne_eqb}
 use Rattle.std.proofs.lemmas.Iterator.{YieldsList-from_range, items_from_drains}
 use Rattle.std.proofs.lemmas.List.{length-append, length-map, length-set, map-id, get_or-map, get_or-set_same, get_or-set_other, get_or_append_left}
@@ -17,8 +17,6 @@ use Rattle.rq_algebra.proofs.Placewise.{at-zeros, add_symbols_at, scale_at}
 use Rattle.rq_algebra.proofs.Sums.{add_mul, add_zero, zero_mul, dot-suc, dot_one, dot_split}
 use Rattle.rq_algebra.proofs.SymbolSums.{symbol_elements}
 use Rattle.rq_bytes.specs.SymbolSlab.{Slab, Allows, after, slab_of, symbol_in}
-use Rattle.rq_bytes.specs.Refusals.{IsAnswer}
-use Rattle.rq_bytes.specs.declared.error.Error.{Error}
 use Rattle.rq_standard.specs.declared.row.TableRow.{TableRow}
 use Rattle.rq_standard.specs.OctetField.{octets, octet_laws}
 use Rattle.rq_standard.specs.Octets.{octet_mul, octet_inverse, octet_power}
@@ -120,10 +118,6 @@ sum_places_below row numbers places are is k d some lt =
     ]
 
 -- what is answered, where it is
-pub answered_slab : (result : Result Slab Error) (slab : Slab) (P : Slab → Type 0) → IsAnswer (λ (s : Slab). s) result (Ok slab) → ((s : Slab) → s ≡ slab → P s) → IfOk result P
-answered_slab (Ok s) slab P is all = all s (cc is)
-answered_slab (Err e) slab P is all = tt
-
 -- ---- the sums, column by column
 
 module _ (row : TableRow) (column : ℕ → List ℕ) (size : ℕ) where

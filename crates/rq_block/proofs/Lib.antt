@@ -7,6 +7,7 @@ pub mod HdpcSumSteps
 pub mod IdCounts
 pub mod Interleaving
 pub mod Intermediates
+pub mod Keeping
 pub mod Listing
 pub mod LostSymbols
 pub mod MissingCounts

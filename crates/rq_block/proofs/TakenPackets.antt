@@ -1,20 +1,17 @@
 -- Packets that a block's decoder takes one after another.
-use Rattle.std.proofs.Common.{◌≡◌, ℕ, Bool, true, false, eqb, cond, List, [], ◌∷◌, ◌++◌, length, Option, Some, Result, Ok, Err, refl, sym, ap, ◌∙◌, subst, inl, inr}
+use Rattle.std.proofs.Common.{◌≡◌, ℕ, Bool, true, false, eqb, cond, List, [], ◌∷◌, ◌++◌, length, Option, Some, Result, Ok, Err, refl, sym, ap, ◌∙◌, subst, inr}
 use Rattle.std.specs.Prelude.{not}
 use Rattle.std.specs.Iterator.{Yields}
 use Rattle.std.proofs.lemmas.Bool.{eqb-true}
 use Rattle.rq_bytes.specs.declared.error.Error.{Error}
-use Rattle.rq_bytes.specs.declared.error.Error.TheVariants.{OutOfMemory, UnknownBlock, WrongPayloadSize}
+use Rattle.rq_bytes.specs.declared.error.Error.TheVariants.{UnknownBlock, WrongPayloadSize}
 use Rattle.rq_bytes.specs.Refusals.{IsRefusal}
 use Rattle.rq_standard.specs.Packet.{Packet, SymbolId}
 use Rattle.rq_standard.specs.ReceivedBlock.{ReceivedBlock, with_received}
 use Rattle.rq_standard.proofs.StandingSteps.{AllByRecursion-append}
 use Rattle.rq_block.specs.Missing.{AddsUnlessThere}
 use Rattle.rq_block.specs.RefusedBlocks.{block_refusal}
-use Rattle.rq_block.specs.Decoding.{all_recorded, AreTaken, StopsAtLast, Decodes, DecodesUntil}
-use Rattle.rq_block.specs.PacketStops.{StopsPacket, refusal_of}
-use Rattle.rq_block.specs.declared.decoder.packet_stop.PacketStop.{PacketStop}
-use Rattle.rq_block.specs.declared.decoder.packet_stop.PacketStop.TheVariants.{Refused, NotRecorded, NotSolved, Contradicted, NotJoined}
+use Rattle.rq_block.specs.Decoding.{all_recorded, AreTaken, Decodes}
 
 -- what is refused of a packet by a test of its block, and then by one of its payload's size
 abbrev pub packet_tests : Bool → Bool → Result (Unit {0}) Error
@@ -62,29 +59,19 @@ pub recorded-more : (h g new : ReceivedBlock) (packets : List Packet) (p : Packe
 recorded-more h g new packets p is one = one ∙ ap (λ k. with_received k p.id.esi p.payload) is ∙ sym (all_recorded-push h packets p)
 
 module _ {T : Type 0} (steps : T → Option Packet → T → Type 0) (iterator : T) where
-  stops_at : (h g new : ReceivedBlock) (packets : List Packet) (p : Packet) (after : T) (Stops : Result (Unit {0}) Error → Type 0) → Yields steps iterator (packets ++ p ∷ []) after → AreTaken h packets → g ≡ all_recorded h packets → new ≡ g → Stops (block_refusal g p)
-      → StopsAtLast steps iterator h (packets ++ p ∷ []) Stops new
-  stops_at h g new packets p after Stops gave taken is same stops = record { after = after; gave = gave; front = packets; last = p; whole = refl; taken = taken; recorded = same ∙ is; stopped = subst Stops (refusal_kept h g packets p is) stops }
-
   -- the packet that stops the call
-  pub stopped : (h g new : ReceivedBlock) (packets : List Packet) (p : Packet) (after : T) (at : PacketStop) → Yields steps iterator (packets ++ p ∷ []) after → AreTaken h packets → g ≡ all_recorded h packets → new ≡ g → StopsPacket at (block_refusal g p)
-      → DecodesUntil steps iterator h (packets ++ p ∷ []) (Err at) new
-  stopped h g new packets p after (Refused e) gave taken is same stops = stops_at h g new packets p after (StopsPacket (Refused e)) gave taken is same stops
-  stopped h g new packets p after NotRecorded gave taken is same stops = stops_at h g new packets p after (StopsPacket NotRecorded) gave taken is same stops
-  stopped h g new packets p after NotSolved gave taken is same stops = absurd stops
-  stopped h g new packets p after Contradicted gave taken is same stops = absurd stops
-  stopped h g new packets p after NotJoined gave taken is same stops = absurd stops
-
-  seen_at : (old : ReceivedBlock) (packets : List Packet) (new : ReceivedBlock) (Stops Seen : Result (Unit {0}) Error → Type 0) → ((tested : Result (Unit {0}) Error) → Stops tested → Seen tested) → StopsAtLast steps iterator old packets Stops new → StopsAtLast steps iterator old packets Seen new
-  seen_at old packets new Stops Seen weaker d = record { after = d.after; gave = d.gave; front = d.front; last = d.last; whole = d.whole; taken = d.taken; recorded = d.recorded; stopped = weaker (block_refusal old d.last) d.stopped }
-
-  -- what a caller sees of it
-  pub decodes_seen : (old : ReceivedBlock) (packets : List Packet) (at : PacketStop) (new : ReceivedBlock) → DecodesUntil steps iterator old packets (Err at) new → Decodes steps iterator old packets (Err (refusal_of at)) new
-  decodes_seen old packets (Refused e) new d = inr (seen_at old packets new (StopsPacket (Refused e)) (IsRefusal e) (λ tested is. subst (IsRefusal e) (sym is) refl) d)
-  decodes_seen old packets NotRecorded new d = inr (seen_at old packets new (StopsPacket NotRecorded) (IsRefusal OutOfMemory) (λ tested is. subst (IsRefusal OutOfMemory) (sym is) refl) d)
-  decodes_seen old packets NotSolved new d = inl (d, inl refl)
-  decodes_seen old packets Contradicted new d = inl (d.0, inr (refl, d.1))
-  decodes_seen old packets NotJoined new d = absurd d
+  pub stopped : (h g new : ReceivedBlock) (packets : List Packet) (p : Packet) (after : T) (e : Error) → Yields steps iterator (packets ++ p ∷ []) after
+      → AreTaken h packets → g ≡ all_recorded h packets → new ≡ g → IsRefusal e (block_refusal g p) → Decodes steps iterator h (packets ++ p ∷ []) (Err e) new
+  stopped h g new packets p after e gave taken is same refused = inr (record {
+    after = after;
+    gave = gave;
+    front = packets;
+    last = p;
+    whole = refl;
+    taken = taken;
+    recorded = same ∙ is;
+    stopped = subst (IsRefusal e) (refusal_kept h g packets p is) refused;
+  })
 
 -- an iterator's next item, after those that it gave
 pub Yields-push : {S : Type 0} (steps : S → Option Packet → S → Type 0) (s : S) (packets : List Packet) (t : S) (p : Packet) (u : S) → Yields steps s packets t → steps t (Some p) u → Yields steps s (packets ++ p ∷ []) u

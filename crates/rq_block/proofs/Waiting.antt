@@ -6,7 +6,7 @@ use Rattle.std.proofs.lemmas.Bool.{cases_eq}
 use Rattle.rq_algebra.specs.Systems.{at}
 use Rattle.rq_standard.specs.declared.row.TableRow.{TableRow}
 use Rattle.rq_standard.specs.Headline.{known_ids, DetermineBlock}
-use Rattle.rq_standard.specs.ReceivedBlock.{ReceivedBlock, with_received, CanAnswer, IsContradictory}
+use Rattle.rq_standard.specs.ReceivedBlock.{ReceivedBlock, with_received, IsContradictory}
 use Rattle.rq_standard.specs.Received.{or_later}
 use Rattle.rq_standard.specs.IdLists.{IsListOf}
 use Rattle.rq_block.specs.Missing.{AddsUnlessThere}
@@ -16,13 +16,6 @@ use Rattle.rq_block.proofs.Payloads.{added_elsewhere}
 use Rattle.rq_block.proofs.ReceivedEquations.{known-more}
 use Rattle.rq_block.proofs.Undetermined.{shows_known}
 use Rattle.rq_standard.proofs.Contradictions.{contradicts_more}
-
-abbrev Waits : ReceivedBlock → Type 0
-Waits h = CanAnswer h → ⊥
-
--- what was received is the same
-pub waits-same : (h : ReceivedBlock) (received : ℕ → Option (List ℕ)) → ((e : ℕ) → received e ≡ h.received e) → Waits h → Waits (record h { received = received })
-waits-same h received same waits = subst (λ (f : ℕ → Option (List ℕ)). Waits (record h { received = f })) (λ i e. sym (same e) i) waits
 
 -- a payload of an id that was received already
 later-stays : (o later : Option (List ℕ)) → is_some o ≡ true → or_later o later ≡ o
@@ -35,13 +28,9 @@ repeat-same was now esi payload kept received grown same_ids e = elim (cases_eq 
   | inr ne ↦ added_elsewhere was now esi payload grown e ne
 ]
 
-pub waits-repeat : (h : ReceivedBlock) (received : ℕ → Option (List ℕ)) (esi : ℕ) (payload : List ℕ) (kept : Bool) → Waits h → is_some (h.received esi) ≡ not kept
-    → AddsUnlessThere esi payload h.received received → kept ≡ false → Waits (record h { received = received })
-waits-repeat h received esi payload kept waits there grown same_ids = waits-same h received (repeat-same h.received received esi payload kept there grown same_ids) waits
-
 -- ---- a contradiction
 
-pub contradictory-same : (h : ReceivedBlock) (received : ℕ → Option (List ℕ)) → ((e : ℕ) → received e ≡ h.received e) → IsContradictory h → IsContradictory (record h { received = received })
+contradictory-same : (h : ReceivedBlock) (received : ℕ → Option (List ℕ)) → ((e : ℕ) → received e ≡ h.received e) → IsContradictory h → IsContradictory (record h { received = received })
 contradictory-same h received same c = subst (λ (f : ℕ → Option (List ℕ)). IsContradictory (record h { received = f })) (λ i e. sym (same e) i) c
 
 -- whatever comes after it
@@ -52,10 +41,6 @@ contradictory-later h received esi payload grown c = contradictory-same (with_re
 
 abbrev Shows : TableRow → ℕ → (ℕ → Bool) → Option (Vec ℕ Global) → Type 0
 Shows row k has column = ForSome column (IsHomogeneousOf row k has)
-
--- the ids are the same
-pub shown-same : (row : TableRow) (k : ℕ) (has now : ℕ → Bool) (column : Option (Vec ℕ Global)) → ((e : ℕ) → now e ≡ has e) → Shows row k has column → Shows row k now column
-shown-same row k has now column same shows = subst (λ (f : ℕ → Bool). Shows row k f column) (λ i e. sym (same e) i) shows
 
 -- one more was received, whose equation the column solves
 module _ (row : TableRow) (k : ℕ) (has now : ℕ → Bool) (esi : ℕ) (fits : k ≤ row.extended_symbols) (more : (e : ℕ) → now e ≡ true → (has e ≡ true) ⊎ (e ≡ esi)) where

@@ -8,9 +8,6 @@ use Rattle.rq_bytes.specs.Refusals.{IsRefusal}
 use Rattle.rq_standard.specs.Packet.{Packet}
 use Rattle.rq_standard.specs.ReceivedBlock.{ReceivedBlock, with_received, IsContradictory, IsBlockAnswer}
 use Rattle.rq_block.specs.RefusedBlocks.{block_refusal}
-use Rattle.rq_block.specs.PacketStops.{StopsPacket}
-use Rattle.rq_block.specs.declared.decoder.packet_stop.PacketStop.{PacketStop}
-use Rattle.rq_block.specs.declared.decoder.packet_stop.PacketStop.TheVariants.{Refused, NotRecorded, NotSolved, Contradicted, NotJoined}
 
 -- an answer, its bytes seen as a list
 abbrev pub answer_bytes : {V E : Type 0} → (V → List ℕ) → Result (Option V) E → Result (Option (List ℕ)) E
@@ -27,7 +24,7 @@ AreTaken h packets = AllByRecursion (λ p. block_refusal h p ≡ Ok tt) packets
 
 -- the packets that an iterator gave end with one that stopped the call; those before it are recorded
 pub record StopsAtLast {T : Type 0} (steps : T → Option Packet → T → Type 0) (iterator : T)
-    (old : ReceivedBlock) (packets : List Packet) (Stops : Result (Unit {0}) Error → Type 0) (new : ReceivedBlock) : Type 0 where
+    (old : ReceivedBlock) (packets : List Packet) (e : Error) (new : ReceivedBlock) : Type 0 where
   pub after : T
   pub gave : Yields steps iterator packets after
   pub front : List Packet
@@ -35,7 +32,7 @@ pub record StopsAtLast {T : Type 0} (steps : T → Option Packet → T → Type 
   pub whole : packets ≡ front ++ last ∷ []
   pub taken : AreTaken old front
   pub recorded : new ≡ all_recorded old front
-  pub stopped : Stops (block_refusal old last)
+  pub stopped : IsRefusal e (block_refusal old last)
 
 -- all packets that an iterator gives are recorded
 pub record RecordsAll {T : Type 0} (steps : T → Option Packet → T → Type 0) (iterator : T)
@@ -53,17 +50,7 @@ IsUnanswered h e = (e ≡ OutOfMemory) ⊎ ((e ≡ Contradiction) × IsContradic
 abbrev pub Decodes : {T : Type 0} → (T → Option Packet → T → Type 0) → T → ReceivedBlock → List Packet → Result (Option (List ℕ)) Error → ReceivedBlock → Type 0
 Decodes steps iterator old packets (Ok answer) new = RecordsAll steps iterator old packets new × IsBlockAnswer new answer
 Decodes steps iterator old packets (Err e) new =
-    (RecordsAll steps iterator old packets new × IsUnanswered new e) ⊎ StopsAtLast steps iterator old packets (IsRefusal e) new
-
--- what `Decodes` says, by the place where the call stopped
-abbrev pub DecodesUntil : {T : Type 0} → (T → Option Packet → T → Type 0) → T → ReceivedBlock → List Packet
-    → Result (Option (List ℕ)) PacketStop → ReceivedBlock → Type 0
-DecodesUntil steps iterator old packets (Ok answer) new = RecordsAll steps iterator old packets new × IsBlockAnswer new answer
-DecodesUntil steps iterator old packets (Err NotSolved) new = RecordsAll steps iterator old packets new
-DecodesUntil steps iterator old packets (Err Contradicted) new = RecordsAll steps iterator old packets new × IsContradictory new
-DecodesUntil steps iterator old packets (Err NotRecorded) new = StopsAtLast steps iterator old packets (StopsPacket NotRecorded) new
-DecodesUntil steps iterator old packets (Err (Refused e)) new = StopsAtLast steps iterator old packets (StopsPacket (Refused e)) new
-DecodesUntil steps iterator old packets (Err NotJoined) new = ⊥
+    (RecordsAll steps iterator old packets new × IsUnanswered new e) ⊎ StopsAtLast steps iterator old packets e new
 
 -- what is said of an iterator that a source becomes, and of packets that it gives
 pub record OverPackets {S T : Type 0} (becomes : S → T → Type 0) (source : S) (P : T → List Packet → Type 0) : Type 0 where
@@ -75,7 +62,3 @@ pub record OverPackets {S T : Type 0} (becomes : S → T → Type 0) (source : S
 abbrev pub DecodesFrom : {S T : Type 0} → (S → T → Type 0) → (T → Option Packet → T → Type 0) → S → ReceivedBlock
     → Result (Option (List ℕ)) Error → ReceivedBlock → Type 0
 DecodesFrom becomes steps source old result new = OverPackets becomes source (λ iterator packets. Decodes steps iterator old packets result new)
-
-abbrev pub DecodesOrStops : {S T : Type 0} → (S → T → Type 0) → (T → Option Packet → T → Type 0) → S → ReceivedBlock
-    → Result (Option (List ℕ)) PacketStop → ReceivedBlock → Type 0
-DecodesOrStops becomes steps source old result new = OverPackets becomes source (λ iterator packets. DecodesUntil steps iterator old packets result new)

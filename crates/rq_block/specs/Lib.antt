@@ -10,7 +10,6 @@ pub mod HdpcSums
 pub mod Known
 pub mod Missing
 pub mod MissingPackets
-pub mod PacketStops
 pub mod Planned
 pub mod RefusedBlocks
 pub mod SourceBlockDecoder

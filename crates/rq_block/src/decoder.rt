@@ -4,10 +4,8 @@ mod columns;
 mod fitting;
 mod known;
 mod last_outcome;
-mod packet_stop;
 mod payloads;
 pub(crate) mod source_symbols;
 
 pub use block::SourceBlockDecoder;
-pub use packet_stop::PacketStop;
 pub use payloads::check_size;

@@ -7,6 +7,7 @@ ghost use Rattle.rq_standard.specs.Configuration.{IsAccepted, IsAligned, largest
 ghost use Rattle.rq_standard.specs.Cutting.{block_symbols};
 ghost use Rattle.rq_standard.specs.Headline.{AnswersExactly, AnswersWhereAnyCan};
 ghost use Rattle.rq_standard.specs.Following.{FollowsRun, IsAnswerAfter};
+ghost use Rattle.raptorq.specs.Refused.{packet_refusal};
 ghost use Rattle.raptorq.specs.Runs.{packets_of, AnswersRun, RefusesConfiguration};
 ghost use Rattle.rq_standard.specs.TableRows.{greatest_size};
 ghost use Rattle.rq_base.specs.RefusedInput.{checked_configuration};
@@ -14,7 +15,7 @@ ghost use Rattle.rq_block.specs.SourceBlockDecoder.{received_of, solving_of};
 
 use crate::blocks::{block_symbols, symbols_before};
 use rq_base::base::{EncodingPacket, ObjectTransmissionInformation};
-use rq_block::decoder::{PacketStop, SourceBlockDecoder, check_size};
+use rq_block::decoder::{SourceBlockDecoder, check_size};
 use rq_bytes::error::Error;
 use rq_tables::systematic_constants::SystematicTable;
 use std::alloc::{AllocError, Global};
@@ -62,7 +63,7 @@ impl ObjectBlock {
 
     // Takes a packet of the block, and answers the block where that is determined. An answered
     // block takes nothing more, and keeps nothing but its bytes.
-    fn add_packet(&mut self, packet: EncodingPacket) -> Result<(), PacketStop>
+    fn add_packet(&mut self, packet: EncodingPacket) -> Result<(), Error>
         requires { block_refusal (received_of self.old.decoder) packet ≡ Ok tt }
         ensures adds { AddsHereOrStops (received_of self.old.decoder) (answer_of self.old) packet result (received_of self.new.decoder) (answer_of self.new) }
         ensures number { (received_of self.new.decoder).number ≡ (received_of self.old.decoder).number }
@@ -140,11 +141,9 @@ impl Decoder {
     ghost use Rattle.std.specs.Option.{option_copied};
     ghost use Rattle.raptorq.specs.BlockBytes.{answered_part, AnswersPart};
     ghost use Rattle.raptorq.specs.TakesPacket.{TakesPacket};
-    ghost use Rattle.rq_block.specs.Decoding.{answer_bytes};
-    ghost use Rattle.raptorq.specs.Stopping.{StopsAsTested, AddsOrStops, AddsAndJoinsOrStops};
+    ghost use Rattle.raptorq.specs.Stopping.{AddsOrStops};
     ghost use Rattle.rq_block.specs.MissingPackets.{NeedsMore};
     ghost use Rattle.raptorq.specs.Unanswered.{TellsMissingOf};
-    ghost use Rattle.raptorq.specs.Refused.{packet_refusal};
     ghost use Rattle.raptorq.specs.Decoder.{state_of, solving_at, missing_of, IsAnswerOf, IsBlockAt};
 
     /// The decoder of an object in this configuration, before any packet.
@@ -191,16 +190,12 @@ impl Decoder {
     }
 
     // Takes a packet, whoever sent it.
-    fn add_to_block(&mut self, packet: EncodingPacket) -> Result<(), PacketStop>
-        ensures tested { StopsAsTested result (packet_refusal (state_of self.old).configuration packet) }
+    fn add_to_block(&mut self, packet: EncodingPacket) -> Result<(), Error>
         ensures adds { AddsOrStops (state_of self.old) packet result (state_of self.new) }
         ensures configuration { (state_of self.new).configuration ≡ (state_of self.old).configuration }
     {
+        check_packet(&self.config, &packet)?;
         let number = packet.payload_id().source_block_number();
-        if number >= self.config.source_blocks() {
-            return Err(PacketStop::Refused(Error::UnknownBlock));
-        }
-        check_size(&self.config, &packet)?;
         self.blocks[usize::from(number)].add_packet(packet)
     }
 
@@ -221,7 +216,7 @@ impl Decoder {
         ensures stops { IfErr result (λ e. e ≡ Error.OutOfMemory → StopsEarly (state_of self.old) packet (state_of self.new)) }
         ensures leaves_late { IfErr result (λ e. e ≡ Error.OutOfMemory → LeavesBlockLate (state_of self.old) packet (state_of self.new)) }
     {
-        Ok(self.add_to_block(packet)?)
+        self.add_to_block(packet)
     }
 
     /// Whether each block is answered, so that [`Decoder::get_result`] has the object, where there is
@@ -357,19 +352,6 @@ impl Decoder {
         Ok(block.missing_packets())
     }
 
-    // Takes a packet, and then joins the blocks where each has an answer.
-    fn add_and_join(&mut self, packet: EncodingPacket) -> Result<Option<Vec<u8>>, PacketStop>
-        ensures tested { StopsAsTested result (packet_refusal (state_of self.old).configuration packet) }
-        ensures adds { AddsAndJoinsOrStops (state_of self.old) packet (answer_bytes vec_items result) (state_of self.new) }
-        ensures configuration { (state_of self.new).configuration ≡ (state_of self.old).configuration }
-    {
-        self.add_to_block(packet)?;
-        let Ok(object) = self.get_result() else {
-            return Err(PacketStop::NotJoined);
-        };
-        Ok(object)
-    }
-
     /// Takes a packet as [`Decoder::add_new_packet`] does, and answers the object where each of its
     /// blocks is answered.
     ///
@@ -381,7 +363,9 @@ impl Decoder {
         ensures answer { IfOk result (λ r. IsAnswerOf (state_of self.new) (option_map vec_items r)) }
         ensures leaves_late { IfErr result (λ e. e ≡ Error.OutOfMemory → LeavesOrAnswersLateBlock (state_of self.old) packet (state_of self.new)) }
     {
-        Ok(self.add_and_join(packet)?)
+        self.add_to_block(packet)?;
+        let object = self.get_result()?;
+        Ok(object)
     }
 }
 
@@ -397,6 +381,22 @@ impl Clone for Decoder {
             alloc: self.alloc,
         })
     }
+}
+
+// Refuses a packet that isn't of the object: by its block's number, and then by its payload's size.
+fn check_packet(
+    config: &ObjectTransmissionInformation,
+    packet: &EncodingPacket,
+) -> Result<(), Error>
+    ensures tests { result ≡ packet_refusal config.now packet.now }
+    ensures known { OnOk result (packet.now.id.block < config.now.source_blocks) }
+    ensures sized { OnOk result (length packet.now.payload ≡ config.now.symbol_size) }
+{
+    if packet.payload_id().source_block_number() >= config.source_blocks() {
+        return Err(Error::UnknownBlock);
+    }
+    check_size(config, packet)?;
+    Ok(())
 }
 
 // Sets the sparse threshold of each block.

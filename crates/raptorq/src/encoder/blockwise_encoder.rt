@@ -73,7 +73,14 @@ impl<'a> BlockwiseEncoder<'a> {
         let whole = count as usize * size;
         let (block, behind) = self.rest.split_at(whole.min(self.rest.len()));
         self.rest = behind;
-        SourceBlockEncoder::of_block(self.alloc, number, self.config, block, &self.plan)
+        let encoder = SourceBlockEncoder::of_block(
+            self.alloc,
+            number,
+            self.config,
+            block,
+            &self.plan,
+        )?;
+        Ok(encoder)
     }
 
     /// Whether no row of the object's blocks is singular.

@@ -11,7 +11,6 @@ ghost use Rattle.rq_block.specs.declared.decoder.last_outcome.LastOutcome.TheVar
 use crate::decoder::columns::{keep_where_it_solves, octet_symbols};
 use crate::decoder::known::known_symbol_ids;
 use crate::decoder::last_outcome::LastOutcome;
-use crate::decoder::packet_stop::PacketStop;
 use crate::decoder::payloads::{check_size, keep_first};
 use crate::decoder::source_symbols::SourceSymbols;
 use crate::enc::encoding_symbol;
@@ -68,8 +67,7 @@ impl SourceBlockDecoder {
     ghost use Rattle.rq_standard.specs.TableRows.{greatest_size, intermediate_symbols};
     ghost use Rattle.rq_block.specs.RefusedBlocks.{checked_block, block_refusal};
     ghost use Rattle.rq_block.specs.SourceBlockDecoder.{received_of, solving_of, empty_block};
-    ghost use Rattle.rq_block.specs.Decoding.{DecodesFrom, DecodesOrStops, IsUnanswered, answer_bytes};
-    ghost use Rattle.rq_block.specs.PacketStops.{StopsPacket, StopsAnswer};
+    ghost use Rattle.rq_block.specs.Decoding.{DecodesFrom, IsUnanswered, answer_bytes};
     ghost use Rattle.rq_block.specs.MissingPackets.{NeedsMore, TellsMissing, missing_after};
     ghost use Rattle.std.specs.Iterator.{IsFinite};
 
@@ -179,18 +177,6 @@ impl SourceBlockDecoder {
         requires { (it : I.IntoIter) → I.into_iter_gives packets it → I.IntoIter.can_next it × IsFinite (I.IntoIter.remaining it) }
         ensures { DecodesFrom I.into_iter_gives I.IntoIter.next_gives packets (received_of self.old) (answer_bytes vec_items result) (received_of self.new) }
     {
-        Ok(self.decode_until_stopped(packets)?)
-    }
-
-    // Takes packets until one is refused, and answers the block where it is determined. What stops it
-    // says how far the work had come.
-    fn decode_until_stopped<I: IntoIterator<Item = EncodingPacket>>(
-        &mut self,
-        packets: I,
-    ) -> Result<Option<Vec<u8>>, PacketStop>
-        requires { (it : I.IntoIter) → I.into_iter_gives packets it → I.IntoIter.can_next it × IsFinite (I.IntoIter.remaining it) }
-        ensures { DecodesOrStops I.into_iter_gives I.IntoIter.next_gives packets (received_of self.old) (answer_bytes vec_items result) (received_of self.new) }
-    {
         for packet in packets {
             self.add(packet)?;
         }
@@ -230,24 +216,23 @@ impl SourceBlockDecoder {
     }
 
     // Tests a packet and records it.
-    fn add(&mut self, packet: EncodingPacket) -> Result<(), PacketStop>
-        ensures taken { OnOk result (block_refusal (received_of self.old) packet ≡ Ok tt) }
-        ensures stops { IfErr result (λ stop. StopsPacket stop (block_refusal (received_of self.old) packet)) }
+    fn add(&mut self, packet: EncodingPacket) -> Result<(), Error>
+        ensures tested { IsAnswer (λ _. tt) result (block_refusal (received_of self.old) packet) }
         ensures ok { OnOk result (received_of self.new ≡ with_received (received_of self.old) packet.id.esi packet.payload) }
         ensures err { OnErr result (received_of self.new ≡ received_of self.old) }
     {
         if packet.payload_id().source_block_number() != self.number {
-            return Err(PacketStop::Refused(Error::UnknownBlock));
+            return Err(Error::UnknownBlock);
         }
         check_size(&self.config, &packet)?;
-        self.record(packet)
+        self.record(packet)?;
+        Ok(())
     }
 
-    /// Records the payload of a packet of the block, unless one of its id was received before. The one
-    /// error is [`PacketStop::NotRecorded`], and then nothing has changed. Not in the Rust crate.
-    pub fn record(&mut self, packet: EncodingPacket) -> Result<(), PacketStop>
+    /// Records the payload of a packet of the block, unless one of its id was received before. Where
+    /// memory is refused, nothing has changed. Not in the Rust crate.
+    pub fn record(&mut self, packet: EncodingPacket) -> Result<(), AllocError>
         requires { block_refusal (received_of self.old) packet ≡ Ok tt }
-        ensures stops { IfErr result (λ stop. stop ≡ PacketStop.NotRecorded) }
         ensures ok { OnOk result (received_of self.new ≡ with_received (received_of self.old) packet.id.esi packet.payload) }
         ensures err { OnErr result (received_of self.new ≡ received_of self.old) }
     {
@@ -256,9 +241,7 @@ impl SourceBlockDecoder {
         let is_source = esi < self.source_symbols;
         // For the proof: the payload's bytes are octets.
         octets::are_octets(payload.as_slice());
-        let Ok(kept) = keep_first(&mut self.received, esi, payload) else {
-            return Err(PacketStop::NotRecorded);
-        };
+        let kept = keep_first(&mut self.received, esi, payload)?;
         if kept {
             self.missing -= u32::from(is_source);
             self.last_outcome = self.last_outcome.after_new_payload();
@@ -286,16 +269,15 @@ impl SourceBlockDecoder {
     /// is recorded stays as it is. What was found to be contradictory, or not to determine the block,
     /// isn't solved again. Not in the Rust crate.
     ///
-    /// Refuses [`PacketStop::Contradicted`] where no block fits all that was received, and
-    /// [`PacketStop::NotSolved`] where memory is refused.
-    pub fn answer(&mut self) -> Result<Option<Vec<u8>>, PacketStop>
+    /// Refuses [`Error::Contradiction`] where no block fits all that was received.
+    pub fn answer(&mut self) -> Result<Option<Vec<u8>>, Error>
         ensures block { IfOk result (λ r. IsBlockAnswer (received_of self.old) (option_map vec_items r)) }
         ensures same { received_of self.new ≡ received_of self.old }
-        ensures stops { IfErr result (λ stop. StopsAnswer stop (received_of self.old)) }
+        ensures unanswered { IfErr result (IsUnanswered (received_of self.old)) }
     {
         match self.last_outcome {
             LastOutcome::Undetermined => return Ok(None),
-            LastOutcome::Contradictory => return Err(PacketStop::Contradicted),
+            LastOutcome::Contradictory => return Err(Error::Contradiction),
             LastOutcome::Untried => {}
         }
         match self.find_answer() {
@@ -306,9 +288,9 @@ impl SourceBlockDecoder {
             Ok(answer) => Ok(answer),
             Err(Error::Contradiction) => {
                 self.last_outcome = LastOutcome::Contradictory;
-                Err(PacketStop::Contradicted)
+                Err(Error::Contradiction)
             }
-            Err(_) => Err(PacketStop::NotSolved),
+            Err(e) => Err(e),
         }
     }
 
@@ -359,10 +341,9 @@ impl SourceBlockDecoder {
     /// The block, in bytes, whose symbols begin with the octets that a column has for them, and go on
     /// with zeros. The column has an octet for each of the L intermediate symbols. Without one all of the
     /// block is zeros. The one error is [`Error::OutOfMemory`]. Not in the Rust crate.
-    pub fn difference(&self, column: &Option<Vec<u8>>) -> Result<Vec<u8>, Error>
+    pub fn difference(&self, column: &Option<Vec<u8>>) -> Result<Vec<u8>, AllocError>
         requires { IfSome column.now (λ xs. length xs.items ≡ intermediate_symbols (received_of self.now).row) }
-        ensures block { IfOk result (λ block. block.items ≡ octets_of_column (received_of self.now) (option_map vec_items column.now)) }
-        ensures memory { IfErr result (λ e. e ≡ Error.OutOfMemory) }
+        ensures { IfOk result (λ block. block.items ≡ octets_of_column (received_of self.now) (option_map vec_items column.now)) }
     {
         match column {
             Some(octets) => self.first_octets(octets.as_slice()),
@@ -374,10 +355,9 @@ impl SourceBlockDecoder {
     }
 
     // The block whose symbols have these first octets.
-    fn first_octets(&self, column: &[u8]) -> Result<Vec<u8>, Error>
+    fn first_octets(&self, column: &[u8]) -> Result<Vec<u8>, AllocError>
         requires { length column.now ≡ intermediate_symbols (received_of self.now).row }
-        ensures block { IfOk result (λ block. block.items ≡ octets_of_column (received_of self.now) (Some column.now)) }
-        ensures memory { IfErr result (λ e. e ≡ Error.OutOfMemory) }
+        ensures { IfOk result (λ block. block.items ≡ octets_of_column (received_of self.now) (Some column.now)) }
     {
         let octets = octet_symbols(self.alloc, column)?;
         let length = self.source_symbols as usize * self.symbol_size();

@@ -1,5 +1,5 @@
 //! Columns of octets that show that a block isn't determined.
-ghost use Rattle.std.specs.Prelude.{◌≡◌, ◌↔◌, ◌^◌, ◌<◌, ◌≤◌, [], ◌∷◌, length, map, Some, IsTrue, IfOk, IfErr};
+ghost use Rattle.std.specs.Prelude.{◌≡◌, ◌↔◌, ◌^◌, ◌<◌, ◌≤◌, [], ◌∷◌, length, map, Some, IsTrue, IfOk};
 ghost use Rattle.std.specs.Option.{ForSome};
 ghost use Rattle.rq_algebra.specs.Systems.{at, dot};
 ghost use Rattle.rq_bytes.specs.SymbolSlab.{slab_of};
@@ -10,11 +10,11 @@ ghost use Rattle.rq_block.specs.Known.{SolvesEsi};
 
 use crate::ids::internal_symbol_id;
 use rq_base::indices::Indices;
-use rq_bytes::error::Error;
 use rq_bytes::octets;
 use rq_bytes::symbol_slab::SymbolSlab;
+use rq_parts::memory::memory_alone;
 use rq_tables::systematic_constants::CheckedRow;
-use std::alloc::Global;
+use std::alloc::{AllocError, Global};
 
 /// Lets a column go that doesn't solve the equation of an encoding symbol id with zero as its value.
 pub(crate) fn keep_where_it_solves(
@@ -68,11 +68,10 @@ fn solves_id(row: &CheckedRow, column: &[u8], internal_symbol_id: u32) -> bool
 }
 
 /// Symbols of one octet each.
-pub(crate) fn octet_symbols(alloc: Global, column: &[u8]) -> Result<SymbolSlab, Error>
-    ensures slab { IfOk result (λ slab. slab ≡ slab_of 1 (map (λ octet. octet ∷ []) column.now)) }
-    ensures memory { IfErr result (λ e. e ≡ Error.OutOfMemory) }
+pub(crate) fn octet_symbols(alloc: Global, column: &[u8]) -> Result<SymbolSlab, AllocError>
+    ensures { IfOk result (λ slab. slab ≡ slab_of 1 (map (λ octet. octet ∷ []) column.now)) }
 {
-    let mut symbols = SymbolSlab::with_zeros(alloc, column.len(), 1)?;
+    let mut symbols = SymbolSlab::with_zeros(alloc, column.len(), 1).map_err(memory_alone)?;
     symbols.copy_block_from(0, column);
     Ok(symbols)
 }

@@ -1,5 +1,5 @@
 //! Whether intermediate symbols that were found solve all equations of a block.
-ghost use Rattle.std.specs.Prelude.{◌≡◌, ◌+◌, ◌<◌, ◌↔◌, IsTrue, length, None, IfOk, IfErr};
+ghost use Rattle.std.specs.Prelude.{◌≡◌, ◌+◌, ◌<◌, ◌↔◌, IsTrue, length, None, IfOk};
 ghost use Rattle.rq_bytes.specs.SymbolSlab.{symbol_in};
 ghost use Rattle.rq_standard.specs.Equations.{before_hdpc};
 ghost use Rattle.rq_block.specs.BlockSolutions.{HasIntermediate, SolvesHdpc, Fits};
@@ -7,13 +7,13 @@ ghost use Rattle.rq_block.specs.HdpcSums.{AreHdpcSums, AreZeroWithLast};
 
 use crate::solving::BlockOperations;
 use rq_base::constraint_matrix::hdpc::ones_of_mt;
-use rq_bytes::error::Error;
 use rq_bytes::octet::Octet;
 use rq_bytes::octets;
 use rq_bytes::row_multiples::double_and_add;
 use rq_bytes::symbol_slab::SymbolSlab;
+use rq_parts::memory::memory_alone;
 use rq_tables::systematic_constants::CheckedRow;
-use std::alloc::Global;
+use std::alloc::{AllocError, Global};
 
 /// Whether the intermediate symbols that the operations of a solution left in `values` solve all
 /// equations of its ids: the values that aren't read are zeros, and the HDPC equations have the sum
@@ -23,10 +23,9 @@ pub(crate) fn solves_all(
     row: &CheckedRow,
     solution: &BlockOperations,
     values: &SymbolSlab,
-) -> Result<bool, Error>
+) -> Result<bool, AllocError>
     requires { HasIntermediate row.now.numbers values.now }
-    ensures fits { IfOk result (λ fits. IsTrue fits ↔ Fits row.now.numbers solution.now.precode_rows values.now) }
-    ensures memory { IfErr result (λ e. e ≡ Error.OutOfMemory) }
+    ensures { IfOk result (λ fits. IsTrue fits ↔ Fits row.now.numbers solution.now.precode_rows values.now) }
 {
     if !values.is_zero_unread()? {
         return Ok(false);
@@ -40,10 +39,13 @@ pub(crate) fn solves_all(
 // Whether each HDPC equation has the sum zero. A column of their coefficients is alpha times the next
 // one, and one more in the two rows where MT's own column has a one. So by Horner's rule no
 // coefficient is made, and a symbol costs a few passes, however many equations there are.
-fn solves_hdpc(alloc: Global, row: &CheckedRow, intermediate: &SymbolSlab) -> Result<bool, Error>
+fn solves_hdpc(
+    alloc: Global,
+    row: &CheckedRow,
+    intermediate: &SymbolSlab,
+) -> Result<bool, AllocError>
     requires { HasIntermediate row.now.numbers intermediate.now }
-    ensures solves { IfOk result (λ solves. IsTrue solves ↔ SolvesHdpc row.now.numbers intermediate.now.symbol_size (symbol_in intermediate.now)) }
-    ensures memory { IfErr result (λ e. e ≡ Error.OutOfMemory) }
+    ensures { IfOk result (λ solves. IsTrue solves ↔ SolvesHdpc row.now.numbers intermediate.now.symbol_size (symbol_in intermediate.now)) }
 {
     let last = row.before_hdpc() - 1;
     let mut sums = first_sums(alloc, row, intermediate)?;
@@ -58,16 +60,18 @@ fn first_sums(
     alloc: Global,
     row: &CheckedRow,
     intermediate: &SymbolSlab,
-) -> Result<SymbolSlab, Error>
+) -> Result<SymbolSlab, AllocError>
     requires { HasIntermediate row.now.numbers intermediate.now }
-    ensures sums { IfOk result (AreHdpcSums row.now.numbers (symbol_in intermediate.now) intermediate.now.symbol_size 0) }
-    ensures memory { IfErr result (λ e. e ≡ Error.OutOfMemory) }
+    ensures { IfOk result (AreHdpcSums row.now.numbers (symbol_in intermediate.now) intermediate.now.symbol_size 0) }
 {
     let start = row.before_hdpc();
     let end = row.intermediate_symbols();
     let mut places: Vec<usize> = (start..end).collect(alloc)?;
     places.push(0)?;
-    intermediate.gather(places.as_slice())
+    let sums = intermediate
+        .gather(places.as_slice())
+        .map_err(memory_alone)?;
+    Ok(sums)
 }
 
 // Adds the last symbol to the sums of the two rows where a column of MT has a one. The last symbol

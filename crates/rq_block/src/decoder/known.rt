@@ -1,5 +1,5 @@
 //! The equations that the decoder of a block knows.
-ghost use Rattle.std.specs.Prelude.{◌≡◌, ℕ, ◌+◌, ◌^◌, ◌<◌, ◌≤◌, true, length, IfOk, IfErr};
+ghost use Rattle.std.specs.Prelude.{◌≡◌, ℕ, ◌+◌, ◌^◌, ◌<◌, ◌≤◌, true, length, IfOk};
 ghost use Rattle.std.specs.Option.{ForSome};
 ghost use Rattle.rq_bytes.specs.SymbolSlab.{slab_of};
 ghost use Rattle.rq_standard.specs.Headline.{known_ids};
@@ -9,7 +9,6 @@ ghost use Rattle.rq_block.specs.Known.{known_list, values_after};
 ghost use Rattle.rq_block.specs.Missing.{payload_of, has_payload};
 
 use crate::ids::{internal_symbol_id, padding_ids};
-use rq_bytes::error::Error;
 use rq_bytes::symbol_slab::SymbolSlab;
 use rq_tables::systematic_constants::CheckedRow;
 use std::alloc::{AllocError, Global};
@@ -44,14 +43,13 @@ pub(crate) fn known_symbol_values(
     source_symbols: u32,
     size: usize,
     received: &BTreeMap<u32, Vec<u8>>,
-) -> Result<SymbolSlab, Error>
+) -> Result<SymbolSlab, AllocError>
     requires few_symbols { zeros + source_symbols ≤ 2 ^ 25 }
     requires positive { 0 < size }
     requires small { size < 65536 }
     requires few { (e : ℕ) → has_payload received.now e ≡ true → e < 2 ^ 24 }
     requires sized { (e : ℕ) → ForSome (payload_of received.now e) (λ payload. length payload ≡ size) }
-    ensures values { IfOk result (λ values. values ≡ slab_of size (values_after zeros size received.now.entries)) }
-    ensures memory { IfErr result (λ e. e ≡ Error.OutOfMemory) }
+    ensures { IfOk result (λ values. values ≡ slab_of size (values_after zeros size received.now.entries)) }
 {
     let count = zeros + received.len();
     // An allocator that is handed this buffer back keeps as much for the next block, once this one

@@ -1,9 +1,7 @@
 //! The payloads of a block by encoding symbol id.
 ghost use Rattle.std.specs.Prelude.{◌≡◌, ◌≢◌, ℕ, length, IfOk, IfErr, OnOk, OnErr, not};
 ghost use Rattle.rq_block.specs.Missing.{payload_of, has_payload, KeepsFirst};
-ghost use Rattle.rq_block.specs.declared.decoder.packet_stop.PacketStop.TheVariants.{Refused};
 
-use crate::decoder::packet_stop::PacketStop;
 use rq_base::base::{EncodingPacket, ObjectTransmissionInformation};
 use rq_bytes::error::Error;
 use std::alloc::{AllocError, Global};
@@ -15,13 +13,13 @@ use std::collections::btree_map::Entry;
 pub fn check_size(
     config: &ObjectTransmissionInformation,
     packet: &EncodingPacket,
-) -> Result<(), PacketStop>
+) -> Result<(), Error>
     ensures size { OnOk result (length packet.now.payload ≡ config.now.symbol_size) }
     ensures other { OnErr result (length packet.now.payload ≢ config.now.symbol_size) }
-    ensures refused { IfErr result (λ stop. stop ≡ Refused Error.WrongPayloadSize) }
+    ensures refused { IfErr result (λ e. e ≡ Error.WrongPayloadSize) }
 {
     if packet.data().len() != usize::from(config.symbol_size()) {
-        return Err(PacketStop::Refused(Error::WrongPayloadSize));
+        return Err(Error::WrongPayloadSize);
     }
     Ok(())
 }

@@ -68,7 +68,14 @@ impl SourceBlockEncoder {
     {
         let count = source_symbol_count(config, block, cache.table())?;
         if let Some(plan) = cache.get(count) {
-            return SourceBlockEncoder::of_block(alloc, source_block_number, config, block, plan);
+            let encoder = SourceBlockEncoder::of_block(
+                alloc,
+                source_block_number,
+                config,
+                block,
+                plan,
+            )?;
+            return Ok(encoder);
         }
         let plan = SourceBlockEncodingPlan::generate(alloc, cache.table(), count)?;
         let encoder = SourceBlockEncoder::of_block(
@@ -107,7 +114,14 @@ impl SourceBlockEncoder {
         if plan.source_symbol_count() != count || plan.row() != row {
             return Err(Error::PlanMismatch);
         }
-        SourceBlockEncoder::of_block(alloc, source_block_number, config, block, plan)
+        let encoder = SourceBlockEncoder::of_block(
+            alloc,
+            source_block_number,
+            config,
+            block,
+            plan,
+        )?;
+        Ok(encoder)
     }
 
     /// The encoder of these bytes in as many symbols as a plan is for. The bytes may end before the
@@ -119,11 +133,10 @@ impl SourceBlockEncoder {
         config: &ObjectTransmissionInformation,
         block: &[u8],
         plan: &SourceBlockEncodingPlan,
-    ) -> Result<SourceBlockEncoder, Error>
+    ) -> Result<SourceBlockEncoder, AllocError>
         requires positive { 0 < config.now.symbol_size }
         requires aligned { IsAligned config.now }
-        ensures encoded { IfOk result (λ b. block_encoded_of b ≡ block_by_plan (plan_of plan.now) config.now number block.now) }
-        ensures memory { IfErr result (λ e. e ≡ Error.OutOfMemory) }
+        ensures { IfOk result (λ b. block_encoded_of b ≡ block_by_plan (plan_of plan.now) config.now number block.now) }
     {
         let layout = BlockLayout {
             config: *config,
@@ -170,13 +183,12 @@ impl SourceBlockEncoder {
         number: u8,
         source: SymbolSlab,
         plan: &SourceBlockEncodingPlan,
-    ) -> Result<SourceBlockEncoder, Error>
+    ) -> Result<SourceBlockEncoder, AllocError>
         requires unordered { source.order ≡ None }
         requires small { source.symbol_size < 65536 }
         requires few { length source.values ≤ (plan_of plan.now).row.extended_symbols }
         requires sized { All (λ symbol. length symbol ≡ source.symbol_size) source.values }
-        ensures encoded { IfOk result (λ b. block_encoded_of b ≡ block_encoded number (plan_of plan.now).row source) }
-        ensures memory { IfErr result (λ e. e ≡ Error.OutOfMemory) }
+        ensures { IfOk result (λ b. block_encoded_of b ≡ block_encoded number (plan_of plan.now).row source) }
     {
         let row = plan.row();
         let intermediate = plan.apply(&source)?;

@@ -13,6 +13,7 @@ use crate::solving::solve_block;
 use rq_bytes::error::Error;
 use rq_bytes::symbol_slab::SymbolSlab;
 use rq_operations::recorded::RecordedOperations;
+use rq_parts::memory::memory_alone;
 use rq_tables::systematic_constants::{CheckedRow, SystematicTable};
 use std::alloc::{AllocError, Global};
 
@@ -100,13 +101,12 @@ impl SourceBlockEncodingPlan {
     }
 
     /// The intermediate symbols of a block with these source symbols.
-    pub(crate) fn apply(&self, source: &SymbolSlab) -> Result<SymbolSlab, Error>
+    pub(crate) fn apply(&self, source: &SymbolSlab) -> Result<SymbolSlab, AllocError>
         requires small { source.now.symbol_size < 65536 }
         requires few { length source.now.values ≤ (plan_of self.now).row.extended_symbols }
         ensures size { IfOk result (λ slab. slab.symbol_size ≡ source.now.symbol_size) }
         ensures enough { IfOk result (λ slab. intermediate_symbols (plan_of self.now).row ≤ length (symbols_in slab)) }
         ensures column { IfOk result (λ slab. IsOnlyIntermediateColumn (plan_of self.now).row source.now.symbol_size source.now.values (symbol_in slab)) }
-        ensures memory { IfErr result (λ e. e ≡ Error.OutOfMemory) }
     {
         // For the proof: the contract of `symbol_size` says that each symbol has that size.
         let _size = source.symbol_size();
@@ -132,11 +132,13 @@ impl Clone for SourceBlockEncodingPlan {
 
 // The values of the equations that determine a block's intermediate symbols: its source symbols, and
 // zeros for all others.
-fn source_values(row: &CheckedRow, source: &SymbolSlab) -> Result<SymbolSlab, Error>
+fn source_values(row: &CheckedRow, source: &SymbolSlab) -> Result<SymbolSlab, AllocError>
     requires small { source.now.symbol_size < 65536 }
     requires few { length source.now.values ≤ row.now.numbers.extended_symbols }
-    ensures values { IfOk result (λ slab. slab ≡ slab_of source.now.symbol_size (source_values row.now.numbers source.now.symbol_size source.now.values)) }
-    ensures memory { IfErr result (λ e. e ≡ Error.OutOfMemory) }
+    ensures { IfOk result (λ slab. slab ≡ slab_of source.now.symbol_size (source_values row.now.numbers source.now.symbol_size source.now.values)) }
 {
-    Ok(source.among_zeros(row.precode_rows(), row.intermediate_symbols())?)
+    let values = source
+        .among_zeros(row.precode_rows(), row.intermediate_symbols())
+        .map_err(memory_alone)?;
+    Ok(values)
 }

@@ -5,8 +5,8 @@ use Rattle.rq_block.specs.HdpcSums.{AreHdpcSums}
 use Rattle.rq_block.proofs.HdpcSumSteps.{sums_tell}
 use Rattle.rq_block.proofs.decoder.fitting.solves_hdpc.Goals as goal
 
-pub returns-clause-solves : goal.returns-clause-solves
-returns-clause-solves c =
+pub returns : goal.returns
+returns c =
     let row = c.args.row.now.numbers in
     let column = symbol_in c.args.intermediate.now in
     let size = c.args.intermediate.now.symbol_size in

@@ -36,8 +36,8 @@ loop-payload-preserved c =
     (appends_more c.args.received.now zeros c.args.size c.len.ensures.ordered c.requires.sized (map deref c.loop-payload.yielded) c.loop-payload.payload-iterator c.next.new.self c.in-Some.payload.now c.loop-payload.bytes.items c.extend_from_slice.new.self.items
     c.loop-payload.invariant c.in-Some.ensures.steps (c.in_ok-extend_from_slice.ensures.items ∙ ap (λ xs. c.loop-payload.bytes.items ++ xs) c.as_slice.ensures.value))
 
-pub returns-clause-values : goal.returns-clause-values
-returns-clause-values c =
+pub returns : goal.returns
+returns c =
     let zeros : ℕ = c.args.zeros in
     let count = ap (λ n. zeros + n) (c.len.ensures.len ∙ sym (length-values_of c.args.received.now.entries)) in
     c.from_bytes.ensures ∙ ap (slab_of c.args.size) (appends_all zeros c.args.size c.args.received.now (map deref c.loop-payload.yielded) c.loop-payload.payload-iterator c.loop-payload.bytes.items _ c.loop-payload.invariant c.in-None.ensures.steps.0 count).1

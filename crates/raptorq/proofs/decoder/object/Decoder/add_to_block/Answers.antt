@@ -1,4 +1,5 @@
-use Rattle.std.proofs.Common.{◌≡◌, ◌<◌, set, sym, ap, ◌∙◌, subst, arith}
+use Rattle.std.proofs.Common.{◌≡◌, ◌<◌, set, refl, sym, ap, ◌∙◌, subst, arith, inl}
+use Rattle.std.proofs.lemmas.Result.{err_from_is_err_and}
 use Rattle.std.proofs.lemmas.List.Elements.{All-set}
 use Rattle.std.proofs.Math.Seq.{map-set_same}
 use Rattle.rq_standard.specs.Cutting.{block_symbols}
@@ -15,7 +16,7 @@ module _ (c : After-from) where
   number = c.from.ensures ∙ c.source_block_number-number.ensures ∙ ap (λ i. i.block) c.payload_id.ensures
 
   below : c.from.result < c.args.self.now.config.source_blocks
-  below = omega (arith, c.from.ensures, c.if-number-source_blocks.false, c.source_blocks.ensures)
+  below = omega (arith, number, c.in_ok-check_packet.ensures.known)
 
 module _ (c : After-index_mut) where
   block : IsBlockOf c.args.self.now.blocks.items c.args.packet c.from.result c.index_mut.result.now
@@ -37,7 +38,7 @@ add_packet-requires c =
     let x = c.index_mut.result.now in
     let at = block (goal.at.add_packet-requires c).After-index_mut in
     let within = below (goal.at.add_packet-requires c).After-from in
-    block_takes s.config (received_of x.decoder) p (ap (λ b. (received_of b.decoder).configuration) at.is ∙ s.same p.id.block x at.below) (numbered_at block_number s.config.source_blocks s.blocks.items s.numbered p.id.block x (omega (arith, at.here, within)) at.is) c.in_ok-check_size.ensures.size
+    block_takes s.config (received_of x.decoder) p (ap (λ b. (received_of b.decoder).configuration) at.is ∙ s.same p.id.block x at.below) (numbered_at block_number s.config.source_blocks s.blocks.items s.numbered p.id.block x (omega (arith, at.here, within)) at.is) c.in_ok-check_packet.ensures.sized
 
 pub invariant_of-self : goal.invariant_of-self
 invariant_of-self c =
@@ -56,10 +57,16 @@ invariant_of-self c =
       cut = All-set (λ b. IsCut s.config (received_of b.decoder)) items c.from.result y (c.add_packet.ensures.symbols ∙ ap (λ b. (received_of b.decoder).source_symbols) at.is ∙ s.cut p.id.block x at.below ∙ ap (λ b. block_symbols s.config (received_of b.decoder).number) (sym at.is) ∙ ap (block_symbols s.config) (sym c.add_packet.ensures.number)) s.cut;
     }
 
+pub returns-in_err-check_packet-clause-adds : goal.returns-in_err-check_packet-clause-adds
+returns-in_err-check_packet-clause-adds c =
+    let p = err_from_is_err_and c.from_residual.result c.from_residual.ensures.1 in
+    rw (p.1, p.2) (inl (sym c.in_err-check_packet.ensures.tests, refl))
+
 pub returns-clause-adds : goal.returns-clause-adds
 returns-clause-adds c =
     let k = c.args.self.now.config in
     let items = c.args.self.now.blocks.items in
     let at = block (goal.at.returns-clause-adds c).After-index_mut in
     let y = c.add_packet.new.self in
-    subst (λ i. AddsOrStops (state k items) c.args.packet c.add_packet.result (state k (set items i y))) (sym at.here) (takes_at k items c.args.packet c.index_mut.result.now y at.below at.is c.add_packet.result c.add_packet.ensures.adds)
+    subst (λ i. AddsOrStops (state k items) c.args.packet c.add_packet.result (state k (set items i y))) (sym at.here)
+    (takes_at k items c.args.packet c.index_mut.result.now y at.below at.is c.add_packet.result (sym c.in_ok-check_packet.ensures.tests) c.add_packet.ensures.adds)

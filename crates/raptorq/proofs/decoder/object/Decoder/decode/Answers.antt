@@ -1,26 +1,53 @@
+use Rattle.std.proofs.Common.{inl, inr}
 use Rattle.std.proofs.lemmas.Result.{err_from_is_err_and}
+use Rattle.rq_standard.proofs.StandingSteps.{leaves_late, answers_late}
 use Rattle.raptorq.specs.Decoder.{state_of}
-use Rattle.raptorq.proofs.ResultAnswers.{result_answers}
-use Rattle.raptorq.proofs.Stops.{late_or_not, takes_added, takes_stopped}
+use Rattle.raptorq.proofs.Stops.{not_joined, stops_early, takes_added, takes_stopped}
 use Rattle.raptorq.proofs.decoder.object.Decoder.decode.Goals as goal
-
-pub returns-clause-answer : goal.returns-clause-answer
-returns-clause-answer c =
-    let new = c.add_and_join.new.self in
-    result_answers (state_of new) _ new.some new.positive new.aligned c.in_ok-add_and_join.ensures.adds.1
 
 pub returns-clause-takes : goal.returns-clause-takes
 returns-clause-takes c =
-    let joined = c.in_ok-add_and_join.ensures in
-    takes_added (state_of c.args.self.now) c.args.packet (state_of c.add_and_join.new.self) joined.configuration c.in_ok-add_and_join.field-0 c.args.self.now.aligned joined.tested joined.adds.0
+    let added = c.in_ok-add_to_block.ensures in
+    takes_added (state_of c.args.self.now) c.args.packet (state_of c.add_to_block.new.self) added.configuration c.in_ok-object.object c.args.self.now.aligned added.adds.0 added.adds.1
 
-pub returns-in_err-add_and_join-clause-takes : goal.returns-in_err-add_and_join-clause-takes
-returns-in_err-add_and_join-clause-takes c =
+-- the packet isn't taken
+pub returns-in_err-add_to_block-clause-takes : goal.returns-in_err-add_to_block-clause-takes
+returns-in_err-add_to_block-clause-takes c =
     let p = err_from_is_err_and c.from_residual.result c.from_residual.ensures.1 in
-    let seen = c.in_err-add_and_join.ensures in
-    rw (p.1, p.2) (takes_stopped (state_of c.args.self.now) c.args.packet (state_of c.add_and_join.new.self) seen.configuration c.in_err-add_and_join.field-0.0 seen.tested seen.adds)
+    let old = state_of c.args.self.now in
+    let new = state_of c.add_to_block.new.self in
+    let seen = c.in_err-add_to_block.ensures in
+    let e = c.in_err-add_to_block.field-0.0 in
+    rw (p.1, p.2) (takes_stopped old c.args.packet new seen.configuration e (not_joined old c.args.packet e new seen.adds))
 
-pub returns-in_err-add_and_join-clause-leaves_late : goal.returns-in_err-add_and_join-clause-leaves_late
-returns-in_err-add_and_join-clause-leaves_late c =
+pub returns-in_err-add_to_block-clause-stops : goal.returns-in_err-add_to_block-clause-stops
+returns-in_err-add_to_block-clause-stops c =
     let p = err_from_is_err_and c.from_residual.result c.from_residual.ensures.1 in
-    rw p.1 (λ memory. late_or_not (state_of c.args.self.now) c.args.packet (state_of c.add_and_join.new.self) c.in_err-add_and_join.field-0.0 c.args.self.now.aligned c.in_err-add_and_join.ensures.adds)
+    rw p.1 (λ memory. inl (stops_early (state_of c.args.self.now) c.args.packet c.in_err-add_to_block.field-0.0 (state_of c.add_to_block.new.self) c.in_err-add_to_block.ensures.adds))
+
+pub returns-in_err-add_to_block-clause-leaves_late : goal.returns-in_err-add_to_block-clause-leaves_late
+returns-in_err-add_to_block-clause-leaves_late c =
+    let p = err_from_is_err_and c.from_residual.result c.from_residual.ensures.1 in
+    let old = state_of c.args.self.now in
+    let new = state_of c.add_to_block.new.self in
+    let early = stops_early old c.args.packet c.in_err-add_to_block.field-0.0 new c.in_err-add_to_block.ensures.adds in
+    rw p.1 (λ memory. inl (leaves_late c.args.packet old new early))
+
+-- it is, and the blocks aren't joined
+pub returns-in_err-object-clause-takes : goal.returns-in_err-object-clause-takes
+returns-in_err-object-clause-takes c =
+    let p = err_from_is_err_and c.from_residual-in_err-object.result c.from_residual-in_err-object.ensures.1 in
+    let added = c.in_ok-add_to_block.ensures in
+    let stop = inr (inl (added.adds.0, c.in_err-object.ensures.memory, inr added.adds.1)) in
+    rw (p.1, p.2) (takes_stopped (state_of c.args.self.now) c.args.packet (state_of c.add_to_block.new.self) added.configuration c.in_err-object.field-0.0 stop)
+
+pub returns-in_err-object-clause-stops : goal.returns-in_err-object-clause-stops
+returns-in_err-object-clause-stops c =
+    let p = err_from_is_err_and c.from_residual-in_err-object.result c.from_residual-in_err-object.ensures.1 in
+    rw p.1 (λ memory. inr c.in_ok-add_to_block.ensures.adds.1)
+
+pub returns-in_err-object-clause-leaves_late : goal.returns-in_err-object-clause-leaves_late
+returns-in_err-object-clause-leaves_late c =
+    let p = err_from_is_err_and c.from_residual-in_err-object.result c.from_residual-in_err-object.ensures.1 in
+    let late = answers_late c.args.packet (state_of c.args.self.now) (state_of c.add_to_block.new.self) c.args.self.now.aligned c.in_ok-add_to_block.ensures.adds.1 in
+    rw p.1 (λ memory. inr late)

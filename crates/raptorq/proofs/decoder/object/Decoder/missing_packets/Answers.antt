@@ -1,5 +1,5 @@
 use Rattle.std.proofs.Common.{sym, ap, ◌∙◌}
-use Rattle.raptorq.specs.Decoder.{state_of, answer_of, solving_at}
+use Rattle.raptorq.specs.Decoder.{state_of, solving_at}
 use Rattle.raptorq.specs.Unanswered.{missing_in}
 use Rattle.rq_block.specs.SourceBlockDecoder.{Solving, received_of, solving_of}
 use Rattle.raptorq.proofs.decoder.object.Decoder.missing_packets.Goals as goal

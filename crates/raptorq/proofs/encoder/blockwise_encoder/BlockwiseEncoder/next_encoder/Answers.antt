@@ -1,5 +1,4 @@
 use Rattle.std.proofs.Common.{◌≡◌, ◌*◌, take, drop, length, ap, ◌∙◌}
-use Rattle.std.proofs.lemmas.Result.{IfOk-weaker}
 use Rattle.std.proofs.lemmas.List.FromFn.{length-map-range_with_len}
 use Rattle.rq_standard.specs.Cutting.{block_symbols, symbol_of_block}
 use Rattle.rq_standard.specs.TableRows.{row_of}
@@ -19,20 +18,17 @@ returns-clause-encoded c =
     let plan = c.in_ok-count.ensures.plan in
     let whole = c.in_ok-count.count * c.from-size.result in
     let many : whole ≡ block_symbols s.config.now n * s.config.now.symbol_size = ap (λ m. m * c.from-size.result) count ∙ ap (λ z. block_symbols s.config.now n * z) (c.from-size.ensures ∙ c.symbol_size.ensures ∙ (λ i. (made.config i).now.symbol_size)) in
-    IfOk-weaker c.of_block.result _ _ (λ encoder is object stands.
+    let is = c.in_ok-encoder.ensures in
+    λ object stands.
     let rest : t.rest.now ≡ from_block s.config.now object n = (λ i. (made.rest i).now) ∙ stands in
     let bytes = block_front s.config.now object t.rest.now n whole rest many c.split_at.result.0.now (c.split_at.ensures.front ∙ ap (λ m. take m t.rest.now) c.min.ensures) in
     let row = plan.1 ∙ ap (row_of s.table.now) count in (
-      encoded_is s.table.now s.config.now object c.split_at.result.0.now n (plan_of t.plan).count (block_encoded_of encoder) (plan_of t.plan).row (rw made.config at is) row (plan.0 ∙ count) bytes,
+      encoded_is s.table.now s.config.now object c.split_at.result.0.now n (plan_of t.plan).count (block_encoded_of c.in_ok-encoder.encoder) (plan_of t.plan).row (rw made.config at is) row (plan.0 ∙ count) bytes,
       rw made.config (block_behind s.config.now object t.rest.now n whole rest many c.split_at.result.1.now c.requires (c.split_at.ensures.back ∙ ap (λ m. drop m t.rest.now) c.min.ensures)),
-    )) c.of_block.ensures.encoded
-
-pub returns-clause-nonsingular : goal.returns-clause-nonsingular
-returns-clause-nonsingular c =
-    IfOk-weaker c.of_block.result _ _ (λ encoder is. c.in_ok-count.ensures.nonsingular) c.of_block.ensures.encoded
+    )
 
 pub returns-clause-symbols : goal.returns-clause-symbols
 returns-clause-symbols c =
     let plan = c.in_ok-count.ensures.plan in
     let cut = symbol_of_block c.prepare_plan.new.self.config.now (plan_of c.prepare_plan.new.self.plan).count c.split_at.result.0.now in
-    IfOk-weaker c.of_block.result _ _ (λ encoder is. ap (λ (k : BlockEncoded). length k.source) is ∙ length-map-range_with_len cut 0 (plan_of c.prepare_plan.new.self.plan).count ∙ plan.0 ∙ c.in_ok-count.ensures.count) c.of_block.ensures.encoded
+    ap (λ (k : BlockEncoded). length k.source) c.in_ok-encoder.ensures ∙ length-map-range_with_len cut 0 (plan_of c.prepare_plan.new.self.plan).count ∙ plan.0 ∙ c.in_ok-count.ensures.count

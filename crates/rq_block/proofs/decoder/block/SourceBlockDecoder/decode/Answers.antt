@@ -1,16 +1,30 @@
+use Rattle.std.proofs.Common.{◌++◌, ◌∷◌, []}
 use Rattle.std.proofs.lemmas.Result.{err_from_is_err_and}
 use Rattle.rq_block.specs.SourceBlockDecoder.{received_of}
-use Rattle.rq_block.proofs.TakenPackets.{decodes_seen}
+use Rattle.rq_block.proofs.TakenPackets.{taken-more, recorded-more, stopped, Yields-push}
 use Rattle.rq_block.proofs.decoder.block.SourceBlockDecoder.decode.Goals as goal
 
-pub returns-in_err-decode_until_stopped : goal.returns-in_err-decode_until_stopped
-returns-in_err-decode_until_stopped g c =
-    let seen = c.in_err-decode_until_stopped.ensures in
-    let stopped = c.in_err-decode_until_stopped.field-0.0 in
-    let p = err_from_is_err_and c.from_residual.result c.from_residual.ensures.1 in
+pub loop-packet-preserved : goal.loop-packet-preserved
+loop-packet-preserved g c =
+    let kept = c.loop-packet.invariant in
+    let old = received_of c.args.self.now in
+    let now = received_of c.loop-packet.self in
     record {
-      iterator = seen.iterator;
-      packets = seen.packets;
-      made = seen.made;
-      decodes = rw (p.1, p.2) (decodes_seen g.I.IntoIter.Iterator.next_gives seen.iterator (received_of c.args.self.now) seen.packets stopped (received_of c.decode_until_stopped.new.self) seen.decodes);
+      taken = taken-more old now c.loop-packet.yielded c.in-Some.packet kept.taken kept.recorded c.in_ok-add.ensures.tested;
+      recorded = recorded-more old now (received_of c.add.new.self) c.loop-packet.yielded c.in-Some.packet kept.recorded c.in_ok-add.ensures.ok;
     }
+
+pub returns-in_err-add : goal.returns-in_err-add
+returns-in_err-add g c =
+    let kept = c.loop-packet.invariant in
+    let old = received_of c.args.self.now in
+    let now = received_of c.loop-packet.self in
+    let p = err_from_is_err_and c.from_residual.result c.from_residual.ensures.1 in
+    rw (p.1, p.2) (record {
+      iterator = c.into_iter-packet-iterator.result;
+      packets = c.loop-packet.yielded ++ c.in-Some.packet ∷ [];
+      made = c.into_iter-packet-iterator.ensures.into_iter_gives;
+      decodes = stopped g.I.IntoIter.Iterator.next_gives c.into_iter-packet-iterator.result old now (received_of c.add.new.self) c.loop-packet.yielded c.in-Some.packet c.next.new.self c.in_err-add.field-0.0
+          (Yields-push g.I.IntoIter.Iterator.next_gives c.into_iter-packet-iterator.result c.loop-packet.yielded c.loop-packet.packet-iterator c.in-Some.packet c.next.new.self c.loop-packet.yielded_by c.in-Some.ensures.steps)
+          kept.taken kept.recorded c.in_err-add.ensures.err c.in_err-add.ensures.tested;
+    })

@@ -9,8 +9,8 @@ use Rattle.rq_block.specs.SourceBlockDecoder.{received_of}
 use Rattle.rq_block.specs.Difference.{octets_of_column}
 use Rattle.rq_block.proofs.decoder.block.SourceBlockDecoder.difference.Goals as goal
 
-pub returns-in_ok-vec-in-None-clause-block : goal.returns-in_ok-vec-in-None-clause-block
-returns-in_ok-vec-in-None-clause-block c =
+pub returns-in_ok-vec-in-None : goal.returns-in_ok-vec-in-None
+returns-in_ok-vec-in-None c =
     let s = c.args.self.now in
     c.in_ok-vec-in-None.ensures.items_if_clones_equal (λ y same. same) ∙ ap (λ n. replicate {A = ℕ} (s.source_symbols * n) 0) c.symbol_size.ensures.value
     ∙ sym (zero_octets s.config s.source_symbols (plain_sum s.row.numbers (at [])) (λ e. zero_dot s.row.numbers (symbol_coefficient s.row.numbers e)))

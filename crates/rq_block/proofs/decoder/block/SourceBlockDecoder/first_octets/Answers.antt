@@ -11,11 +11,11 @@ loop-e-init c =
     c.in_ok-block.ensures.items_if_clones_equal (λ y same. same) ∙ ap (λ n. replicate {A = ℕ} (s.source_symbols * n) 0) c.symbol_size.ensures.value ∙ no_octets s.config s.source_symbols (plain_sum s.row.numbers (at c.args.column.now))
 
 pub encoding_symbol-requires : goal.encoding_symbol-requires
-encoding_symbol-requires c = octet_column c.args.self.now.row.numbers c.args.column.now c.in_ok-octets.octets c.args.self.now.row.checked c.requires (λ k l. omega (arith, c.type_inv.column k)) c.in_ok-octets.ensures.slab
+encoding_symbol-requires c = octet_column c.args.self.now.row.numbers c.args.column.now c.in_ok-octets.octets c.args.self.now.row.checked c.requires (λ k l. omega (arith, c.type_inv.column k)) c.in_ok-octets.ensures
 
 pub index-requires : goal.index-requires
 index-requires c =
-    let octet = octet_sum c.args.self.now.row.numbers c.args.column.now c.in_ok-octets.octets c.args.self.now.row.checked c.requires (λ k l. omega (arith, c.type_inv.column k)) c.in_ok-octets.ensures.slab c.loop-e.e in
+    let octet = octet_sum c.args.self.now.row.numbers c.args.column.now c.in_ok-octets.octets c.args.self.now.row.checked c.requires (λ k l. omega (arith, c.type_inv.column k)) c.in_ok-octets.ensures c.loop-e.e in
     omega (arith, ap length (c.in_ok-octet.ensures.sum ∙ octet), c.in_ok-octet.octet.ok.0)
 
 pub overflow_mul-e : goal.overflow_mul-e
@@ -40,13 +40,13 @@ loop-e-preserved c =
     let octet = plain_sum s.row.numbers (at c.args.column.now) in
     let e = c.loop-e.e in
     let below : e < s.source_symbols = omega (arith, c.loop-e-test.true, c.loop-e.auto.e-end) in
-    let sum = c.in_ok-octet.ensures.sum ∙ octet_sum s.row.numbers c.args.column.now c.in_ok-octets.octets s.row.checked c.requires (λ k l. omega (arith, c.type_inv.column k)) c.in_ok-octets.ensures.slab e in
+    let sum = c.in_ok-octet.ensures.sum ∙ octet_sum s.row.numbers c.args.column.now c.in_ok-octets.octets s.row.checked c.requires (λ k l. omega (arith, c.type_inv.column k)) c.in_ok-octets.ensures e in
     let read : c.index.result.now ≡ octet e = c.index.ensures ∙ ap (λ xs. get_or xs 0 c.index.result.now) sum in
     ap (λ xs. set xs (e * c.sub_block_size-width.result) c.index.result.now) c.loop-e.invariant ∙ ap (λ n. set (first_octets_below s.config s.source_symbols octet e) (e * n) c.index.result.now) c.sub_block_size-width.ensures
     ∙ octet_written s.config s.source_symbols octet s.positive s.aligned e below c.index.result.now read
 
-pub returns-clause-block : goal.returns-clause-block
-returns-clause-block c =
+pub returns : goal.returns
+returns c =
     let s = c.args.self.now in
     let octet = plain_sum s.row.numbers (at c.args.column.now) in
     let all : c.loop-e.e ≡ s.source_symbols = omega (arith, c.loop-e-test.false, c.loop-e.auto.e-end) in

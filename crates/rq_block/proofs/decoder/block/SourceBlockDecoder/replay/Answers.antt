@@ -19,7 +19,7 @@ module _ (c : After-len-symbols) where
   count : length c.in_ok-values.values.values ≡ c.args.solution.precode_rows + length (received_ids (received_of c.args.self.now) c.args.self.now.received)
   count =
       let d = c.args.self.now in
-      ap (λ (s : Slab). length s.values) c.in_ok-values.ensures.values ∙ length-known_values d.row.numbers d.source_symbols c.args.solution.precode_rows c.symbol_size.result d.received.entries
+      ap (λ (s : Slab). length s.values) c.in_ok-values.ensures ∙ length-known_values d.row.numbers d.source_symbols c.args.solution.precode_rows c.symbol_size.result d.received.entries
 
 pub known_symbol_values-requires-clause-sized : goal.known_symbol_values-requires-clause-sized
 known_symbol_values-requires-clause-sized c = λ e x is. c.args.self.now.sized e x is ∙ sym c.symbol_size.ensures.value
@@ -31,7 +31,7 @@ pub replay-requires : goal.replay-requires
 replay-requires c =
     let values = c.in_ok-values.values in
     let operations = operations_of c.args.solution.operations in
-    subst (λ o. AreAllowed (length values.values) o operations) (sym (ap (λ (s : Slab). s.order) c.in_ok-values.ensures.values))
+    subst (λ o. AreAllowed (length values.values) o operations) (sym (ap (λ (s : Slab). s.order) c.in_ok-values.ensures))
     (subst (λ n. AreAllowed n None operations) (sym (count (goal.at.replay-requires c).After-len-symbols)) c.requires.finds.allowed)
 
 -- what the operations find
@@ -44,7 +44,7 @@ module _ (c : In_ok-replay) where
       let values = c.in_ok-values.values in
       let counted = count (goal.at.In_ok-replay c).After-len-symbols in
       let are = subst (λ n. AreSymbols octets values.symbol_size n values.values) (c.len-symbols.ensures.count ∙ counted) c.len-symbols.ensures.symbols in
-      solution_found c.args.self.now.row.numbers _ c.args.solution values c.replay.new.symbols c.requires are (ap (λ (s : Slab). s.order) c.in_ok-values.ensures.values) c.in_ok-replay.ensures.ok
+      solution_found c.args.self.now.row.numbers _ c.args.solution values c.replay.new.symbols c.requires are (ap (λ (s : Slab). s.order) c.in_ok-values.ensures) c.in_ok-replay.ensures.ok
 
   held : IsHeldIn (received_of c.args.self.now) c.args.self.now.received
   held = held_by_decoder c.args.self.now c.len-count.ensures.ordered
@@ -53,7 +53,7 @@ module _ (c : In_ok-replay) where
   found_received : FoundFrom c.args.self.now.config.symbol_size (received_values (received_of c.args.self.now) c.args.self.now.received c.args.solution.precode_rows)
   found_received =
       let d = c.args.self.now in
-      solution_of_values (received_of d) d.received held c.args.solution.precode_rows c.symbol_size.result c.in_ok-values.values c.replay.new.symbols c.symbol_size.ensures.value c.in_ok-values.ensures.values found
+      solution_of_values (received_of d) d.received held c.args.solution.precode_rows c.symbol_size.result c.in_ok-values.values c.replay.new.symbols c.symbol_size.ensures.value c.in_ok-values.ensures found
 
 pub solves_all-requires : goal.solves_all-requires
 solves_all-requires c =
@@ -67,7 +67,7 @@ pub returns-then-branch-clause-solved : goal.returns-then-branch-clause-solved
 returns-then-branch-clause-solved c =
     let d = c.args.self.now in
     let at = (goal.at.returns-then-branch-clause-solved c).In_ok-replay in
-    received_solution (received_of d) d.received (held at) d.sized c.args.solution.precode_rows c.requires.ldpc c.requires.few c.replay.new.symbols (found_received at) (c.in_ok-solves_all.ensures.fits.0 c.if-branch.true)
+    received_solution (received_of d) d.received (held at) d.sized c.args.solution.precode_rows c.requires.ldpc c.requires.few c.replay.new.symbols (found_received at) (c.in_ok-solves_all.ensures.0 c.if-branch.true)
 
 pub returns-clause-unanswered : goal.returns-clause-unanswered
 returns-clause-unanswered c =
@@ -75,5 +75,5 @@ returns-clause-unanswered c =
     let at = (goal.at.returns-clause-unanswered c).In_ok-replay in
     inr (
       refl,
-      received_contradiction (received_of d) d.received (held at) d.sized c.args.solution.precode_rows c.requires.ldpc c.requires.few c.replay.new.symbols (found_received at) (λ fit. absurd (cc (sym c.if-branch.false ∙ c.in_ok-solves_all.ensures.fits.1 fit))),
+      received_contradiction (received_of d) d.received (held at) d.sized c.args.solution.precode_rows c.requires.ldpc c.requires.few c.replay.new.symbols (found_received at) (λ fit. absurd (cc (sym c.if-branch.false ∙ c.in_ok-solves_all.ensures.1 fit))),
     )

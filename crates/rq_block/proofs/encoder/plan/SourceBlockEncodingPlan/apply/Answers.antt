@@ -12,5 +12,5 @@ returns-clause-column c =
     let size = c.args.source.now.symbol_size in
     let operations = operations_of plan.operations in
     let made : c.replay.new.symbols ≡ planned_slab plan.row.numbers operations size source =
-    c.in_ok-replay.ensures.ok ∙ ap (λ (s : Slab). after_all operations s) c.in_ok-symbols.ensures.values in
+    c.in_ok-replay.ensures.ok ∙ ap (λ (s : Slab). after_all operations s) c.in_ok-symbols.ensures in
     subst (λ (s : Slab). IsOnlyIntermediateColumn plan.row.numbers size source (symbol_in s)) (sym made) (plan.finds.column size source c.requires.few c.symbol_size-size.ensures.symbols)

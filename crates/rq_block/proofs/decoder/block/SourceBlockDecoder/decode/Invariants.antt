@@ -1,7 +1,7 @@
 use Rattle.std.proofs.Common.{◌≡◌}
 use Rattle.rq_block.specs.SourceBlockDecoder.{received_of}
 use Rattle.rq_block.specs.Decoding.{all_recorded, AreTaken}
-use Rattle.rq_block.proofs.decoder.block.SourceBlockDecoder.decode_until_stopped.Given as goal
+use Rattle.rq_block.proofs.decoder.block.SourceBlockDecoder.decode.Given as goal
 
 -- the packets so far are recorded
 abbrev pub invariant-loop-packet : goal.invariant-loop-packet
