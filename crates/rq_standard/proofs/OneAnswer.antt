@@ -1,5 +1,5 @@
 -- What is answered of any packets is one thing.
-use Rattle.std.proofs.Common.{◌≡◌, ℕ, zero, suc, ◌<◌, Bool, true, List, take, Option, Some, None, refl, sym, ap, ◌∙◌, subst, arith, inl, inr}
+use Rattle.std.proofs.Common.{◌≡◌, ℕ, zero, suc, ◌<◌, true, List, take, Option, Some, None, refl, sym, ap, ◌∙◌, subst, arith, inl, inr}
 use Rattle.std.specs.Prelude.{option_map, is_some, IfSome}
 use Rattle.std.proofs.lemmas.Bool.{cases_lt}
 use Rattle.rq_standard.specs.declared.row.TableRow.{TableRow}
@@ -10,7 +10,7 @@ use Rattle.rq_standard.specs.ReceivedBlock.{ReceivedBlock, IsBlockAnswer}
 use Rattle.rq_standard.specs.DecoderState.{State, append_both, first_blocks, result_of}
 use Rattle.rq_standard.specs.DecoderSteps.{received_after}
 use Rattle.rq_standard.proofs.Interleaved.{same_symbols}
-use Rattle.rq_standard.specs.Following.{FollowsRun, IsAnswerAfter, IsFirstAnswer}
+use Rattle.rq_standard.specs.Following.{FollowsRun, IsFirstAnswer}
 use Rattle.rq_standard.specs.PacketLaws.{AnswerIsOne}
 use Rattle.rq_standard.proofs.FirstAnswers.{IsAnsweredBy}
 

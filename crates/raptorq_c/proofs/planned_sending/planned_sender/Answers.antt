@@ -17,7 +17,7 @@ returns-clause-encoder c =
     let b = block_encoded_of c.in_ok-encoder.encoder in
     let read = c.deserialize-config.ensures in
     let taken = sym (ap (λ (k : Configuration). planned_refusal k (length bytes) plan) read) ∙ sym c.in_ok-check_planned.ensures.refused in
-    let is : b ≡ block_by_plan plan (configuration_of_bytes header) number bytes = c.in_ok-encoder.ensures.encoded ∙ ap (λ (k : Configuration). block_by_plan plan k number bytes) read in
+    let is : b ≡ block_by_plan plan (configuration_of_bytes header) number bytes = c.in_ok-encoder.ensures ∙ ap (λ (k : Configuration). block_by_plan plan k number bytes) read in
     let made : IsPlannedEncoder header number bytes plan b = record { taken = taken; encoder = is; over = planned_over header bytes plan taken number b is } in
     let shared = subst (λ d. IsPlannedEncoder header number bytes plan (block_encoded_of d)) (sym c.in_ok-new.ensures.ok) made in
     subst (λ k. IsSomeAnd (block_encoder_in k) (IsPlannedEncoder header number bytes plan)) (sym c.in_ok-boxed.ensures) shared
