@@ -1,5 +1,5 @@
 //! `Solved`: what equations give where operations alone are wanted (RFC 6330, section 5.4.2).
-ghost use Rattle.std.specs.Prelude.{◌≡◌, length, IfOk};
+ghost use Rattle.std.specs.Prelude.{length, IfOk};
 ghost use Rattle.rq_peeling.specs.System.{rows_of_system};
 ghost use Rattle.rq_solver.specs.Solving.{IsSolved};
 
