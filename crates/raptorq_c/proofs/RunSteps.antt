@@ -63,15 +63,6 @@ module _ (e : Encoded) (blocks : List SourceBlockEncoder) (i : ℕ) (are : map b
 
 -- ---- what calls answer
 
--- what is wanted is refused
-pub run_refused : (wanted : Result BlockEncoded Error) (first count : ℕ) (e : Error) (buffer : List ℕ) → wanted ≡ Err e → FillsRun wanted first count (code_of e) buffer buffer
-run_refused wanted first count e buffer is = record {
-  number = subst (λ r. IsPacketNumber r (code_of e)) (sym is) refl;
-  packets = λ zero. absurd (omega (arith, zero, code_positive e));
-  no_room = λ other. absurd (code_no_call e (omega (arith, other), omega (arith, other)));
-  kept = λ _. refl;
-}
-
 -- memory is refused
 pub run_unmade : (b : BlockEncoded) (first count : ℕ) (e : Error) (buffer : List ℕ) → e ≡ OutOfMemory → FillsRun (ok_of b) first count (code_of e) buffer buffer
 run_unmade b first count e buffer memory = record {

@@ -1,6 +1,6 @@
 -- No wanted cell is whole yet in what was read.
 use Rattle.std.proofs.Common.{◌≡◌, ℕ, ◌+◌, ◌-◌, ◌^◌, ◌<◌, ◌≤◌, List, [], ◌++◌, length, drop, arith, refl, sym, ap, subst, ◌∙◌, Option, None, ◌⊎◌, inl, inr, length-append, append_assoc, drop-drop}
-use Rattle.std.specs.Io.KnownBytes.{Consumes, IsAtEnd}
+use Rattle.std.specs.Io.KnownBytes.{Consumes}
 use Rattle.std.proofs.KnownBytes.{Consumes-nil, Consumes-trans}
 use Rattle.std.proofs.lemmas.List.{length-drop, drop-append-le}
 use Rattle.std.proofs.lemmas.Bool.{cases_lt}
@@ -45,24 +45,6 @@ pub reads_nothing : (there : Option (List ℕ)) (n : ℕ) → ReadsOnce there th
 reads_nothing there n = record { piece = []; taken = Consumes-nil there; brought = inl refl }
 
 module _ (greatest : ℕ) (name : List ℕ) (before : Option (List ℕ)) where
-  pub unfound_at_first : (s : Seen) → s.cells ≡ 0 → s.damaged ≡ 0 → s.others ≡ 0 → IsUnfound greatest name before before 0 [] s s
-  unfound_at_first s no_cells no_damaged no_others = record {
-    past = [];
-    brought = omega arith;
-    read = Consumes-nil before;
-    from = 0;
-    within = omega arith;
-    from_there = refl;
-    never = λ rest i below. absurd (omega (arith, below));
-    none = λ i below. absurd (omega (arith, below));
-    seen = λ rest. record { no_cells = no_cells; damaged = no_damaged; others = no_others };
-    all_seen = record { no_cells = no_cells; damaged = no_damaged; others = no_others };
-  }
-
-  pub none_at_end : (after : Option (List ℕ)) (reads : ℕ) (kept : List ℕ) (settled every : Seen)
-      → IsUnfound greatest name before after reads kept settled every → IsAtEnd after → FindsNone greatest name before after every
-  none_at_end after reads kept settled every u ended = record { past = u.past; read = u.read; ended = inl ended; none = u.none; seen = u.all_seen }
-
   pub none_in_many : (after : Option (List ℕ)) (reads : ℕ) (kept : List ℕ) (settled every : Seen)
       → IsUnfound greatest name before after reads kept settled every → 2 ^ 64 - 1 ≤ reads → FindsNone greatest name before after every
   none_in_many after reads kept settled every u many = record {

@@ -17,14 +17,6 @@ use Rattle.raptorq.proofs.FollowedRuns.{refusal_behind-front}
 use Rattle.raptorq.proofs.Lists.{all_at}
 use Rattle.rq_cast.specs.Taken.{is_known, known_packets, unknown_count, TakesAll, StopsAmong}
 
-pub takes_none : (s : State) → TakesAll s [] s
-takes_none s = record {
-  configuration = refl;
-  passed = λ table earlier follows. refl;
-  follows = λ table earlier follows. subst (λ ps. FollowsRun table ps s) (sym (append-nil earlier)) follows;
-  stands = λ table object earlier st honest. subst (λ ps. StandsFor table object ps s) (sym (append-nil earlier)) st;
-}
-
 -- the front of packets that are all the object's
 all_front : (P : Packet → Type 0) (front rest : List Packet) → AllByRecursion P (front ++ rest) → AllByRecursion P front
 all_front P [] rest all = tt

@@ -1,9 +1,9 @@
 -- Bytes that begin with others, by the test and by what it says.
-use Rattle.std.proofs.Common.{◌≡◌, ℕ, ◌<◌, ◌≤◌, List, [], ◌∷◌, ◌++◌, length, take, drop, refl, sym, ap, ◌∙◌, arith, true, false, not, ◌&&◌, nat_eq, append_assoc, drop_at}
+use Rattle.std.proofs.Common.{◌≡◌, ℕ, ◌<◌, ◌≤◌, List, [], ◌∷◌, ◌++◌, length, take, drop, refl, sym, ap, ◌∙◌, true, false, not, ◌&&◌, nat_eq, append_assoc, drop_at}
 use Rattle.std.specs.List.{starts_with}
 use Rattle.std.specs.Cmp.Lexicographic.{pointwise}
 use Rattle.std.specs.Io.{StartsWith}
-use Rattle.std.proofs.Transfers.{starts_with_of_append, starts_with_length}
+use Rattle.std.proofs.Transfers.{starts_with_of_append}
 use Rattle.std.proofs.KnownBytes.{starts_with_rest}
 use Rattle.std.proofs.lemmas.List.{take-append-le}
 use Rattle.std.proofs.lemmas.Bool.{and_parts, eq-eqb, eqb-true, not-false, false_from_ne_true, true≢false}
@@ -27,9 +27,6 @@ begins xs needle h = same_from_test needle (take (length needle) xs) h
 pub test_true : (xs needle : List ℕ) → StartsWith xs needle → starts_with nat_eq xs needle ≡ true
 test_true xs needle h = ap (pointwise nat_eq needle) h ∙ same_bytes needle
 
-pub test_front : (needle rest : List ℕ) → starts_with nat_eq (needle ++ rest) needle ≡ true
-test_front needle rest = test_true (needle ++ rest) needle (starts_with_of_append (needle ++ rest) needle rest refl)
-
 pub test_false : (xs needle : List ℕ) → (StartsWith xs needle → ⊥) → starts_with nat_eq xs needle ≡ false
 test_false xs needle h = false_from_ne_true (starts_with nat_eq xs needle) (λ e. h (begins xs needle e))
 
@@ -42,10 +39,6 @@ differ xs ys e is = true≢false (sym e ∙ ap not (ap (λ zs. pointwise nat_eq 
 
 pub same_bytes_by : (xs ys : List ℕ) → not (pointwise nat_eq xs ys) ≡ false → xs ≡ ys
 same_bytes_by xs ys e = sym (same_from_test xs ys (not-false (pointwise nat_eq xs ys) e))
-
--- bytes that are too short don't begin with others
-pub test_short : (xs needle : List ℕ) → length xs < length needle → starts_with nat_eq xs needle ≡ false
-test_short xs needle h = test_false xs needle (λ s. omega (arith, h, starts_with_length xs needle s))
 
 -- what stands behind doesn't matter where the bytes are long enough
 pub test_more : (xs rest needle : List ℕ) → length needle ≤ length xs → starts_with nat_eq (xs ++ rest) needle ≡ starts_with nat_eq xs needle

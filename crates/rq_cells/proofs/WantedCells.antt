@@ -244,17 +244,6 @@ heads_more greatest name bytes rest i heads heads' d o below damaged damaged_sti
     let next_o = count_next op bytes rest i below (other_still ∙ sym other) in
     record { damaged = omega (arith, more_damaged, before.damaged, one_d, next_d); others = omega (arith, more_others, before.others, one_o, next_o) }
 
-pub searched_none : (greatest : ℕ) (name bytes : List ℕ) (heads : Heads) → heads.damaged ≡ 0 → heads.others ≡ 0 → SearchedTo greatest name bytes 0 heads None
-searched_none greatest name bytes heads no_damaged no_others = record {
-  none = λ i below. absurd (omega (arith, below));
-  all = record { damaged = no_damaged; others = no_others };
-  few = (omega (arith, no_damaged), omega (arith, no_others));
-  never = λ rest j below. absurd (omega (arith, below));
-  before = λ rest. record { damaged = no_damaged; others = no_others };
-  opened = tt;
-  settled = λ j below. absurd (omega (arith, below));
-}
-
 flat_heads : (greatest : ℕ) (name bytes : List ℕ) (i : ℕ) (heads : Heads) → AreHeads greatest name bytes i heads → AreHeads greatest name (bytes ++ []) i heads
 flat_heads greatest name bytes i heads are = subst (λ xs. AreHeads greatest name xs i heads) (sym (append-nil bytes)) are
 
