@@ -27,7 +27,13 @@ use rq_bytes::error::Error;
 use rq_tables::systematic_constants::SystematicTable;
 use std::alloc::{AllocError, Global};
 
-/// Makes the packets of an object.
+/// Makes the packets of an object (RFC 6330, sections 4.4.2 and 5.3).
+///
+/// ```
+/// let encoder = Encoder::with_defaults(alloc, table, object, 100)?; // bytes of a payload at most
+/// let header = encoder.get_config().serialize(); // a decoder needs these 12 bytes
+/// let packets = encoder.get_encoded_packets(30)?; // 30 repair packets a block
+/// ```
 #[derive(Debug, PartialEq, Eq, Drop)]
 pub struct Encoder {
     config: ObjectTransmissionInformation,
@@ -45,7 +51,7 @@ impl Encoder {
     ghost use Rattle.raptorq.specs.Encoder.{encoded_of, ArePacketsOf, IsPacketIn, IsEncoderOf, id_in, packets_refusal};
     ghost use Rattle.raptorq.specs.Refused.{new_encoder, RefusesEncoder};
 
-    /// The encoder of an object, in bytes.
+    /// The encoder of an object, in bytes (RFC 6330, section 4.4).
     ///
     /// Refuses what [`ObjectTransmissionInformation::check`] refuses, then
     /// [`Error::WrongDataLength`] where the object hasn't the configuration's length, and then
@@ -76,7 +82,7 @@ impl Encoder {
     }
 
     /// The encoder of an object, in bytes, in its default configuration for packets of at most
-    /// `maximum_transmission_unit` bytes of payload.
+    /// `maximum_transmission_unit` bytes of payload (RFC 6330, section 4.3).
     ///
     /// Refuses what [`ObjectTransmissionInformation::with_defaults`] refuses, and then what
     /// [`Encoder::new`] refuses.

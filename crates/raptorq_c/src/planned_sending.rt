@@ -77,10 +77,10 @@ fn open(
 /// holds, as `reamertan_open_block_encoder` does by the rows that the plan was made over. What that
 /// other one held before is freed. The plan stays where it is.
 ///
-/// Answers 26 where the first handle holds no plan. Refuses a symbol size of 0, an alignment of 0 and one
-/// that doesn't divide the symbol size, bytes that aren't whole symbols, and then another number of them
-/// than the plan is for. Want of memory may come before any but the first. Where it refuses, the other handle
-/// holds what it held.
+/// Answers 26 where the first handle holds no plan. Refuses a symbol size of 0, an alignment of 0
+/// and one that doesn't divide the symbol size, bytes that aren't whole symbols, and then another
+/// number of them than the plan is for. Want of memory may come before any of these refusals, and
+/// never in place of 26. Where it refuses, the other handle holds what it held.
 #[unsafe(no_mangle)]
 pub extern "C" fn reamertan_open_planned_encoder(
     alloc: Global,

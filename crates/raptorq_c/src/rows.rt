@@ -25,7 +25,8 @@ pub struct Row {
     pub lt_symbols: u32,
 }
 
-/// Where no rows are handed in, a call's table is the built-in one, for blocks of up to 497 symbols.
+/// A law: a call that is handed no rows works over the table of the built-in ones, for blocks of up
+/// to 497 symbols.
 pub fn no_rows()
     ensures { table_of [] ≡ Ok built_in_rows }
 {}

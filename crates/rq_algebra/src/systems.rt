@@ -1,7 +1,8 @@
 //! The laws of linear systems.
 ghost use Rattle.rq_algebra.specs.SystemLaws.{SumIsLinear, DotIsLinearInRow, DotIsLinearInColumn, ProductActsInTurn, AddingKeepsSolutions, ScalingKeepsSolutions, RowOrderKeepsSolutions, ColumnOrderKeepsSolutions, ExchangeIsAnOrder, DeterminedStays, DeterminedByIds, NewSolvesOld, DeterminedHasOneSolution, HomogeneousColumnRefutesDetermined, StackedIsBoth, FewEquationsHaveHomogeneousColumn, FewOnColumnsHaveHomogeneousColumn, DeterminedSquareHasSolution};
 
-/// Sums and products are linear.
+/// Over any field: sums are linear; a row's product with a column is linear in the row and in the
+/// column; and a product of matrices acts on a column as one does after the other.
 pub fn linear()
     ensures sum { SumIsLinear }
     ensures in_row { DotIsLinearInRow }

@@ -47,7 +47,7 @@ pub fn enc_indices<F: FnMut(usize)>(
 
 /// The matrix of the equations of a block of `source_block_symbols` symbols, over a table: the S
 /// LDPC rows, H rows of zeros, and a row for each internal symbol id; and beside it the H rows of
-/// octets of the HDPC equations.
+/// octets of the HDPC equations (RFC 6330, section 5.3.3.4.2).
 pub fn generate_constraint_matrix<T: BinaryMatrix>(
     alloc: Global,
     table: &SystematicTable,
@@ -66,7 +66,8 @@ pub fn generate_constraint_matrix<T: BinaryMatrix>(
 }
 
 /// The matrix of the equations of a block over a row of a table: the S LDPC rows, H rows of zeros,
-/// and a row for each internal symbol id; and beside it the H rows of octets of the HDPC equations.
+/// and a row for each internal symbol id; and beside it the H rows of octets of the HDPC equations
+/// (RFC 6330, section 5.3.3.4.2).
 pub fn generate_constraint_matrix_of_row<T: BinaryMatrix>(
     alloc: Global,
     row: &CheckedRow,
@@ -83,7 +84,8 @@ pub fn generate_constraint_matrix_of_row<T: BinaryMatrix>(
 }
 
 /// The matrix of the equations of a block of `source_block_symbols` symbols, over a table, without
-/// the HDPC equations: the S LDPC rows, and a row for each internal symbol id.
+/// the HDPC equations: the S LDPC rows, and a row for each internal symbol id (RFC 6330, section
+/// 5.3.3.4.2).
 pub fn generate_constraint_matrix_no_hdpc<T: BinaryMatrix>(
     alloc: Global,
     table: &SystematicTable,
@@ -101,7 +103,7 @@ pub fn generate_constraint_matrix_no_hdpc<T: BinaryMatrix>(
 }
 
 /// The matrix of the equations of a block over a row of a table, without the HDPC equations: the S
-/// LDPC rows, and a row for each internal symbol id.
+/// LDPC rows, and a row for each internal symbol id (RFC 6330, section 5.3.3.4.2).
 pub fn generate_constraint_matrix_no_hdpc_of_row<T: BinaryMatrix>(
     alloc: Global,
     row: &CheckedRow,

@@ -2,7 +2,8 @@
 ghost use Rattle.std.specs.Prelude.{◌≡◌, ◌+◌, ◌≤◌, length, slice_range};
 ghost use Rattle.rq_bytes.specs.Ranges.{range_of};
 
-/// The values from `start` on and before `end`.
+/// The values at the places from `start` on and before `end`, which are at most as many as there
+/// are.
 #[inline(always)]
 pub fn part<T>(values: &[T], start: usize, end: usize) -> &[T]
     requires order { start ≤ end }

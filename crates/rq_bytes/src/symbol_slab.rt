@@ -189,7 +189,8 @@ impl SymbolSlab {
         multiply_row(self.get_mut(dest), scalar);
     }
 
-    /// Adds a multiple of a symbol to another one.
+    /// Adds `scalar` times the symbol that place `src` means to the one that place `dest` means,
+    /// which is another symbol.
     pub fn fma(&mut self, dest: usize, src: usize, scalar: &Octet)
         requires { Allows self.old (Fma dest src scalar.now) }
         ensures { self.new ≡ after (Fma dest src scalar.now) self.old }
@@ -238,7 +239,8 @@ impl SymbolSlab {
         Ok(())
     }
 
-    /// Sets the order in which places are read, in place of the one before. No symbol moves.
+    /// Sets the order in which places are read, in place of the one before: place i then means
+    /// symbol `order[i]`. Each of these is below the number of symbols. No symbol moves.
     pub fn set_reorder(&mut self, order: Vec<usize>)
         requires { Allows self.old (Reorder order.items) }
         ensures { self.new ≡ after (Reorder order.items) self.old }

@@ -78,7 +78,7 @@ impl U16ArrayMap {
         self.elements[key - self.offset]
     }
 
-    /// Takes one from the number at a key.
+    /// Takes one from the number at a key of the map, which isn't 0.
     pub fn decrement(&mut self, key: usize)
         requires key { HasKey self.old key }
         requires positive { 0 < number_at self.old key }
@@ -87,7 +87,7 @@ impl U16ArrayMap {
         self.elements[key - self.offset] -= 1;
     }
 
-    /// Adds one to the number at a key.
+    /// Adds one to the number at a key of the map, which is below 65535.
     pub fn increment(&mut self, key: usize)
         requires key { HasKey self.old key }
         requires fits { number_at self.old key + 1 < 2 ^ 16 }
@@ -170,7 +170,7 @@ impl U32VecMap {
         }
     }
 
-    /// Takes one from the number at a key.
+    /// Takes one from the number at a key, from the first one on, which isn't 0.
     #[tactic(auto, using(crate::proofs::Zeros::positive_within))]
     pub fn decrement(&mut self, key: usize)
         requires key { self.old.start ≤ key }

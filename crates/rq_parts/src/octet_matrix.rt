@@ -56,7 +56,8 @@ impl DenseOctetMatrix {
         }
     }
 
-    /// Adds to a row, from a column on, a multiple of a packed row that ends within it.
+    /// Adds `scalar` times bits to the octets of a row, the first bit to the one in column
+    /// `start_col`. The last bit stands in the last column at most.
     ///
     /// Kept for the surface of `raptorq`; no coder calls it.
     pub fn fma_sub_row(
@@ -141,7 +142,7 @@ impl DenseOctetMatrix {
         }
     }
 
-    /// Adds a multiple of a row to another one.
+    /// Adds `scalar` times the row `multiplicand` to the row `dest`, which is another one.
     pub fn fma_rows(&mut self, dest: usize, multiplicand: usize, scalar: &Octet)
         requires two { dest ≢ multiplicand }
         requires dest { dest < length self.old.rows }

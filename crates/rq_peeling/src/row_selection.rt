@@ -75,7 +75,8 @@ impl FirstPhaseRowSelectionStats {
         ensures left { HasLeft self.old.start_row (length self.old.ones) self.old.start_col self.old.end_col self.new }
     {}
 
-    /// Follows the matrix, of which one row that is left was changed.
+    /// Counts the ones of a row anew, after it was changed in the matrix: those in the columns that
+    /// are left. The counts are of this matrix.
     pub fn recompute_row<T: BinaryMatrix>(&mut self, row: usize, matrix: &T)
         requires matrix { IsLeftOf (T.content matrix.now) self.old }
         requires row { row < length self.old.ones }

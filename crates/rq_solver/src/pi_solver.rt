@@ -60,8 +60,13 @@ impl<T: BinaryMatrix> IntermediateSymbolDecoder<T> {
     ghost use Rattle.rq_solver.specs.Phases.{SolvesRows};
     ghost use Rattle.rq_solver.specs.SolverState.{solver_state};
 
-    /// A solver of the equations of a block with `num_source_symbols` source symbols: a matrix of bits,
-    /// the HDPC rows, and a symbol for each equation.
+    /// A solver of the equations of a block with `num_source_symbols` source symbols (RFC 6330,
+    /// section 5.4.2.1).
+    ///
+    /// They are a matrix of bits, L columns wide, with a row for each equation: S of LDPC, then H
+    /// of zeros, then one for each internal symbol id; the HDPC rows, H of L octets each, which
+    /// stand in the places of those zeros; and a slab with a symbol, the value, for each equation,
+    /// in which no order is set. There are L equations or more.
     pub fn new(
         alloc: Global,
         table: &SystematicTable,
@@ -106,8 +111,10 @@ impl<T: BinaryMatrix> IntermediateSymbolDecoder<T> {
         }
     }
 
-    /// A solver of the equations of a block with `num_source_symbols` source symbols, but for those of
-    /// HDPC: a matrix of bits, and a symbol for each equation.
+    /// A solver of the equations of a block with `num_source_symbols` source symbols, but for those
+    /// of HDPC: a matrix of bits, L columns wide, with a row for each equation, S of LDPC and then
+    /// one for each internal symbol id; and a slab with a symbol for each. There are L equations or
+    /// more.
     pub fn new_no_hdpc(
         alloc: Global,
         table: &SystematicTable,

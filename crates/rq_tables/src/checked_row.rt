@@ -16,7 +16,8 @@ pub struct CheckedRow {
 }
 
 impl CheckedRow {
-    /// K': the number of symbols of an extended source block, source and padding symbols together.
+    /// K': the number of symbols of an extended source block, source and padding symbols together
+    /// (RFC 6330, section 5.3.1).
     pub fn extended_symbols(&self) -> usize
         ensures value { result ≡ self.now.numbers.extended_symbols }
         ensures bound { result < 65536 }
@@ -24,7 +25,7 @@ impl CheckedRow {
         self.numbers.extended_symbols as usize
     }
 
-    /// S: the number of LDPC symbols.
+    /// S: the number of LDPC symbols (RFC 6330, section 5.6).
     pub fn ldpc_symbols(&self) -> usize
         ensures value { result ≡ self.now.numbers.ldpc_symbols }
         ensures bound { result < 65536 }
@@ -32,7 +33,7 @@ impl CheckedRow {
         self.numbers.ldpc_symbols as usize
     }
 
-    /// H: the number of HDPC symbols.
+    /// H: the number of HDPC symbols (RFC 6330, section 5.6).
     pub fn hdpc_symbols(&self) -> usize
         ensures value { result ≡ self.now.numbers.hdpc_symbols }
         ensures bound { result < 256 }
@@ -48,7 +49,7 @@ impl CheckedRow {
         self.ldpc_symbols() + self.hdpc_symbols()
     }
 
-    /// W: the number of LT symbols.
+    /// W: the number of LT symbols (RFC 6330, section 5.6).
     pub fn lt_symbols(&self) -> usize
         ensures value { result ≡ self.now.numbers.lt_symbols }
         ensures bound { result < 65536 }
@@ -56,7 +57,7 @@ impl CheckedRow {
         self.numbers.lt_symbols as usize
     }
 
-    /// B: the number of LT symbols that are no LDPC symbols, W - S.
+    /// B: the number of LT symbols that are no LDPC symbols, W - S (RFC 6330, section 5.3.3.3).
     pub fn b(&self) -> usize
         ensures value { result ≡ b_of self.now.numbers }
         ensures bound { result < 65536 }
@@ -64,7 +65,7 @@ impl CheckedRow {
         self.numbers.b() as usize
     }
 
-    /// P: the number of PI symbols, L - W.
+    /// P: the number of PI symbols, L - W (RFC 6330, section 5.3.3.3).
     pub fn pi_symbols(&self) -> usize
         ensures value { result ≡ pi_symbols self.now.numbers }
         ensures bound { result < 65536 }
@@ -80,7 +81,7 @@ impl CheckedRow {
         self.extended_symbols() + self.ldpc_symbols()
     }
 
-    /// L: the number of intermediate symbols, K' + S + H.
+    /// L: the number of intermediate symbols, K' + S + H (RFC 6330, section 5.3.3.3).
     pub fn intermediate_symbols(&self) -> usize
         ensures value { result ≡ intermediate_symbols self.now.numbers }
         ensures bound { result < 65536 }

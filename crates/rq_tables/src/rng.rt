@@ -4,8 +4,8 @@ ghost use Rattle.rq_standard.specs.Rand.{rand, chosen_entry};
 
 use rq_standard::random_numbers::{V0, V1, V2, V3};
 
-/// Rand[y, i, m]: the bitwise sum, modulo m, of the entries of V0 to V3 that the bytes of `y` and `i`
-/// choose. The index of an entry wraps at 256.
+/// Rand[y, i, m]: the bitwise sum, modulo m, of the entries of V0 to V3 that the bytes of `y` and
+/// `i` choose (RFC 6330, section 5.3.5.1). The index of an entry wraps at 256.
 pub fn rand(y: u32, i: u32, modulus: u32) -> u32
     requires { 0 < modulus }
     ensures value { result ≡ rand y i modulus }

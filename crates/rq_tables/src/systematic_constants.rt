@@ -18,9 +18,9 @@ use std::alloc::{AllocError, Global};
 use std::marker::Model;
 
 /// The least size of a source block, in symbols, that holds `source_symbols` symbols: the number K'
-/// of its source and padding symbols.
+/// of its source and padding symbols (RFC 6330, section 5.3.1).
 ///
-/// Refuses `TooManySymbols` past 56403 symbols.
+/// Refuses [`Error::TooManySymbols`] past 56403 symbols.
 pub fn extended_source_block_symbols(source_symbols: u32) -> Result<u32, Error>
     ensures size { result ≡ wanted_size source_symbols }
     ensures limit { IsOk result ↔ (source_symbols ≤ MAX_SOURCE_SYMBOLS_PER_BLOCK) }
@@ -40,8 +40,15 @@ fn first_size(least: u32, sizes: &[(u32, u32)]) -> Option<u32>
     None
 }
 
-/// A table of rows that pass the seven checks of a row, the 74 built-in ones first. Contracts see
-/// it as the list of its rows.
+/// A table of rows that pass the seven checks of a row, the 74 built-in ones first (RFC 6330,
+/// section 5.6). A row has the numbers of blocks of a size. Contracts see the table as the list of
+/// its rows.
+///
+/// ```
+/// let table = SystematicTable::built_in(alloc)?;
+/// let larger = SystematicTable::with_rows(alloc, &[(511, 800, 37, 10, 523)])?; // (K', J, S, H, W)
+/// Ok((table.greatest(), larger.greatest())) // (497, 511)
+/// ```
 #[derive(Debug, Drop)]
 pub struct SystematicTable {
     rows: Vec<TableRow>,
@@ -91,7 +98,7 @@ impl SystematicTable {
         Ok(SystematicTable { rows: all })
     }
 
-    /// The greatest number of source symbols that a block can have.
+    /// The greatest number of source symbols that a block can have: 497 with the built-in rows.
     pub fn greatest(&self) -> u32
         ensures size { result ≡ greatest_size self.now }
         ensures checked { IsTable self.now }
@@ -144,7 +151,8 @@ impl SystematicTable {
         }
     }
 
-    /// J, the systematic index of a block of `source_symbols` symbols.
+    /// J, the systematic index of a block of `source_symbols` symbols (RFC 6330, section 5.6). At
+    /// most [`greatest`](Self::greatest) symbols are asked for.
     pub fn systematic_index(&self, source_symbols: u32) -> u32
         requires { source_symbols ≤ greatest_size self.now }
         ensures { result ≡ (row_of self.now source_symbols).systematic_index }
@@ -152,7 +160,8 @@ impl SystematicTable {
         self.row(source_symbols).systematic_index
     }
 
-    /// H, the number of HDPC symbols of a block of `source_symbols` symbols.
+    /// H, the number of HDPC symbols of a block of `source_symbols` symbols (RFC 6330, section
+    /// 5.6). At most [`greatest`](Self::greatest) symbols are asked for.
     pub fn num_hdpc_symbols(&self, source_symbols: u32) -> u32
         requires { source_symbols ≤ greatest_size self.now }
         ensures { result ≡ (row_of self.now source_symbols).hdpc_symbols }
@@ -160,7 +169,8 @@ impl SystematicTable {
         self.row(source_symbols).hdpc_symbols
     }
 
-    /// S, the number of LDPC symbols of a block of `source_symbols` symbols.
+    /// S, the number of LDPC symbols of a block of `source_symbols` symbols (RFC 6330, section
+    /// 5.6). At most [`greatest`](Self::greatest) symbols are asked for.
     pub fn num_ldpc_symbols(&self, source_symbols: u32) -> u32
         requires { source_symbols ≤ greatest_size self.now }
         ensures { result ≡ (row_of self.now source_symbols).ldpc_symbols }
@@ -168,7 +178,8 @@ impl SystematicTable {
         self.row(source_symbols).ldpc_symbols
     }
 
-    /// W, the number of LT symbols of a block of `source_symbols` symbols.
+    /// W, the number of LT symbols of a block of `source_symbols` symbols (RFC 6330, section 5.6).
+    /// At most [`greatest`](Self::greatest) symbols are asked for.
     pub fn num_lt_symbols(&self, source_symbols: u32) -> u32
         requires { source_symbols ≤ greatest_size self.now }
         ensures { result ≡ (row_of self.now source_symbols).lt_symbols }
@@ -176,7 +187,8 @@ impl SystematicTable {
         self.row(source_symbols).lt_symbols
     }
 
-    /// L, the number of intermediate symbols of a block of `source_symbols` symbols.
+    /// L, the number of intermediate symbols of a block of `source_symbols` symbols (RFC 6330,
+    /// section 5.3.3.3). At most [`greatest`](Self::greatest) symbols are asked for.
     pub fn num_intermediate_symbols(&self, source_symbols: u32) -> u32
         requires { source_symbols ≤ greatest_size self.now }
         ensures { result ≡ intermediate_symbols (row_of self.now source_symbols) }
@@ -184,7 +196,8 @@ impl SystematicTable {
         self.row(source_symbols).intermediate_symbols() as u32
     }
 
-    /// P, the number of PI symbols of a block of `source_symbols` symbols.
+    /// P, the number of PI symbols of a block of `source_symbols` symbols (RFC 6330, section
+    /// 5.3.3.3). At most [`greatest`](Self::greatest) symbols are asked for.
     pub fn num_pi_symbols(&self, source_symbols: u32) -> u32
         requires { source_symbols ≤ greatest_size self.now }
         ensures { result ≡ pi_symbols (row_of self.now source_symbols) }
@@ -192,7 +205,9 @@ impl SystematicTable {
         self.row(source_symbols).pi_symbols() as u32
     }
 
-    /// P1 of a block of `source_symbols` symbols: the number beside K' in `P1_TABLE`.
+    /// P1 of a block of `source_symbols` symbols: the number beside K' in `P1_TABLE`, the smallest
+    /// prime from P on (RFC 6330, section 5.3.3.3). At most [`greatest`](Self::greatest) symbols
+    /// are asked for.
     pub fn calculate_p1(&self, source_symbols: u32) -> u32
         requires { source_symbols ≤ greatest_size self.now }
         ensures { result ≡ (row_of self.now source_symbols).p1 }

@@ -118,7 +118,19 @@ impl Clone for ObjectBlock {
     }
 }
 
-/// Puts an object together again from its packets.
+/// Puts an object together again from its packets (RFC 6330, section 5.4), from any that determine
+/// it, in any order.
+///
+/// ```
+/// let config = ObjectTransmissionInformation::deserialize(header);
+/// let mut decoder = Decoder::new(alloc, table, config)?;
+/// for packet in packets {
+///     if let Some(object) = decoder.decode(packet)? {
+///         return Ok(Some(object));
+///     }
+/// }
+/// Ok(None) // more packets are needed
+/// ```
 #[derive(Debug, PartialEq, Eq, Drop)]
 pub struct Decoder {
     config: ObjectTransmissionInformation,
@@ -200,14 +212,14 @@ impl Decoder {
     }
 
     /// Takes a packet, and answers its block where all its source symbols were received or what was
-    /// received determines it.
+    /// received determines it (RFC 6330, section 5.4).
     ///
     /// Refuses, in this order, [`Error::UnknownBlock`] where the packet's block is none of the
     /// object's, and [`Error::WrongPayloadSize`] where its payload hasn't the size of a symbol.
-    /// Refuses [`Error::Contradiction`] where with the packet what was received of its block, which has
-    /// no answer yet, determines it and no block fits all of it: the packet is recorded, each later
-    /// packet of the block is refused so too, and the object is never answered. Packets of one
-    /// object never contradict each other.
+    /// Refuses [`Error::Contradiction`] where with the packet what was received of its block, which
+    /// has no answer yet, determines it and no block fits all of it: the packet is recorded, each
+    /// later packet of the block is refused so too, and the object is never answered. Packets of
+    /// one object never contradict each other.
     ///
     /// Where memory is refused after the packet was recorded, the next packet of its block tries to
     /// answer it again.
@@ -353,7 +365,7 @@ impl Decoder {
     }
 
     /// Takes a packet as [`Decoder::add_new_packet`] does, and answers the object where each of its
-    /// blocks is answered.
+    /// blocks is answered (RFC 6330, section 5.4).
     ///
     /// Refuses as [`Decoder::add_new_packet`] does. Where memory is refused for the object, the
     /// blocks stay answered, and [`Decoder::get_result`] tries again.
@@ -409,11 +421,11 @@ fn set_sparse_thresholds(blocks: &mut [ObjectBlock], value: u32)
     }
 }
 
-/// What a decoder answers after a list of packets. Beside each packet stands the sparse threshold
-/// that is set before it ([`Decoder::set_sparse_threshold`]).
+/// What a decoder answers after a list of packets (RFC 6330, section 5.4). Beside each packet
+/// stands the sparse threshold that is set before it ([`Decoder::set_sparse_threshold`]).
 ///
-/// Refuses what [`Decoder::new`] refuses, and then as [`Decoder::decode`] does, a contradiction among
-/// it: the first refused packet decides. [`Error::OutOfMemory`] may come before it.
+/// Refuses what [`Decoder::new`] refuses, and then as [`Decoder::decode`] does, a contradiction
+/// among it: the first refused packet decides. [`Error::OutOfMemory`] may come before it.
 pub fn decode_all(
     alloc: Global,
     table: &SystematicTable,

@@ -10,7 +10,15 @@ use rq_tables::systematic_constants::SystematicTable;
 use std::alloc::Global;
 use std::marker::Model;
 
-/// Builds encoders whose configurations are made for the memory of a decoder and a size of packets.
+/// Builds encoders whose configurations are made for a memory of decoders and a size of packets
+/// (RFC 6330, section 4.3).
+///
+/// ```
+/// let mut builder = EncoderBuilder::new();
+/// builder.set_max_packet_size(1280); // bytes of a payload
+/// builder.set_decoder_memory_requirement(1 << 20); // bytes for the symbols of a sub-block
+/// let encoder = builder.build(alloc, table, object)?;
+/// ```
 #[derive(Clone, Debug, PartialEq, Eq, Drop)]
 pub struct EncoderBuilder {
     decoder_memory_requirement: u64,

@@ -22,7 +22,16 @@ const MAX_TRANSFER_LENGTH: u64 = 942574504275;
 /// (RFC 6330, 3.3.2 and 3.3.3). Not in the Rust crate.
 pub const CONFIGURATION_LENGTH: usize = 12;
 
-/// What encoder and decoder both know of an object: its length and how it is cut.
+/// What encoder and decoder both know of an object: its length F, and how it is cut, by the symbol
+/// size T, the number of source blocks Z, that of sub-blocks N and the alignment Al (RFC 6330,
+/// sections 3.3.2 and 3.3.3).
+///
+/// ```
+/// let config = ObjectTransmissionInformation::with_defaults(table, 5000, 100)?;
+/// let header = config.serialize();
+/// let back = ObjectTransmissionInformation::deserialize(&header);
+/// back.check(table)?; // whatever twelve bytes arrive
+/// ```
 #[derive(Clone, Copy, Debug, PartialEq, Eq, PartialOrd, Ord, Hash)]
 pub struct ObjectTransmissionInformation {
     transfer_length: u64,
@@ -121,7 +130,7 @@ impl ObjectTransmissionInformation {
 
     /// The configuration that twelve bytes spell, most significant byte first: five of transfer
     /// length, a reserved one that is ignored, two of symbol size, one of source blocks, two of
-    /// sub-blocks, one of alignment.
+    /// sub-blocks, one of alignment (RFC 6330, sections 3.3.2 and 3.3.3).
     #[tactic(auto, unfolding(rq_standard::specs::Configuration::configuration_of_bytes))]
     pub fn deserialize(bytes: &[u8; CONFIGURATION_LENGTH]) -> ObjectTransmissionInformation
         ensures { result ≡ configuration_of_bytes bytes.now }
@@ -137,7 +146,8 @@ impl ObjectTransmissionInformation {
         }
     }
 
-    /// The twelve bytes that spell the configuration; the reserved one is 0.
+    /// The twelve bytes that spell the configuration; the reserved one is 0 (RFC 6330, sections
+    /// 3.3.2 and 3.3.3).
     #[tactic(auto, unfolding(rq_standard::specs::Configuration::header_bytes))]
     pub fn serialize(&self) -> [u8; CONFIGURATION_LENGTH]
         ensures value { result ≡ header_bytes self.now }
@@ -163,7 +173,8 @@ impl ObjectTransmissionInformation {
         ]
     }
 
-    /// Kt: the number of source symbols of the object, F divided by T and rounded up.
+    /// Kt: the number of source symbols of the object, F divided by T and rounded up (RFC 6330,
+    /// section 4.4.1.2).
     pub fn total_symbols(&self) -> u64
         requires { 0 < self.now.symbol_size }
         ensures value { result ≡ total_symbols self.now }
@@ -172,7 +183,8 @@ impl ObjectTransmissionInformation {
         total_symbols(self.transfer_length, self.symbol_size)
     }
 
-    /// The number of source symbols of the largest source block, which is the first.
+    /// The number of source symbols of the largest source block, which is the first (RFC 6330,
+    /// section 4.4.1.2).
     pub fn largest_block(&self) -> u64
         requires size { 0 < self.now.symbol_size }
         requires blocks { 0 < self.now.source_blocks }
@@ -182,7 +194,7 @@ impl ObjectTransmissionInformation {
             .div_ceil(u64::from(self.num_source_blocks))
     }
 
-    /// The length of the object, in bytes.
+    /// F: the length of the object, in bytes (RFC 6330, section 3.3.2).
     pub fn transfer_length(&self) -> u64
         ensures value { result ≡ self.now.transfer_length }
         ensures fits { IsConfiguration self.now }
@@ -190,7 +202,7 @@ impl ObjectTransmissionInformation {
         self.transfer_length
     }
 
-    /// The size of a symbol, in bytes.
+    /// T: the size of a symbol, in bytes (RFC 6330, section 3.3.2).
     pub fn symbol_size(&self) -> u16
         ensures { result ≡ self.now.symbol_size }
     {
@@ -204,21 +216,21 @@ impl ObjectTransmissionInformation {
         PAYLOAD_ID_LENGTH + usize::from(self.symbol_size)
     }
 
-    /// The number of source blocks.
+    /// Z: the number of source blocks (RFC 6330, section 3.3.3).
     pub fn source_blocks(&self) -> u8
         ensures { result ≡ self.now.source_blocks }
     {
         self.num_source_blocks
     }
 
-    /// The number of sub-blocks in each source block; 0 is read as 1.
+    /// N: the number of sub-blocks in each source block; 0 is read as 1 (RFC 6330, section 3.3.3).
     pub fn sub_blocks(&self) -> u16
         ensures { result ≡ self.now.sub_blocks }
     {
         self.num_sub_blocks
     }
 
-    /// The symbol alignment, in bytes.
+    /// Al: the symbol alignment, in bytes, of which T is a multiple (RFC 6330, section 3.3.3).
     pub fn symbol_alignment(&self) -> u8
         ensures { result ≡ self.now.alignment }
     {

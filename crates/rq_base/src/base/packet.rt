@@ -14,7 +14,14 @@ pub const ENCODING_SYMBOL_IDS: u32 = 16777216;
 /// How many bytes a payload id has (RFC 6330, 3.2). Not in the Rust crate.
 pub const PAYLOAD_ID_LENGTH: usize = 4;
 
-/// Which symbol of which source block a packet carries.
+/// Which symbol of which source block a packet carries (RFC 6330, section 3.2). In a block of K
+/// source symbols the encoding symbol ids below K are those of the source symbols, in their order,
+/// and K + i is that of repair symbol i.
+///
+/// ```
+/// let id = PayloadId::new(1, 258)?; // block 1, encoding symbol id 258
+/// Ok(id.serialize()) // [1, 0, 1, 2]
+/// ```
 #[derive(Clone, Debug, PartialEq, Eq, PartialOrd, Ord, Hash, Drop)]
 pub struct PayloadId {
     source_block_number: u8,
@@ -51,7 +58,7 @@ impl PayloadId {
     }
 
     /// The id that four bytes spell: a byte of block number, three of encoding symbol id, most
-    /// significant first.
+    /// significant first (RFC 6330, section 3.2).
     pub fn deserialize(bytes: &[u8; PAYLOAD_ID_LENGTH]) -> PayloadId
         ensures value { result ≡ id_of_bytes bytes.now }
         ensures written { id_bytes result ≡ bytes.now }
@@ -63,7 +70,7 @@ impl PayloadId {
         }
     }
 
-    /// The four bytes that spell the id.
+    /// The four bytes that spell the id (RFC 6330, section 3.2).
     pub fn serialize(&self) -> [u8; PAYLOAD_ID_LENGTH]
         ensures value { result ≡ id_bytes self.now }
         ensures read { id_of_bytes result ≡ self.now }
@@ -79,7 +86,8 @@ impl PayloadId {
         self.source_block_number
     }
 
-    /// The encoding symbol id, below 2^24: the source symbols come first, then the repair symbols.
+    /// The encoding symbol id, below 2^24: in a block of K source symbols K + i is that of repair
+    /// symbol i (RFC 6330, section 3.2).
     pub fn encoding_symbol_id(&self) -> u32
         ensures value { result ≡ self.now.esi }
         ensures below { result < 2 ^ 24 }
@@ -88,7 +96,13 @@ impl PayloadId {
     }
 }
 
-/// A packet: an id, and the encoding symbol that it names.
+/// A packet: an id of 4 bytes, and the encoding symbol that it names (RFC 6330, section 4.4.2).
+///
+/// ```
+/// let packet = EncodingPacket::new(PayloadId::new(0, 60)?, payload);
+/// let bytes = packet.serialize(alloc)?; // 4 bytes of id, then the payload
+/// let back = EncodingPacket::deserialize(alloc, &bytes)?;
+/// ```
 #[derive(Clone, Debug, PartialEq, Eq, PartialOrd, Ord, Hash, Drop)]
 pub struct EncodingPacket {
     payload_id: PayloadId,

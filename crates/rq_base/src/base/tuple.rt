@@ -5,7 +5,8 @@ ghost use Rattle.rq_standard.specs.Tuple.{first_above, degree, IsBetween, tuple_
 use rq_standard::degrees::DEGREE_STARTS;
 use rq_tables::rng::rand;
 
-/// Deg[v]: the degree that a number below 2^20 stands for, at most `lt_symbols - 2`.
+/// Deg[v]: the degree that a number below 2^20 stands for, at most `lt_symbols - 2` (RFC 6330,
+/// section 5.3.5.2).
 pub fn deg(v: u32, lt_symbols: u32) -> u32
     requires v { v < 2 ^ 20 }
     requires w { 2 ≤ lt_symbols }
@@ -16,7 +17,8 @@ pub fn deg(v: u32, lt_symbols: u32) -> u32
 }
 
 /// The tuple (d, a, b, d1, a1, b1) of an internal symbol id, over a row of the table with W
-/// `lt_symbols`, J `systematic_index` and P1 `p1`.
+/// `lt_symbols`, J `systematic_index` and P1 `p1` (RFC 6330, section 5.3.5.4). An internal symbol
+/// id is an encoding symbol id, to which K' - K is added from K on.
 pub fn intermediate_tuple(
     internal_symbol_id: u32,
     lt_symbols: u32,

@@ -13,7 +13,7 @@ use rq_tables::rng::rand;
 use rq_tables::systematic_constants::CheckedRow;
 use std::alloc::Global;
 
-/// The H rows of octets of the HDPC equations, over a row of a table.
+/// The H rows of octets of the HDPC equations, over a row of a table (RFC 6330, section 5.3.3.3).
 pub fn generate_hdpc_rows(alloc: Global, row: &CheckedRow) -> Result<DenseOctetMatrix, Error>
     ensures part { IfOk result (IsHdpcPart row.now.numbers) }
     ensures memory { IfErr result (λ e. e ≡ OutOfMemory) }
@@ -90,7 +90,8 @@ fn fill_column(matrix: &mut DenseOctetMatrix, row: &CheckedRow, column: usize, o
     }
 }
 
-/// The two rows in which a column of MT but its last one has ones; it has zeros in all others.
+/// The two rows in which a column of MT but its last one has ones; it has zeros in all others (RFC
+/// 6330, section 5.3.3.3).
 pub fn ones_of_mt(row: &CheckedRow, column: usize) -> (usize, usize)
     requires column { column + 1 < before_hdpc row.now.numbers }
     ensures first { result.0 < row.now.numbers.hdpc_symbols }

@@ -26,9 +26,14 @@ use std::collections::BTreeMap;
 
 mod solved;
 
-/// Puts the symbols of one source block together again. Once solving has failed it keeps an octet for
-/// each intermediate symbol, which show that what was received doesn't determine the block, so that
-/// packets that decide nothing aren't solved for.
+/// Puts one source block together again from its packets (RFC 6330, section 5.4). Once solving has
+/// failed it keeps an octet for each intermediate symbol, which show that what was received doesn't
+/// determine the block, so that packets that decide nothing aren't solved for.
+///
+/// ```
+/// let mut decoder = SourceBlockDecoder::new(alloc, table, 0, config, 160)?; // block 0, of 160 bytes
+/// Ok(decoder.decode(packets)?) // `None` until its packets determine the block
+/// ```
 #[derive(Drop)]
 #[derive_where(Debug, PartialEq, Eq)]
 pub struct SourceBlockDecoder {
@@ -161,15 +166,15 @@ impl SourceBlockDecoder {
     }
 
     /// Takes packets until one is refused, and answers the block where all its source symbols were
-    /// received or what was received determines it.
+    /// received or what was received determines it (RFC 6330, section 5.4).
     ///
     /// Refuses, in this order, [`Error::UnknownBlock`] where a packet is of another block, and
     /// [`Error::WrongPayloadSize`] where its payload hasn't the size of a symbol. The packets
     /// before it stay recorded, and the rest isn't taken. The first payload of an encoding symbol
     /// id is kept.
     ///
-    /// Refuses [`Error::Contradiction`] where what was received determines the block and no block fits
-    /// all of it. The packets stay recorded, and each later call is refused so too.
+    /// Refuses [`Error::Contradiction`] where what was received determines the block and no block
+    /// fits all of it. The packets stay recorded, and each later call is refused so too.
     pub fn decode<I: IntoIterator<Item = EncodingPacket>>(
         &mut self,
         packets: I,
@@ -340,7 +345,7 @@ impl SourceBlockDecoder {
 
     /// The block, in bytes, whose symbols begin with the octets that a column has for them, and go on
     /// with zeros. The column has an octet for each of the L intermediate symbols. Without one all of the
-    /// block is zeros. The one error is [`Error::OutOfMemory`]. Not in the Rust crate.
+    /// block is zeros. Not in the Rust crate.
     pub fn difference(&self, column: &Option<Vec<u8>>) -> Result<Vec<u8>, AllocError>
         requires { IfSome column.now (λ xs. length xs.items ≡ intermediate_symbols (received_of self.now).row) }
         ensures { IfOk result (λ block. block.items ≡ octets_of_column (received_of self.now) (option_map vec_items column.now)) }

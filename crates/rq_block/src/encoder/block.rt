@@ -20,7 +20,14 @@ use rq_bytes::symbol_slab::SymbolSlab;
 use rq_tables::systematic_constants::{CheckedRow, SystematicTable};
 use std::alloc::{AllocError, Global};
 
-/// Makes the packets of one source block.
+/// Makes the packets of one source block of K symbols (RFC 6330, sections 4.4.2 and 5.3).
+///
+/// ```
+/// let mut cache = SourceBlockEncodingPlanCache::new(alloc, table)?; // for all blocks
+/// let encoder = SourceBlockEncoder::new(alloc, 0, config, block, &mut cache)?;
+/// let mut packets = encoder.source_packets()?; // encoding symbol ids 0 to K - 1
+/// packets.append(&mut encoder.repair_packets(0, 5)?)?; // K to K + 4
+/// ```
 #[derive(Debug, PartialEq, Eq, Drop)]
 pub struct SourceBlockEncoder {
     number: u8,
@@ -44,8 +51,8 @@ impl SourceBlockEncoder {
     ghost use Rattle.rq_block.specs.SourceBlockEncodingPlanCache.{after_use};
     ghost use Rattle.rq_block.specs.SourceBlockEncodingPlan.{plan_of};
 
-    /// The encoder of a source block, whose bytes are whole symbols. Its plan is the one in the
-    /// cache, or a new one, which is then put in.
+    /// The encoder of a source block, whose bytes are whole symbols (RFC 6330, section 5.3). Its
+    /// plan is the one in the cache, or a new one, which is then put in.
     ///
     /// Refuses, in this order, [`Error::SymbolSizeZero`], [`Error::AlignmentZero`],
     /// [`Error::Misaligned`] where the alignment doesn't divide the symbol size,
@@ -89,13 +96,14 @@ impl SourceBlockEncoder {
         Ok(encoder)
     }
 
-    /// The encoder of a source block, by a plan of the table's row for its number of source symbols.
+    /// The encoder of a source block, by a plan of the table's row for its number of source symbols
+    /// (RFC 6330, section 5.3).
     ///
     /// Refuses, in this order, [`Error::SymbolSizeZero`], [`Error::AlignmentZero`],
     /// [`Error::Misaligned`] where the alignment doesn't divide the symbol size,
     /// [`Error::WrongDataLength`] where the block isn't whole symbols, [`Error::BlockOverTable`]
-    /// where the table has no row for its symbols, and [`Error::PlanMismatch`] where the plan was made
-    /// for another number of source symbols or another row.
+    /// where the table has no row for its symbols, and [`Error::PlanMismatch`] where the plan was
+    /// made for another number of source symbols or another row.
     pub fn with_encoding_plan(
         alloc: Global,
         source_block_number: u8,
@@ -154,8 +162,9 @@ impl SourceBlockEncoder {
         self.packets(0, self.source_symbol_count())
     }
 
-    /// The packets of `packets` repair symbols, from the repair symbol `start_repair_symbol` on,
-    /// which are numbered from 0.
+    /// The packets of `packets` repair symbols, from repair symbol `start_repair_symbol` on. Repair
+    /// symbol i of a block of K source symbols has the encoding symbol id K + i (RFC 6330, sections
+    /// 4.4.2 and 5.3.4).
     ///
     /// Refuses [`Error::EsiTooLarge`] where they would need encoding symbol ids above 2^24 - 1.
     pub fn repair_packets(

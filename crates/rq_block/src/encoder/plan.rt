@@ -18,8 +18,13 @@ use rq_tables::systematic_constants::{CheckedRow, SystematicTable};
 use std::alloc::{AllocError, Global};
 
 /// The operations that make the intermediate symbols of a source block from its source symbols,
-/// whatever the symbols and their size. Blocks with one number of source symbols share
-/// a plan.
+/// whatever the symbols and their size (RFC 6330, section 5.3.3.4.2). Blocks with one number of
+/// source symbols share a plan.
+///
+/// ```
+/// let plan = SourceBlockEncodingPlan::generate(alloc, table, 10)?; // for all blocks of 10 symbols
+/// let encoder = SourceBlockEncoder::with_encoding_plan(alloc, 0, config, block, table, &plan)?;
+/// ```
 #[derive(Debug, PartialEq, Eq, Drop)]
 pub struct SourceBlockEncodingPlan {
     operations: RecordedOperations,
@@ -35,7 +40,7 @@ impl SourceBlockEncodingPlan {
     ghost use Rattle.rq_block.specs.SourceBlockEncodingPlan.{plan_of, plan_refusal, RefusesPlan};
 
     /// The plan of source blocks with `source_symbol_count` source symbols, over their row of the
-    /// table.
+    /// table (RFC 6330, section 5.3.3.4).
     ///
     /// Refuses [`Error::BlockOverTable`] where the table has no row for these, and then
     /// [`Error::Singular`] where that row doesn't determine the intermediate symbols.

@@ -15,7 +15,8 @@ impl ObjectTransmissionInformation {
     ghost use Rattle.rq_base.specs.Defaults.{wanted_parameters, default_memory, HasLeastSubBlocks};
 
     /// A configuration for an object of `transfer_length` bytes in packets of at most
-    /// `max_packet_size` bytes of payload, for decoders with 10 MiB of memory.
+    /// `max_packet_size` bytes of payload, for decoders with 10 MiB of memory (RFC 6330, section
+    /// 4.3).
     ///
     /// Refuses what [`Self::generate_encoding_parameters`] does.
     pub fn with_defaults(
@@ -35,8 +36,9 @@ impl ObjectTransmissionInformation {
 
     /// A configuration for an object of `transfer_length` bytes in packets of at most
     /// `max_packet_size` bytes of payload, each of whose sub-blocks fits
-    /// `decoder_memory_requirement` bytes. There are as few source blocks as that allows, and then
-    /// as few sub-blocks.
+    /// `decoder_memory_requirement` bytes (RFC 6330, section 4.3). There are as few source blocks
+    /// as that allows, and then as few sub-blocks. From 64 bytes on symbols are a multiple of 8
+    /// bytes.
     ///
     /// Refuses, in this order, [`Error::PacketSizeZero`], [`Error::TransferLengthZero`],
     /// [`Error::TransferTooLong`] above 942574504275 bytes, [`Error::MemoryRequirementTooSmall`]
