@@ -5,15 +5,16 @@ use Rattle.std.proofs.lemmas.List.{ext_get_or, get_or-drop, get_or-map, get_or_a
 use Rattle.std.proofs.lemmas.List.FromFn.{length-map-range_with_len, get_or-map-range_with_len}
 use Rattle.std.proofs.lemmas.Nat.{pow-add, shr-shr, pow_pos}
 use Rattle.std.proofs.lemmas.Nat.Bits.{bit_at_cat_low, and_pow, bit_at-lt}
-use Rattle.std.proofs.lemmas.Simd.{length-chunk, get_or-chunk, length-zip2, get_or-zip2, length-sel_l, get_or-sel_l, get_or-replicate}
+use Rattle.std.proofs.lemmas.Simd.{get_or-chunk, length-zip2, get_or-zip2, length-sel_l, get_or-sel_l, get_or-replicate}
 use Rattle.std.specs.List.{range_with_len}
 use Rattle.std.specs.Int.{bit_at, byte_at, bytes_low_first, to_le_bytes}
 use lib.Bits.{bit_and}
 use lib.Lanes.{zip2, chunk, sel_l, pick_l}
 use Rattle.rq_standard.specs.Octets.{octet_mul}
-use Rattle.rq_bytes.specs.BinaryOctetVec.{octets_of_bits, padding_of, packed_bits}
+use Rattle.rq_bytes.specs.BinaryOctetVec.{octets_of_bits, padding_of, packed_bit, packed_bits}
 use Rattle.rq_bytes.specs.OctetBits.{octet_bit}
-use Rattle.rq_bytes.proofs.PackedRows.{length-packed_bits, get_or-packed_bits, length-octets_of_bits, at-octets_of_bits, is_unpacked}
+use Rattle.rq_bytes.proofs.LaneFacts.{ranges_alike}
+use Rattle.rq_bytes.proofs.PackedRows.{length-packed_bits, get_or-packed_bits, is_unpacked}
 use Rattle.rq_standard.specs.OctetProducts.{mul-one, mul-zero}
 use Rattle.rq_bytes.specs.declared.products.TheConstants.{MASKS, PLACES}
 
@@ -46,31 +47,17 @@ first_bit words row len padding n i word is lt e =
     ∙ ap (bit_at (get_or words ((padding + i) / 64) 0)) place
     ∙ packed_at words row len padding n i is (omega arith)
 
--- products of the bits of four octets, which are elements of a row from a place on
-pub products_of_bits : (s at : ℕ) (half row : List ℕ) → at + 32 ≤ length row → ((i : ℕ) → i < 32 → octet_bit half i ≡ get_or row (at + i) 0)
-    → map (λ i. octet_mul s (octet_bit half i)) (range_with_len 0 32) ≡ map (octet_mul s) (chunk at 32 row)
-products_of_bits s at half row fits same =
-    let few = length-chunk at 32 row fits in
-    let count = length-map-range_with_len (λ i. octet_mul s (octet_bit half i)) 0 32 in
-    ext_get_or 0 (map (λ i. octet_mul s (octet_bit half i)) (range_with_len 0 32)) (map (octet_mul s) (chunk at 32 row))
-    (count ∙ sym (length-map (chunk at 32 row) (octet_mul s) ∙ few))
-    (λ k under.
-    let lt : k < 32 = omega arith in
-    get_or-map-range_with_len (λ i. octet_mul s (octet_bit half i)) 0 32 k k 0 lt (omega arith)
-    ∙ ap (octet_mul s) (same k lt ∙ sym (get_or-chunk at 32 row k 0 lt))
-    ∙ sym (get_or-map (octet_mul s) (chunk at 32 row) k 0 0 (omega arith)))
-
--- multiples of the bits of half of a word are those of the octets that these are
-pub products_of_half : (scalar n block : ℕ) (bits half : List ℕ) → 32 * block + 32 ≤ n → ((i : ℕ) → i < 32 → octet_bit half i ≡ bit_at (get_or bits (block / 2) 0) (32 * (block % 2) + i))
-    → map (λ i. octet_mul scalar (octet_bit half i)) (range_with_len 0 32) ≡ map (octet_mul scalar) (chunk (32 * block) 32 (octets_of_bits n bits))
-products_of_half scalar n block bits half fits half_is =
-    products_of_bits scalar (32 * block) half (octets_of_bits n bits) (omega (arith, length-octets_of_bits n bits)) (λ i l.
-    let word : block / 2 ≡ (32 * block + i) / 64 = omega arith in
-    let place : 32 * (block % 2) + i ≡ (32 * block + i) % 64 = omega arith in
+-- multiples of the bits of half of a word
+pub products_of_half : (scalar place : ℕ) (bits half : List ℕ) → place % 32 ≡ 0 → ((i : ℕ) → i < 32 → octet_bit half i ≡ bit_at (get_or bits (place / 64) 0) (32 * (place / 32 % 2) + i))
+    → map (λ i. octet_mul scalar (octet_bit half i)) (range_with_len 0 32) ≡ map (λ k. octet_mul scalar (packed_bit bits k)) (range_with_len place 32)
+products_of_half scalar place bits half whole half_is =
+    ranges_alike (λ i. octet_mul scalar (octet_bit half i)) (λ k. octet_mul scalar (packed_bit bits k)) place 32 (λ i l.
+    let word : place / 64 ≡ (place + i) / 64 = omega arith in
+    let bit : 32 * (place / 32 % 2) + i ≡ (place + i) % 64 = omega arith in
+    ap (octet_mul scalar) (
     half_is i l
-    ∙ ap (λ k. bit_at (get_or bits k 0) (32 * (block % 2) + i)) word
-    ∙ ap (bit_at (get_or bits ((32 * block + i) / 64) 0)) place
-    ∙ sym (at-octets_of_bits n bits (32 * block + i) (omega arith)))
+    ∙ ap (λ k. bit_at (get_or bits k 0) (32 * (place / 32 % 2) + i)) word
+    ∙ ap (bit_at (get_or bits ((place + i) / 64) 0)) bit))
 
 -- the elements from a word's first on
 pub whole_words : (words row : List ℕ) (len padding n i word : ℕ) → IsPacked words len row padding n → i ≤ n → 64 * word ≡ padding + i

@@ -1,11 +1,11 @@
 pub mod BitLanes
-pub mod ChunkFacts
 pub mod Cuts
 pub mod Doubling
 pub mod HalfLookUps
 pub mod HalfTables
 pub mod Halves
 pub mod Multiples
+pub mod LaneFacts
 pub mod PackedRows
 pub mod Pieces
 pub mod PlaneFacts

@@ -2,7 +2,6 @@
 use Rattle.std.proofs.Common.{◌≡◌, ℕ, zero, suc, ◌+◌, ◌-◌, ◌<◌, ◌≤◌, List, [], ◌∷◌, ◌++◌, length, get_or, set, take, drop, map, refl, sym, ap, ◌∙◌, arith, add-one}
 use borrow.Rule.Slice.PartMut.{put_mid}
 use Rattle.std.proofs.lemmas.List.{append-nil, drop_all, length-drop, take_rest}
-use Rattle.std.proofs.lemmas.Simd.{length-chunk}
 use Rattle.std.specs.Int.Bits.{bit_xor}
 use lib.Lanes.{zip2, chunk, put_chunk}
 
@@ -106,38 +105,11 @@ zip2-left g [] ys e = refl
 zip2-left g (x ∷ xs) [] e = absurd (omega arith)
 zip2-left g (x ∷ xs) (y ∷ ys) e = ap (λ zs. g x ∷ zs) (zip2-left g xs ys (omega arith))
 
--- ---- a list whose own elements a loop makes by g
-
-module _ (g : ℕ → ℕ) (now xs : List ℕ) (i : ℕ) (so_far : now ≡ zip_upto (λ x _. g x) i xs xs) where
-  same_length : length now ≡ length xs
-  same_length = ap length so_far ∙ length-zip_upto (λ x _. g x) i xs xs
-
-  pub made_one : (y : ℕ) → y ≡ g (get_or now i 0) → i < length xs → set now i y ≡ zip_upto (λ x _. g x) (i + 1) xs xs
-  made_one y is lt = ap (set now i) is ∙ step_one (λ x _. g x) i now xs xs 0 0 so_far lt (omega arith)
-
-  pub made_store : (n j : ℕ) (made : List ℕ) → made ≡ map g (chunk i n now) → i + n ≤ length xs → j ≡ i + n → put_chunk i now made ≡ zip_upto (λ x _. g x) j xs xs
-  made_store n j made is le e =
-      let few = length-chunk i n now (omega (arith, same_length)) in
-      ap (put_chunk i now) (is ∙ sym (zip2-left g (chunk i n now) (chunk i n xs) (length-chunk i n xs le ∙ sym few)))
-      ∙ step_store (λ x _. g x) n i j now xs xs so_far le (omega arith) e
-
-  pub made_all : i ≡ length xs → now ≡ map g xs
-  made_all all = at_end (λ x _. g x) i now xs xs so_far (omega arith) all ∙ zip2-left g xs xs refl
-
 -- ---- a list to which a loop adds what g makes of another's
 
 module _ (g : ℕ → ℕ) (now xs ys : List ℕ) (i : ℕ) (so_far : now ≡ zip_upto (λ x y. bit_xor x (g y)) i xs ys) (long : length xs ≤ length ys) where
   pub added_one : (y : ℕ) → y ≡ g (get_or ys i 0) → i < length xs → set now i (bit_xor (get_or now i 0) y) ≡ zip_upto (λ x y. bit_xor x (g y)) (i + 1) xs ys
   added_one y is lt = ap (λ p. set now i (bit_xor (get_or now i 0) p)) is ∙ step_one (λ x y. bit_xor x (g y)) i now xs ys 0 0 so_far lt long
-
-  pub added_store : (n j : ℕ) (made : List ℕ) → made ≡ map g (chunk i n ys) → i + n ≤ length xs → j ≡ i + n → put_chunk i now (zip2 bit_xor (chunk i n now) made) ≡ zip_upto (λ x y. bit_xor x (g y)) j xs ys
-  added_store n j made is le e =
-      ap (λ t. put_chunk i now (zip2 bit_xor (chunk i n now) t)) is
-      ∙ ap (put_chunk i now) (zip2-map_right bit_xor g (chunk i n now) (chunk i n ys))
-      ∙ step_store (λ x y. bit_xor x (g y)) n i j now xs ys so_far le long e
-
-  pub added_all : i ≡ length xs → now ≡ zip2 bit_xor xs (map g ys)
-  added_all all = at_end (λ x y. bit_xor x (g y)) i now xs ys so_far long all ∙ sym (zip2-map_right bit_xor g xs ys)
 
   -- the others at once
   pub added_rest : (rest : List ℕ) → i ≤ length xs → rest ≡ zip2 bit_xor (take (length now - i) (drop i now)) (map g (drop i ys)) → put_mid i (length now - i) now rest ≡ zip2 bit_xor xs (map g ys)
@@ -153,18 +125,3 @@ module _ (g : ℕ → ℕ) (now xs ys : List ℕ) (i : ℕ) (so_far : now ≡ zi
       ∙ ap (λ zs. take i zs ++ zip2 f (drop i xs) (drop i ys)) so_far
       ∙ take-zip_upto f i xs ys (omega arith)
       ∙ sym (zip2-map_right bit_xor g xs ys)
-
--- ---- a list whose own elements a loop makes by g, and to which it adds another's
-
-module _ (g : ℕ → ℕ) (now xs ys : List ℕ) (i : ℕ) (so_far : now ≡ zip_upto (λ x y. bit_xor (g x) y) i xs ys) (long : length xs ≤ length ys) where
-  pub both_one : (x : ℕ) → x ≡ g (get_or now i 0) → i < length xs → set now i (bit_xor x (get_or ys i 0)) ≡ zip_upto (λ x y. bit_xor (g x) y) (i + 1) xs ys
-  both_one x is lt = ap (λ p. set now i (bit_xor p (get_or ys i 0))) is ∙ step_one (λ x y. bit_xor (g x) y) i now xs ys 0 0 so_far lt long
-
-  pub both_store : (n j : ℕ) (made : List ℕ) → made ≡ map g (chunk i n now) → i + n ≤ length xs → j ≡ i + n → put_chunk i now (zip2 bit_xor made (chunk i n ys)) ≡ zip_upto (λ x y. bit_xor (g x) y) j xs ys
-  both_store n j made is le e =
-      ap (λ t. put_chunk i now (zip2 bit_xor t (chunk i n ys))) is
-      ∙ ap (put_chunk i now) (zip2-map_left bit_xor g (chunk i n now) (chunk i n ys))
-      ∙ step_store (λ x y. bit_xor (g x) y) n i j now xs ys so_far le long e
-
-  pub both_all : i ≡ length xs → now ≡ zip2 bit_xor (map g xs) ys
-  both_all all = at_end (λ x y. bit_xor (g x) y) i now xs ys so_far long all ∙ sym (zip2-map_left bit_xor g xs ys)

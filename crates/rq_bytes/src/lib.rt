@@ -4,6 +4,7 @@
 pub mod error;
 pub mod gf2;
 mod half_products;
+mod lanes;
 mod logarithms;
 mod marks;
 pub mod octet;

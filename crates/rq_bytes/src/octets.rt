@@ -3,6 +3,7 @@ ghost use Rattle.std.specs.Prelude.{◌≡◌, ◌↔◌, ◌+◌, ◌*◌, ◌%
 ghost use Rattle.rq_bytes.specs.BinaryOctetVec.{octets_of_bits, padding_of, packed_bits};
 ghost use Rattle.rq_standard.specs.Rows.{row_sum, row_multiple};
 
+use crate::lanes::{AddMade, LaneOperation, change_row};
 use crate::octet::Octet;
 use crate::products::{LANES, bit_product, bit_products, half_of_word, plane_products, product};
 use std::marker::Model;
@@ -96,14 +97,32 @@ pub fn add_assign(octets: &mut [u8], other: &[u8])
     requires { length other.now ≡ length octets.old }
     ensures { octets.new ≡ row_sum octets.old other.now }
 {
-    let (chunks, _) = other.as_chunks::<LANES>();
-    for (block, chunk) in chunks.iter().enumerate() {
-        let at = LANES * block;
-        let sum = u8x32::from_slice(&octets[at..]) ^ u8x32::from_array(*chunk);
-        sum.copy_to_slice(&mut octets[at..]);
+    change_row(octets, &Added { other });
+}
+
+// Adds another row.
+#[derive(Clone, Copy)]
+struct Added<'a> {
+    other: &'a [u8],
+}
+
+impl<'a> LaneOperation for Added<'a> {
+    ghost use Rattle.std.specs.Prelude.{length, get_or};
+    ghost use Rattle.std.specs.Int.Bits.{bit_xor};
+
+    ghost made = { λ s x i. bit_xor x (get_or s.other.now i 0) };
+
+    ghost places = { λ s. length s.other.now };
+
+    #[inline(always)]
+    fn lanes(&self, octets: u8x32, place: usize) -> u8x32 {
+        let other = self.other;
+        octets ^ u8x32::from_slice(&other[place..])
     }
-    for i in LANES * chunks.len()..octets.len() {
-        octets[i] ^= other[i];
+
+    #[inline(always)]
+    fn octet(&self, octet: u8, place: usize) -> u8 {
+        octet ^ self.other[place]
     }
 }
 
@@ -114,16 +133,12 @@ pub fn mulassign_scalar(octets: &mut [u8], scalar: &Octet)
     ensures octet { scalar.now < 256 }
     ensures multiple { octets.new ≡ row_multiple scalar.now octets.old }
 {
-    let scalar = scalar.byte();
-    let blocks = octets.len() / LANES;
-    for block in 0..blocks {
-        let at = LANES * block;
-        let multiple = plane_products(scalar, u8x32::from_slice(&octets[at..]));
-        multiple.copy_to_slice(&mut octets[at..]);
-    }
-    for i in LANES * blocks..octets.len() {
-        octets[i] = product(scalar, octets[i]);
-    }
+    change_row(
+        octets,
+        &PlaneProducts {
+            scalar: scalar.byte(),
+        },
+    );
 }
 
 /// Adds a multiple of a row to a row of the same length.
@@ -134,16 +149,34 @@ pub fn fused_addassign_mul_scalar(octets: &mut [u8], other: &[u8], scalar: &Octe
     ensures octet { scalar.now < 256 }
     ensures sum { octets.new ≡ row_sum octets.old (row_multiple scalar.now other.now) }
 {
-    let scalar = scalar.byte();
-    let (chunks, _) = other.as_chunks::<LANES>();
-    for (block, chunk) in chunks.iter().enumerate() {
-        let at = LANES * block;
-        let multiple = plane_products(scalar, u8x32::from_array(*chunk));
-        let sum = u8x32::from_slice(&octets[at..]) ^ multiple;
-        sum.copy_to_slice(&mut octets[at..]);
+    let operation = &PlaneProducts {
+        scalar: scalar.byte(),
+    };
+    change_row(octets, &AddMade { other, operation });
+}
+
+// Multiplies by an octet, one bit of the lanes after another.
+#[derive(Clone, Copy)]
+struct PlaneProducts {
+    scalar: u8,
+}
+
+impl LaneOperation for PlaneProducts {
+    ghost use Rattle.std.specs.Prelude.{◌^◌};
+    ghost use Rattle.rq_standard.specs.Octets.{octet_mul};
+
+    ghost made = { λ s x i. octet_mul s.scalar x };
+
+    ghost places = { λ s. 2 ^ 64 };
+
+    #[inline(always)]
+    fn lanes(&self, octets: u8x32, _place: usize) -> u8x32 {
+        plane_products(self.scalar, octets)
     }
-    for i in LANES * chunks.len()..octets.len() {
-        octets[i] ^= product(scalar, other[i]);
+
+    #[inline(always)]
+    fn octet(&self, octet: u8, _place: usize) -> u8 {
+        product(self.scalar, octet)
     }
 }
 
@@ -172,10 +205,34 @@ pub fn add_bit_multiples(octets: &mut [u8], bits: &[u64], scalar: u8)
     requires whole { length octets.old % 32 ≡ 0 }
     ensures { octets.new ≡ row_sum octets.old (row_multiple scalar (octets_of_bits (length octets.old) bits.now)) }
 {
-    for block in 0..octets.len() / LANES {
-        let at = LANES * block;
-        let half = half_of_word(bits[block / 2], block % 2);
-        let sum = u8x32::from_slice(&octets[at..]) ^ bit_products(scalar, half);
-        sum.copy_to_slice(&mut octets[at..]);
+    change_row(octets, &BitMultiples { bits, scalar });
+}
+
+// Adds an octet's multiples of packed bits.
+#[derive(Clone, Copy)]
+struct BitMultiples<'a> {
+    bits: &'a [u64],
+    scalar: u8,
+}
+
+impl<'a> LaneOperation for BitMultiples<'a> {
+    ghost use Rattle.std.specs.Prelude.{◌*◌, length};
+    ghost use Rattle.std.specs.Int.Bits.{bit_xor};
+    ghost use Rattle.rq_standard.specs.Octets.{octet_mul};
+    ghost use Rattle.rq_bytes.specs.BinaryOctetVec.{packed_bit};
+
+    ghost made = { λ s x i. bit_xor x (octet_mul s.scalar (packed_bit s.bits.now i)) };
+
+    ghost places = { λ s. 64 * length s.bits.now };
+
+    #[inline(always)]
+    fn lanes(&self, octets: u8x32, place: usize) -> u8x32 {
+        let half = half_of_word(self.bits[place / WORD_BITS], place / LANES % 2);
+        octets ^ bit_products(self.scalar, half)
+    }
+
+    #[inline(always)]
+    fn octet(&self, octet: u8, place: usize) -> u8 {
+        octet ^ bit_product(self.scalar, self.bits[place / WORD_BITS], place % WORD_BITS)
     }
 }

@@ -3,8 +3,8 @@ ghost use Rattle.std.specs.Prelude.{◌≡◌, ◌+◌, ◌<◌, ◌≤◌, leng
 ghost use Rattle.rq_bytes.specs.Ranges.{range_of};
 ghost use Rattle.rq_bytes.specs.RangeSums.{with_multiples_added, with_doubled_sum, doubled_sum, by_one, IsRangeBeside, BeginsNotInside};
 
+use crate::lanes::write_piece;
 use crate::products::{LANES, doubled_lanes, product};
-use crate::range_sums::write_piece;
 use std::simd::Simd;
 use std::simd::prelude::*;
 

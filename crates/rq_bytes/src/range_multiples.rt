@@ -5,8 +5,8 @@ ghost use Rattle.rq_bytes.specs.RangeSums.{with_multiples_added, IsRangeBeside};
 ghost use Rattle.rq_bytes.specs.Targets.{start_and_octet};
 
 use crate::half_products::{HalfProducts, Halves};
+use crate::lanes::write_piece;
 use crate::products::{LANES, product};
-use crate::range_sums::write_piece;
 use std::simd::prelude::*;
 
 /// Where a multiple is added, and the octet that multiplies.

@@ -3,6 +3,7 @@ ghost use Rattle.std.specs.Prelude.{◌≡◌, ◌+◌, ◌-◌, ◌<◌, ◌≤
 ghost use Rattle.rq_bytes.specs.Ranges.{with_range};
 ghost use Rattle.rq_bytes.specs.RangeSums.{with_ranges_added, with_part_added, sum_of_ranges, IsRangeBeside};
 
+use crate::lanes::write_piece;
 use std::simd::Simd;
 
 /// Adds the `len` octets from each of several starts on to those from `dest` on, in one pass over
@@ -106,14 +107,4 @@ fn piece_sum<const N: usize>(
         sum ^= Simd::<u8, N>::from_slice(&bytes[*src + at..]);
     }
     sum
-}
-
-/// Writes a piece of N octets from `at` on.
-#[inline(always)]
-pub(crate) fn write_piece<const N: usize>(bytes: &mut [u8], at: usize, piece: Simd<u8, N>)
-    requires len { length piece ≡ N }
-    requires within { at + N ≤ length bytes.old }
-    ensures { bytes.new ≡ with_range bytes.old at piece.entry }
-{
-    piece.copy_to_slice(&mut bytes[at..]);
 }

@@ -3,9 +3,10 @@ ghost use Rattle.std.specs.Prelude.{◌≡◌, ◌<◌, length};
 ghost use Rattle.rq_standard.specs.Rows.{row_sum, row_multiple};
 
 use crate::half_products::HalfProducts;
+use crate::lanes::{AddMade, LaneOperation, change_row};
 use crate::octet::Octet;
 use crate::octets::add_assign;
-use crate::products::{LANES, doubled_lanes, product};
+use crate::products::{doubled_lanes, product};
 use std::simd::prelude::*;
 
 /// Multiplies a row by an octet. A multiple by 2 needs no look-up. Not in the Rust crate.
@@ -14,9 +15,9 @@ pub fn multiply_row(octets: &mut [u8], scalar: &Octet)
     ensures multiple { octets.new ≡ row_multiple scalar.now octets.old }
 {
     if scalar.byte() == 2 {
-        double_row(octets);
+        change_row(octets, &Doubled);
     } else {
-        multiply(octets, &HalfProducts::new(scalar.byte()));
+        change_row(octets, &HalfProducts::new(scalar.byte()));
     }
 }
 
@@ -30,55 +31,8 @@ pub fn add_row_multiple(octets: &mut [u8], other: &[u8], scalar: &Octet)
     if scalar.byte() == 1 {
         add_assign(octets, other);
     } else {
-        add_multiple(octets, other, &HalfProducts::new(scalar.byte()));
-    }
-}
-
-// Multiplies a row by an octet. Each octet of the row is looked up by its halves.
-fn multiply(octets: &mut [u8], factor: &HalfProducts)
-    ensures { octets.new ≡ row_multiple factor.now.octet octets.old }
-{
-    let blocks = octets.len() / LANES;
-    for block in 0..blocks {
-        let at = LANES * block;
-        let multiple = factor.lane_products(u8x32::from_slice(&octets[at..]));
-        multiple.copy_to_slice(&mut octets[at..]);
-    }
-    for i in LANES * blocks..octets.len() {
-        octets[i] = product(factor.octet, octets[i]);
-    }
-}
-
-// Adds an octet's multiple of a row to a row of the same length. Each octet of the row that is
-// multiplied is looked up by its halves.
-fn add_multiple(octets: &mut [u8], other: &[u8], factor: &HalfProducts)
-    requires { length other.now ≡ length octets.old }
-    ensures { octets.new ≡ row_sum octets.old (row_multiple factor.now.octet other.now) }
-{
-    let blocks = octets.len() / LANES;
-    for block in 0..blocks {
-        let at = LANES * block;
-        let multiple = factor.lane_products(u8x32::from_slice(&other[at..]));
-        let sum = u8x32::from_slice(&octets[at..]) ^ multiple;
-        sum.copy_to_slice(&mut octets[at..]);
-    }
-    for i in LANES * blocks..octets.len() {
-        octets[i] ^= product(factor.octet, other[i]);
-    }
-}
-
-// Multiplies a row by x, as most multiplications of a plan do. Nothing is looked up for it.
-fn double_row(octets: &mut [u8])
-    ensures { octets.new ≡ row_multiple 2 octets.old }
-{
-    let blocks = octets.len() / LANES;
-    for block in 0..blocks {
-        let at = LANES * block;
-        let multiple = doubled_lanes(u8x32::from_slice(&octets[at..]));
-        multiple.copy_to_slice(&mut octets[at..]);
-    }
-    for i in LANES * blocks..octets.len() {
-        octets[i] = product(2, octets[i]);
+        let operation = &HalfProducts::new(scalar.byte());
+        change_row(octets, &AddMade { other, operation });
     }
 }
 
@@ -88,14 +42,75 @@ pub fn double_and_add(octets: &mut [u8], other: &[u8])
     requires { length other.now ≡ length octets.old }
     ensures { octets.new ≡ row_sum (row_multiple 2 octets.old) other.now }
 {
-    let blocks = octets.len() / LANES;
-    for block in 0..blocks {
-        let at = LANES * block;
-        let multiple = doubled_lanes(u8x32::from_slice(&octets[at..]));
-        let sum = multiple ^ u8x32::from_slice(&other[at..]);
-        sum.copy_to_slice(&mut octets[at..]);
+    change_row(octets, &DoubledAndAdded { other });
+}
+
+// The multiple of each octet is looked up by its halves.
+impl LaneOperation for HalfProducts {
+    ghost use Rattle.std.specs.Prelude.{◌^◌};
+    ghost use Rattle.rq_standard.specs.Octets.{octet_mul};
+
+    ghost made = { λ s x i. octet_mul s.octet x };
+
+    ghost places = { λ s. 2 ^ 64 };
+
+    #[inline(always)]
+    fn lanes(&self, octets: u8x32, _place: usize) -> u8x32 {
+        self.lane_products(octets)
     }
-    for i in LANES * blocks..octets.len() {
-        octets[i] = product(2, octets[i]) ^ other[i];
+
+    #[inline(always)]
+    fn octet(&self, octet: u8, _place: usize) -> u8 {
+        product(self.octet, octet)
+    }
+}
+
+// Multiplies by x, as most multiplications of a plan do. Nothing is looked up for it.
+#[derive(Clone, Copy)]
+struct Doubled;
+
+impl LaneOperation for Doubled {
+    ghost use Rattle.std.specs.Prelude.{◌^◌};
+    ghost use Rattle.rq_standard.specs.Octets.{octet_mul};
+
+    ghost made = { λ s x i. octet_mul 2 x };
+
+    ghost places = { λ s. 2 ^ 64 };
+
+    #[inline(always)]
+    fn lanes(&self, octets: u8x32, _place: usize) -> u8x32 {
+        doubled_lanes(octets)
+    }
+
+    #[inline(always)]
+    fn octet(&self, octet: u8, _place: usize) -> u8 {
+        product(2, octet)
+    }
+}
+
+// Multiplies by x, and adds another row.
+#[derive(Clone, Copy)]
+struct DoubledAndAdded<'a> {
+    other: &'a [u8],
+}
+
+impl<'a> LaneOperation for DoubledAndAdded<'a> {
+    ghost use Rattle.std.specs.Prelude.{length, get_or};
+    ghost use Rattle.std.specs.Int.Bits.{bit_xor};
+    ghost use Rattle.rq_standard.specs.Octets.{octet_mul};
+
+    ghost made = { λ s x i. bit_xor (octet_mul 2 x) (get_or s.other.now i 0) };
+
+    ghost places = { λ s. length s.other.now };
+
+    #[inline(always)]
+    fn lanes(&self, octets: u8x32, place: usize) -> u8x32 {
+        let other = self.other;
+        doubled_lanes(octets) ^ u8x32::from_slice(&other[place..])
+    }
+
+    #[inline(always)]
+    fn octet(&self, octet: u8, place: usize) -> u8 {
+        product(2, octet) ^ self.other[place]
     }
 }

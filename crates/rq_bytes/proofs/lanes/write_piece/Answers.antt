@@ -1,8 +1,8 @@
--- What the check leaves to show of `range_sums::write_piece`.
+-- What the check leaves to show of `lanes::write_piece`.
 use Rattle.std.proofs.Common.{◌++◌, length, take, ap, ◌∙◌, arith}
 use Rattle.std.proofs.lemmas.List.{drop-drop}
 use Rattle.std.proofs.lemmas.Simd.{put_chunk_is}
-use Rattle.rq_bytes.proofs.range_sums.write_piece.Goals as goal
+use Rattle.rq_bytes.proofs.lanes.write_piece.Goals as goal
 
 pub returns : goal.returns
 returns g c =

@@ -1,0 +1,115 @@
+//! Operations on each octet of a row, whole vectors of them at once.
+ghost use Rattle.std.specs.Prelude.{◌≡◌, ℕ, ◌+◌, ◌%◌, ◌≤◌, length};
+ghost use Rattle.std.specs.List.{range_with_len};
+ghost use Rattle.std.specs.Simd.Lanes.{zip2, chunk, put_chunk};
+ghost use Rattle.rq_bytes.specs.Ranges.{with_range};
+
+use crate::products::LANES;
+use std::simd::Simd;
+use std::simd::prelude::*;
+
+/// What is made of the octet at each place of a row, by an operation on one octet and on a vector of
+/// them.
+pub(crate) trait LaneOperation {
+    ghost use Rattle.std.specs.Prelude.{◌≡◌, ℕ, ◌+◌, ◌%◌, ◌<◌, ◌≤◌, length};
+    ghost use Rattle.std.specs.List.{range_with_len};
+    ghost use Rattle.std.specs.Simd.Lanes.{zip2};
+
+    // what it makes of an octet at a place
+    ghost made: { Self → ℕ → ℕ → ℕ };
+
+    // how many places it knows
+    ghost places: { Self → ℕ };
+
+    /// What it makes of the octets from a place on, where whole vectors stand before it.
+    fn lanes(&self, octets: u8x32, place: usize) -> u8x32
+        requires long { length octets ≡ 32 }
+        requires whole { place % 32 ≡ 0 }
+        requires within { place + 32 ≤ places self.now }
+        ensures { result ≡ zip2 (made self.now) octets (range_with_len place (length octets)) };
+
+    /// What it makes of the octet at a place.
+    fn octet(&self, octet: u8, place: usize) -> u8
+        requires { place < places self.now }
+        ensures { result ≡ made self.now octet place };
+}
+
+/// Does an operation to each octet of a row, two vectors at once. It is compiled anew for each
+/// operation.
+#[inline(always)]
+pub(crate) fn change_row<O: LaneOperation>(octets: &mut [u8], operation: &O)
+    requires { length octets.old ≤ O.places operation.now }
+    ensures { octets.new ≡ zip2 (O.made operation.now) octets.old (range_with_len 0 (length octets.old)) }
+{
+    let pairs = octets.len() / (2 * LANES);
+    for pair in 0..pairs {
+        // Both are made before the first is written, so that all reads go ahead of the writes.
+        let at = 2 * LANES * pair;
+        let second = at + LANES;
+        let made = operation.lanes(u8x32::from_slice(&octets[at..]), at);
+        let made_second = operation.lanes(u8x32::from_slice(&octets[second..]), second);
+        made.copy_to_slice(&mut octets[at..]);
+        made_second.copy_to_slice(&mut octets[second..]);
+    }
+    // These are counted by rests of divisions, so that the compiler knows that they are few.
+    for block in 0..octets.len() / LANES % 2 {
+        change_vector(octets, operation, 2 * LANES * pairs + LANES * block);
+    }
+    let whole = octets.len() / LANES * LANES;
+    for k in 0..octets.len() % LANES {
+        let i = whole + k;
+        octets[i] = operation.octet(octets[i], i);
+    }
+}
+
+// Does an operation to the vector of octets from a place on.
+#[inline(always)]
+fn change_vector<O: LaneOperation>(octets: &mut [u8], operation: &O, at: usize)
+    requires whole { at % 32 ≡ 0 }
+    requires within { at + 32 ≤ length octets.old }
+    requires known { length octets.old ≤ O.places operation.now }
+    ensures { octets.new ≡ put_chunk at octets.old (zip2 (O.made operation.now) (chunk at 32 octets.old) (range_with_len at (length (chunk at 32 octets.old)))) }
+{
+    let made = operation.lanes(u8x32::from_slice(&octets[at..]), at);
+    made.copy_to_slice(&mut octets[at..]);
+}
+
+/// Adds what another operation makes of another row.
+#[derive(Clone, Copy)]
+pub(crate) struct AddMade<'a, O> {
+    pub(crate) other: &'a [u8],
+    pub(crate) operation: &'a O,
+}
+
+impl<'a, O: LaneOperation> LaneOperation for AddMade<'a, O> {
+    ghost use Rattle.std.specs.Prelude.{length, get_or, min};
+    ghost use Rattle.std.specs.Int.Bits.{bit_xor};
+
+    ghost made = { λ s x i. bit_xor x (O.made s.operation.now (get_or s.other.now i 0) i) };
+
+    ghost places = { λ s. min (O.places s.operation.now) (length s.other.now) };
+
+    #[inline(always)]
+    fn lanes(&self, octets: u8x32, place: usize) -> u8x32 {
+        let other = self.other;
+        let made = self
+            .operation
+            .lanes(u8x32::from_slice(&other[place..]), place);
+        octets ^ made
+    }
+
+    #[inline(always)]
+    fn octet(&self, octet: u8, place: usize) -> u8 {
+        octet ^ self.operation.octet(self.other[place], place)
+    }
+}
+
+/// Writes a piece of N octets from `at` on.
+#[inline(always)]
+pub(crate) fn write_piece<const N: usize>(bytes: &mut [u8], at: usize, piece: Simd<u8, N>)
+    requires len { length piece ≡ N }
+    requires within { at + N ≤ length bytes.old }
+    ensures { bytes.new ≡ with_range bytes.old at piece.entry }
+{
+    piece.copy_to_slice(&mut bytes[at..]);
+}
