@@ -14,7 +14,7 @@ pub mod RangeDoublings
 pub mod RangeFacts
 pub mod RangeLoans
 pub mod RangeMultiples
-pub mod RangeSumLaws
+pub mod RowSums
 pub mod SlabDoublings
 pub mod SlabFacts
 pub mod SlabMultiples

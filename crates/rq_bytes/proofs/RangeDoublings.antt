@@ -1,5 +1,5 @@
 -- A range of a buffer, doubled and added to others, piece by piece.
-use Rattle.std.proofs.Common.{◌≡◌, ◌⊎◌, inl, inr, ⊎_elim, ℕ, ◌+◌, ◌≤◌, List, ◌++◌, length, All, refl, sym, ap, ◌∙◌, arith}
+use Rattle.std.proofs.Common.{◌≡◌, ◌⊎◌, inl, inr, ⊎_elim, ℕ, ◌+◌, ◌≤◌, List, [], ◌∷◌, ◌++◌, length, All, refl, sym, ap, ◌∙◌, arith}
 use Rattle.std.proofs.lemmas.List.{length-map, map-append}
 use Rattle.std.proofs.lemmas.List.Elements.{All-weaker}
 use Rattle.std.proofs.lemmas.Simd.{length-zip2}
@@ -8,9 +8,8 @@ use Rattle.rq_standard.specs.Octets.{octet_mul}
 use Rattle.rq_standard.specs.Rows.{row_sum, row_multiple}
 use Rattle.rq_bytes.specs.Ranges.{range_of, with_range}
 use Rattle.rq_bytes.specs.RangeSums.{with_multiples_added, doubled_sum, with_doubled_sum, IsRangeBeside, BeginsNotInside}
-use Rattle.rq_bytes.proofs.RangeFacts.{length-range, length-with_range, range-written}
+use Rattle.rq_bytes.proofs.RangeFacts.{length-range, range-join, length-with_range, range-written}
 use Rattle.rq_bytes.proofs.RangeMultiples.{plus, plus-none, plus-join, range-plus, all_plus, all_plus-is, length-all_plus, all_plus-none, plus-all_plus, all_plus-join, range-all_plus, with_range-plus, room_within, piece_stays}
-use Rattle.rq_bytes.proofs.RangeSumLaws.{range-join, zip2-join}
 
 -- what is added to a row where it is doubled and another one added to it
 abbrev change_of : List ℕ → List ℕ → List ℕ
@@ -23,6 +22,12 @@ pub length-doubled_sum : (bytes : List ℕ) (dest src n : ℕ) → dest + n ≤ 
 length-doubled_sum bytes dest src n to from =
     let x = length-range bytes dest n to in
     length-doubled (range_of bytes dest n) (range_of bytes src n) (x ∙ sym (length-range bytes src n from)) ∙ x
+
+zip2-join : (xs ys us vs : List ℕ) → length xs ≡ length us → row_sum (xs ++ ys) (us ++ vs) ≡ row_sum xs us ++ row_sum ys vs
+zip2-join [] ys [] vs e = refl
+zip2-join [] ys (u ∷ us) vs e = absurd (omega arith)
+zip2-join (x ∷ xs) ys [] vs e = absurd (omega arith)
+zip2-join (x ∷ xs) ys (u ∷ us) vs e = ap (λ zs. bit_xor x u ∷ zs) (zip2-join xs ys us vs (omega arith))
 
 change-join : (xs ys us vs : List ℕ) → length xs ≡ length ys → change_of (xs ++ us) (ys ++ vs) ≡ change_of xs ys ++ change_of us vs
 change-join xs ys us vs e =

@@ -1,6 +1,6 @@
 -- Two ranges of a list, read and written.
 use Rattle.std.proofs.Common.{◌≡◌, ◌⊎◌, ⊎_elim, ℕ, ◌+◌, ◌-◌, ◌≤◌, List, ◌++◌, length, take, drop, sym, ap, ◌∙◌, arith}
-use Rattle.std.proofs.Math.Seq.{take-append_seam, drop-append_seam, drop-append-add}
+use Rattle.std.proofs.Math.Seq.{take-add, take-append_seam, drop-append_seam, drop-append-add}
 use Rattle.std.proofs.lemmas.List.{append_assoc, drop-drop, length-append, length-drop, length-take-le, take-append-drop}
 use Rattle.rq_bytes.specs.Ranges.{range_of, with_range}
 
@@ -130,3 +130,10 @@ second_kept xs i j n ys apart i_in j_in long = ⊎_elim
     let two = range_of xs j n in
     sym (rewritten-down a two ys a.first_long long) ∙ sym (set_high a two (range_of xs i n) ys a.first_long a.second_long long) ∙ ap (λ l. with_range l i ys) (sym a.is))
     apart
+
+-- two ranges that follow each other
+pub range-join : {X : Type 0} (xs : List X) (i j n m : ℕ) → j ≡ i + n → range_of xs i (n + m) ≡ range_of xs i n ++ range_of xs j m
+range-join xs i j n m e =
+    take-add n m (drop i xs)
+    ∙ ap (λ ys. range_of xs i n ++ take m ys) (drop-drop n i xs)
+    ∙ ap (λ k. range_of xs i n ++ range_of xs k m) (sym e)

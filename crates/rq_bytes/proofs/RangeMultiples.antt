@@ -14,8 +14,7 @@ use Rattle.rq_standard.specs.Octets.{octet_mul}
 use Rattle.rq_standard.specs.Rows.{row_sum, row_multiple}
 use Rattle.rq_bytes.specs.Ranges.{range_of, with_range}
 use Rattle.rq_bytes.specs.RangeSums.{with_row_added, with_multiples_added, IsRangeBeside}
-use Rattle.rq_bytes.proofs.RangeFacts.{length-range}
-use Rattle.rq_bytes.proofs.RangeSumLaws.{range-join}
+use Rattle.rq_bytes.proofs.RangeFacts.{length-range, range-join}
 
 -- ---- a row, added to the elements from a place on
 

@@ -1,6 +1,6 @@
 -- Multiples of one symbol of a slab, added to several others, one after another.
 use Rattle.std.proofs.Common.{◌≡◌, ◌≢◌, ℕ, ◌+◌, ◌*◌, ◌<◌, Option, List, [], ◌∷◌, length, get_or, set, map, All, refl, sym, ap, ◌∙◌, subst, arith}
-use Rattle.std.proofs.lemmas.List.{get_or-map, get_or-set_other, length-map}
+use Rattle.std.proofs.lemmas.List.{get_or-set_other, length-map}
 use Rattle.std.proofs.lemmas.List.Elements.{All-head, All-tail, All-map, All-weaker}
 use Rattle.std.proofs.lemmas.Simd.{length-zip2}
 use Rattle.std.specs.Int.Bits.{bit_xor}
@@ -18,6 +18,7 @@ use Rattle.rq_bytes.specs.declared.range_multiples.Target.{Target}
 use Rattle.rq_bytes.specs.declared.symbol_slab.multiples.Multiple.{Multiple}
 use Rattle.rq_bytes.specs.declared.symbol_slab.SymbolSlab.TheInside.{Inside}
 use Rattle.rq_bytes.proofs.RangeMultiples.{length-multiple, length-row_added}
+use Rattle.rq_bytes.proofs.RowSums.{all_unmap}
 use Rattle.rq_bytes.proofs.SlabFacts.{HoldsSlab, seen, apart, range_at, length-range_at, within, one_written, meant_below, length-after}
 
 abbrev pub fma_of : ℕ → Multiple → Operation
@@ -31,9 +32,6 @@ abbrev pub AreTargets : Slab → ℕ → List Multiple → Type 0
 AreTargets slab src multiples = All (IsTarget slab src) multiples
 
 -- what holds of each image
-all_unmap : {X Y : Type 0} (P : Y → Type 0) (f : X → Y) (xs : List X) → All P (map f xs) → All (λ x. P (f x)) xs
-all_unmap P f xs all = λ k d lt. subst P (get_or-map f xs k d (f d) lt) (all k (f d) (omega (arith, length-map xs f)))
-
 octets_small : (slab : Slab) (targets : List Target) (multiples : List Multiple) → map start_and_octet targets ≡ map (start_and_octet_in slab) multiples → All (λ m. m.scalar < 256) multiples
 octets_small slab targets multiples same =
     let P = λ (p : ℕ × ℕ). p.1 < 256 in

@@ -9,10 +9,9 @@ use Rattle.rq_algebra.proofs.SymbolSums.{length-add_symbols}
 use Rattle.rq_standard.specs.OctetField.{octets}
 use Rattle.rq_standard.specs.Rows.{row_sum}
 use Rattle.rq_standard.proofs.RowSymbols.{add_symbols-rows}
-use Rattle.rq_bytes.specs.Ranges.{range_of, with_range}
+use Rattle.rq_bytes.specs.Ranges.{with_range}
 use Rattle.rq_bytes.specs.RangeSums.{with_ranges_added, sum_of_ranges, IsRangeBeside}
 use Rattle.rq_bytes.specs.SymbolSlab.{Slab, store_of, after, after_all, HasPlace, Allows, symbol_in, with_symbols_added}
-use Rattle.rq_bytes.proofs.RangeSumLaws.{summed, length-summed}
 use Rattle.rq_bytes.proofs.SlabFacts.{HoldsSlab, seen, apart, range_at, length-range_at, size_is, within, one_written, meant_below, length-after, order-after}
 use Rattle.rq_bytes.specs.contracts.symbol_slab.SymbolSlab.{the_view, the_invariant}
 use Rattle.rq_bytes.specs.declared.symbol_slab.SymbolSlab.TheInside.{Inside}
@@ -49,6 +48,16 @@ module _ {X : Type 0} (operation : X → Operation) (keeps : (x : X) (order : Op
         count = ap (λ (v : Slab). length v.values) is ∙ length-after op now ∙ has_run.count;
         order = ap (λ (v : Slab). v.order) is ∙ order-after op now ∙ keeps (get_or xs i default) now.order ∙ has_run.order;
       }
+
+-- a row and those that f gives for places, added one after another
+abbrev summed : (List ℕ → List ℕ → List ℕ) → (ℕ → List ℕ) → List ℕ → List ℕ → List ℕ
+summed add f x sources = fold (λ sum src. add sum (f src)) x sources
+
+length-summed : (add : List ℕ → List ℕ → List ℕ) (n : ℕ) → ((xs ys : List ℕ) → length xs ≡ n → length ys ≡ n → length (add xs ys) ≡ n)
+    → (f : ℕ → List ℕ) (x sources : List ℕ) → length x ≡ n → All (λ src. length (f src) ≡ n) sources → length (summed add f x sources) ≡ n
+length-summed add n keeps f x [] e all = e
+length-summed add n keeps f x (src ∷ sources) e all =
+    length-summed add n keeps f (add x (f src)) sources (keeps x (f src) e (All-head (λ s. length (f s) ≡ n) src sources all)) (All-tail (λ s. length (f s) ≡ n) src sources all)
 
 -- a symbol and those that f gives for places, added one after another
 abbrev added : (ℕ → List ℕ) → List ℕ → List ℕ → List ℕ
@@ -126,12 +135,11 @@ sources_of inside slab view invariant dest sources allowed =
 module _ {bytes : List ℕ} {count size : ℕ} {order : Option (List ℕ)} {slab : Slab} (is : HoldsSlab bytes count size order slab) where
   -- ranges added to a row are symbols added to it
   ranges_are_symbols : (row places : List ℕ) → All (λ p. meant_at slab.order p < length slab.values) places
-      → with_ranges_added row bytes (map (start_in slab) places) 0 size ≡ with_symbols_added slab row places
+      → with_ranges_added row bytes (map (start_in slab) places) size ≡ with_symbols_added slab row places
   ranges_are_symbols row [] all = refl
   ranges_are_symbols row (p ∷ places) all =
       let P = λ (q : ℕ). meant_at slab.order q < length slab.values in
-      ap (λ y. with_ranges_added (row_sum row y) bytes (map (start_in slab) places) 0 size)
-      (ap (λ k. range_of bytes k size) (let same : start_in slab p + 0 ≡ start_in slab p = omega arith in same) ∙ range_at is (meant_at slab.order p) (All-head P p places all))
+      ap (λ y. with_ranges_added (row_sum row y) bytes (map (start_in slab) places) size) (range_at is (meant_at slab.order p) (All-head P p places all))
       ∙ ranges_are_symbols (row_sum row (symbol_in slab p)) places (All-tail P p places all)
 
   rows_are_symbols : (x places : List ℕ) → length x ≡ size → All (λ p. meant_at slab.order p < length slab.values) places
@@ -144,23 +152,9 @@ module _ {bytes : List ℕ} {count size : ℕ} {order : Option (List ℕ)} {slab
       ap (λ z. with_symbols_added slab z places) (sym (add_symbols-rows x y (one ∙ sym long)))
       ∙ rows_are_symbols (add_symbols octets x y) places (length-add_symbols octets size size x y long one) (All-tail P p places all)
 
-  -- a row, and the symbols that some places mean, added to it
-  pub row_added : (row new places starts old : List ℕ) → length row ≡ slab.symbol_size → All (λ p. meant_at slab.order p < length slab.values) places
-      → starts ≡ map (start_in slab) places → old ≡ bytes → new ≡ with_ranges_added row old starts 0 (length row) → new ≡ with_symbols_added slab row places
-  row_added row new places starts old long all same_starts same is_new =
-      is_new
-      ∙ ap (λ xs. with_ranges_added row xs starts 0 (length row)) same
-      ∙ ap (λ ks. with_ranges_added row bytes ks 0 (length row)) same_starts
-      ∙ ap (with_ranges_added row bytes (map (start_in slab) places) 0) (long ∙ sym (size_is is))
-      ∙ ranges_are_symbols row places all
-
-  pub starts_within : (row places starts old : List ℕ) → length row ≡ slab.symbol_size → All (λ p. meant_at slab.order p < length slab.values) places
-      → starts ≡ map (start_in slab) places → old ≡ bytes → All (λ start. start + length row ≤ length old) starts
-  starts_within row places starts old long all same_starts same =
-      let P = λ (start : ℕ). start + length row ≤ length old in
-      subst (All P) (sym same_starts) (
-      All-map P (start_in slab) places (
-      All-weaker (λ p. meant_at slab.order p < length slab.values) (λ p. P (start_in slab p)) (λ p lt. omega (arith, within is (meant_at slab.order p) lt, long, size_is is, ap length same)) places all))
+  pub symbols_long : (places : List ℕ) → All (λ p. meant_at slab.order p < length slab.values) places → All (λ p. slab.symbol_size ≤ length (symbol_in slab p)) places
+  symbols_long places all =
+      All-weaker (λ p. meant_at slab.order p < length slab.values) (λ p. slab.symbol_size ≤ length (symbol_in slab p)) (λ p lt. omega (arith, size_is is, length-range_at is (meant_at slab.order p) lt)) places all
 
   module _ (dest : ℕ) (to : meant_at slab.order dest < length slab.values) (sources : List ℕ) (all : AreSources slab dest sources) where
     starts_beside : All (IsRangeBeside (length bytes) (start_in slab dest) size) (map (start_in slab) sources)
@@ -177,14 +171,14 @@ module _ {bytes : List ℕ} {count size : ℕ} {order : Option (List ℕ)} {slab
 
     -- what callers see once the sum is written
     pub all_added : (start : ℕ) (starts old new items : List ℕ) → start ≡ start_in slab dest → starts ≡ map (start_in slab) sources → old ≡ bytes → items ≡ new
-        → new ≡ with_range old start (sum_of_ranges old start starts 0 size)
+        → new ≡ with_range old start (sum_of_ranges old start starts size)
         → seen count size order items ≡ after_all (map (λ src. AddAssign dest src) sources) slab
     all_added start starts old new items e same_starts same kept is_new =
         let d = meant_at slab.order dest in
         let x = symbol_in slab dest in
         let sum = added (symbol_in slab) x sources in
         let meant = All-weaker (IsSource slab dest) (λ src. meant_at slab.order src < length slab.values) (λ src a. a.0) sources all in
-        let there = λ (xs : List ℕ) (k : ℕ) (ks : List ℕ). with_range old start (sum_of_ranges xs k ks 0 size) in
+        let there = λ (xs : List ℕ) (k : ℕ) (ks : List ℕ). with_range old start (sum_of_ranges xs k ks size) in
         let long : length sum ≡ size = length-summed (add_symbols octets) size (length-add_symbols octets size size) (symbol_in slab) x sources (length-range_at is d to)
         (All-weaker (IsSource slab dest) (λ src. length (symbol_in slab src) ≡ size) (λ src a. length-range_at is (meant_at slab.order src) a.0) sources all) in
         let back : ◌≡◌ {A = Slab} (with_symbol slab dest x) slab = ap (λ (v : List (List ℕ)). record slab { values = v }) (set-get_or slab.values d []) in
@@ -194,8 +188,7 @@ module _ {bytes : List ℕ} {count size : ℕ} {order : Option (List ℕ)} {slab
         ∙ ap (λ k. there bytes k starts) e
         ∙ ap (there bytes (start_in slab dest)) same_starts
         ∙ ap (with_range old start) (
-        ap (λ z. with_ranges_added z bytes (map (start_in slab) sources) 0 size)
-        (ap (λ k. range_of bytes k size) (let here : start_in slab dest + 0 ≡ start_in slab dest = omega arith in here) ∙ range_at is d to)
+        ap (λ z. with_ranges_added z bytes (map (start_in slab) sources) size) (range_at is d to)
         ∙ ranges_are_symbols x sources meant
         ∙ rows_are_symbols x sources (length-range_at is d to) meant))
         ∙ ap (λ (s : Store (List ℕ)). record slab { values = s.values; order = s.order }) (sym (additions slab dest to x sources (All-weaker (IsSource slab dest) (λ src. meant_at slab.order src ≢ meant_at slab.order dest) (λ src a. a.1) sources all)))

@@ -3,17 +3,13 @@ use Rattle.std.specs.Prelude.{ℕ, ◌+◌, ◌≤◌, ◌⊎◌, List, fold, le
 use Rattle.rq_standard.specs.Rows.{row_sum, row_multiple}
 use Rattle.rq_bytes.specs.Ranges.{range_of, with_range}
 
--- a row, and the n elements that begin `at` elements after each of some starts, added to it
-abbrev pub with_ranges_added : List ℕ → List ℕ → List ℕ → ℕ → ℕ → List ℕ
-with_ranges_added row bytes sources at n = fold (λ sum src. row_sum sum (range_of bytes (src + at) n)) row sources
+-- a row, and the n elements of a list from each of some starts on, added to it
+abbrev pub with_ranges_added : List ℕ → List ℕ → List ℕ → ℕ → List ℕ
+with_ranges_added row bytes starts n = fold (λ sum start. row_sum sum (range_of bytes start n)) row starts
 
--- a row to whose n elements from `start` on those n of a buffer are added that begin `start` elements after each of some starts
-abbrev pub with_part_added : List ℕ → List ℕ → List ℕ → ℕ → ℕ → List ℕ
-with_part_added row bytes sources start n = with_range row start (with_ranges_added (range_of row start n) bytes sources start n)
-
--- the sum of the n elements that begin `at` elements after `dest` and of those that begin as many after each of some starts
-abbrev pub sum_of_ranges : List ℕ → ℕ → List ℕ → ℕ → ℕ → List ℕ
-sum_of_ranges bytes dest sources at n = with_ranges_added (range_of bytes (dest + at) n) bytes sources at n
+-- the sum of the n elements from `dest` on and of those from each of some starts on
+abbrev pub sum_of_ranges : List ℕ → ℕ → List ℕ → ℕ → List ℕ
+sum_of_ranges bytes dest starts n = with_ranges_added (range_of bytes dest n) bytes starts n
 
 -- of `count` elements there are `len` from `src` on, and none of them is among the `len` from `dest` on
 abbrev pub IsRangeBeside : ℕ → ℕ → ℕ → ℕ → Type 0

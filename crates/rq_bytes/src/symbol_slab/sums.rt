@@ -1,10 +1,11 @@
 //! Sums of symbols, in one pass over their octets.
-ghost use Rattle.std.specs.Prelude.{◌≡◌, ◌*◌, ◌<◌, ◌≤◌, length, map, All};
+ghost use Rattle.std.specs.Prelude.{◌≡◌, ◌*◌, ◌<◌, ◌≤◌, length, map, take, All};
 ghost use Rattle.rq_algebra.specs.Operations.{AddAssign, meant_at};
-ghost use Rattle.rq_bytes.specs.SymbolSlab.{after_all, HasPlace, Allows, with_symbols_added};
+ghost use Rattle.rq_bytes.specs.SymbolSlab.{after_all, HasPlace, Allows, symbol_in, with_symbols_added};
 
 use super::SymbolSlab;
-use crate::range_sums::{add_ranges, add_ranges_to};
+use crate::octets::add_assign;
+use crate::row_sums::{ROWS, add_ranges, add_rows};
 
 impl SymbolSlab {
     /// Adds several symbols to another one: in one pass over its octets where they are at most eight,
@@ -36,6 +37,7 @@ impl SymbolSlab {
     // not again for each piece of them.
     #[inline(always)]
     fn add_sources<const C: usize>(&mut self, dest: usize, sources: &[usize])
+        requires few { C ≤ 8 }
         requires count { length sources.now ≡ C }
         requires dest { HasPlace self.old dest }
         requires sources { All (λ src. Allows self.old (AddAssign dest src)) sources.now }
@@ -44,25 +46,12 @@ impl SymbolSlab {
         let size = self.symbol_size;
         let start = self.start_of(dest);
         let starts = self.starts_of::<C>(sources);
-        add_ranges(self.data.as_mut_slice(), start, &starts, size);
+        add_ranges::<C>(self.data.as_mut_slice(), start, &starts, size);
     }
 
-    /// Adds the symbols that these places mean to a row of as many octets as a symbol has, up to eight
-    /// of them in each pass over it. Not in the Rust crate.
+    /// Adds the symbols that these places mean to a row of as many octets as a symbol has: in one pass
+    /// over it where they are at most eight, and else one after another. Not in the Rust crate.
     pub fn add_symbols_to(&self, places: &[usize], row: &mut [u8])
-        requires places { All (HasPlace self.now) places.now }
-        requires len { length row.old ≡ self.now.symbol_size }
-        ensures { row.new ≡ with_symbols_added self.now row.old places.now }
-    {
-        for few in places.chunks(8) {
-            self.add_few_to(few, row);
-        }
-    }
-
-    // Adds the symbols that one to eight places mean to a row, in one pass.
-    fn add_few_to(&self, places: &[usize], row: &mut [u8])
-        requires some { 0 < length places.now }
-        requires few { length places.now ≤ 8 }
         requires places { All (HasPlace self.now) places.now }
         requires len { length row.old ≡ self.now.symbol_size }
         ensures { row.new ≡ with_symbols_added self.now row.old places.now }
@@ -76,21 +65,43 @@ impl SymbolSlab {
             5 => self.add_places_to::<5>(places, row),
             6 => self.add_places_to::<6>(places, row),
             7 => self.add_places_to::<7>(places, row),
-            _ => self.add_places_to::<8>(places, row),
+            8 => self.add_places_to::<8>(places, row),
+            _ => {
+                for place in places {
+                    add_assign(row, self.get(*place));
+                }
+            }
         }
     }
 
-    // Adds the symbols that C places mean to a row. Where they begin is found once, and not again for
-    // each piece of them.
+    // Adds the symbols that C places mean to a row, in one pass over it. Where they stand is found once,
+    // and not again for each piece of them.
     #[inline(always)]
     fn add_places_to<const C: usize>(&self, places: &[usize], row: &mut [u8])
+        requires few { C ≤ 8 }
         requires count { length places.now ≡ C }
         requires places { All (HasPlace self.now) places.now }
         requires len { length row.old ≡ self.now.symbol_size }
         ensures { row.new ≡ with_symbols_added self.now row.old places.now }
     {
-        let starts = self.starts_of::<C>(places);
-        add_ranges_to(row, self.data.as_slice(), &starts);
+        let rows = self.rows_of::<C>(places);
+        add_rows(row, &rows[..C]);
+    }
+
+    // The symbols that C places mean.
+    #[inline(always)]
+    fn rows_of<const C: usize>(&self, places: &[usize]) -> [&[u8]; ROWS]
+        requires few { C ≤ 8 }
+        requires count { length places.now ≡ C }
+        requires places { All (HasPlace self.now) places.now }
+        ensures rows { map (λ row. row.now) (take C result) ≡ map (symbol_in self.now) places.now }
+        ensures long { All (λ place. self.now.symbol_size ≤ length (symbol_in self.now place)) places.now }
+    {
+        let mut rows = [self.data.as_slice(); ROWS];
+        for i in 0..C {
+            rows[i] = self.get(places[i]);
+        }
+        rows
     }
 
     // Where the symbols that C places mean begin in the buffer.

@@ -1,20 +1,14 @@
 -- What the check leaves to show of `symbol_slab::SymbolSlab::add_places_to`.
-use Rattle.rq_bytes.proofs.SlabFacts.{holds_slab}
-use Rattle.rq_bytes.proofs.SlabSums.{places_of, starts_within, row_added}
+use Rattle.std.proofs.Common.{◌≤◌, ℕ, All, length, take, subst, sym, ◌∙◌}
+use Rattle.rq_bytes.specs.SymbolSlab.{symbol_in}
+use Rattle.rq_bytes.proofs.RowSums.{rows_long, rows_summed}
 use Rattle.rq_bytes.proofs.symbol_slab.SymbolSlab.add_places_to.Goals as goal
 
-pub add_ranges_to-requires : goal.add_ranges_to-requires
-add_ranges_to-requires g c =
-    let slab = c.args.self.now in
-    let places = c.args.places.now in
-    let meant = places_of c.self.inside slab c.self.view_is c.self.invariant places c.requires.places in
-    starts_within (holds_slab c.self.inside slab c.self.view_is c.self.invariant) c.args.row.now places c.starts_of-starts.result c.as_slice.result.now
-    c.requires.len meant c.starts_of-starts.ensures c.as_slice.ensures.value
+pub add_rows-requires : goal.add_rows-requires
+add_rows-requires g c =
+    let symbol = symbol_in c.args.self.now in
+    rows_long (λ r. r.now) symbol (take g.row.C c.rows_of-rows.result) c.args.places.now c.rows_of-rows.ensures.rows (length c.args.row.now)
+    (subst (λ (n : ℕ). All (λ p. n ≤ length (symbol p)) c.args.places.now) (sym c.requires.len) c.rows_of-rows.ensures.long)
 
 pub returns : goal.returns
-returns g c =
-    let slab = c.args.self.now in
-    let places = c.args.places.now in
-    let meant = places_of c.self.inside slab c.self.view_is c.self.invariant places c.requires.places in
-    row_added (holds_slab c.self.inside slab c.self.view_is c.self.invariant) c.args.row.now c.add_ranges_to.new.row places c.starts_of-starts.result c.as_slice.result.now
-    c.requires.len meant c.starts_of-starts.ensures c.as_slice.ensures.value c.add_ranges_to.ensures
+returns g c = c.add_rows.ensures ∙ rows_summed (λ r. r.now) (symbol_in c.args.self.now) (take g.row.C c.rows_of-rows.result) c.args.places.now c.rows_of-rows.ensures.rows c.args.row.now

@@ -13,8 +13,8 @@ add_ranges-requires-clause-dest g c =
     let is = holds_slab c.self.inside slab c.self.view_is c.self.invariant in
     within_slice is (meant_at slab.order c.args.dest) c.start_of-start.result c.as_mut_slice.result.now c.start_of-start.ensures.below c.start_of-start.ensures.start c.as_mut_slice.ensures.value
 
-pub add_ranges-requires-clause-sources : goal.add_ranges-requires-clause-sources
-add_ranges-requires-clause-sources g c =
+pub add_ranges-requires-clause-starts : goal.add_ranges-requires-clause-starts
+add_ranges-requires-clause-starts g c =
     let slab = c.args.self.now in
     let dest = c.args.dest in
     let is = holds_slab c.self.inside slab c.self.view_is c.self.invariant in

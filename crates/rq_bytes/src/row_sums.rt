@@ -1,0 +1,115 @@
+//! Sums of several rows, in one pass over them.
+ghost use Rattle.std.specs.Prelude.{◌≡◌, ℕ, ◌+◌, ◌≤◌, List, ◌++◌, length, take, map, fold, All};
+ghost use Rattle.rq_standard.specs.Rows.{row_sum};
+ghost use Rattle.rq_bytes.specs.Ranges.{range_of, with_range};
+ghost use Rattle.rq_bytes.specs.RangeSums.{sum_of_ranges, with_ranges_added, IsRangeBeside};
+
+use crate::lanes::{LaneOperation, change_row};
+use crate::slices::range;
+use std::simd::prelude::*;
+
+/// How many rows are added at most in one pass.
+pub(crate) const ROWS: usize = 8;
+
+/// Adds several rows to a row, in one pass over it. It is compiled anew for each known number of them.
+#[inline(always)]
+pub(crate) fn add_rows(octets: &mut [u8], rows: &[&[u8]])
+    requires { All (λ row. length octets.old ≤ length row.now) rows.now }
+    ensures { octets.new ≡ fold (λ sum row. row_sum sum row.now) octets.old rows.now }
+{
+    let len = octets.len();
+    change_row(octets, &RowSum { rows, len });
+}
+
+// Adds several other rows.
+#[derive(Clone, Copy)]
+struct RowSum<'a> {
+    rows: &'a [&'a [u8]],
+    len: usize,
+    ghost long: { All (λ row. len ≤ length row.now) rows.now },
+}
+
+impl<'a> LaneOperation for RowSum<'a> {
+    ghost use Rattle.std.specs.Prelude.{get_or, fold};
+    ghost use Rattle.std.specs.Int.Bits.{bit_xor};
+
+    ghost made = { λ s x i. fold (λ sum row. bit_xor sum (get_or row.now i 0)) x s.rows.now };
+
+    ghost places = { λ s. s.len };
+
+    #[inline(always)]
+    fn lanes(&self, octets: u8x32, place: usize) -> u8x32 {
+        let rows = self.rows;
+        let mut sum = octets;
+        for row in rows {
+            sum ^= u8x32::from_slice(&row[place..]);
+        }
+        sum
+    }
+
+    #[inline(always)]
+    fn octet(&self, octet: u8, place: usize) -> u8 {
+        let rows = self.rows;
+        let mut sum = octet;
+        for row in rows {
+            sum ^= row[place];
+        }
+        sum
+    }
+}
+
+/// Adds the `len` octets from each of C starts on to those from `dest` on, in one pass over them.
+#[inline(always)]
+pub(crate) fn add_ranges<const C: usize>(
+    bytes: &mut [u8],
+    dest: usize,
+    starts: &[usize],
+    len: usize,
+)
+    requires few { C ≤ 8 }
+    requires count { length starts.now ≡ C }
+    requires dest { dest + len ≤ length bytes.old }
+    requires starts { All (IsRangeBeside (length bytes.old) dest len) starts.now }
+    ensures { bytes.new ≡ with_range bytes.old dest (sum_of_ranges bytes.old dest starts.now len) }
+{
+    let (front, rest) = bytes.split_at_mut(dest);
+    let (row, back) = rest.split_at_mut(len);
+    add_rows_beside::<C>(row, front, back, starts);
+}
+
+// Adds the octets from each of C starts on to a row that stands between two parts.
+#[inline(always)]
+fn add_rows_beside<const C: usize>(row: &mut [u8], front: &[u8], back: &[u8], starts: &[usize])
+    requires few { C ≤ 8 }
+    requires count { length starts.now ≡ C }
+    requires starts { All (IsRangeBeside (length front.now + length row.old + length back.now) (length front.now) (length row.old)) starts.now }
+    ensures { row.new ≡ with_ranges_added row.old (front.now ++ (row.old ++ back.now)) starts.now (length row.old) }
+{
+    let rows = rows_beside::<C>(front, back, starts, row.len());
+    add_rows(row, &rows[..C]);
+}
+
+// The `len` octets from each of C starts on, where as many stand between two parts and none of these is
+// among them.
+#[inline(always)]
+fn rows_beside<'a, const C: usize>(
+    front: &'a [u8],
+    back: &'a [u8],
+    starts: &[usize],
+    len: usize,
+) -> [&'a [u8]; ROWS]
+    requires few { C ≤ 8 }
+    requires count { length starts.now ≡ C }
+    requires starts { All (IsRangeBeside (length front.now + len + length back.now) (length front.now) len) starts.now }
+    ensures { (row : List ℕ) → length row ≡ len → map (λ r. r.now) (take C result) ≡ map (λ start. range_of (front.now ++ (row ++ back.now)) start len) starts.now }
+{
+    let mut rows = [front; ROWS];
+    for i in 0..C {
+        rows[i] = if starts[i] < front.len() {
+            range(front, starts[i], len)
+        } else {
+            range(back, starts[i] - front.len() - len, len)
+        };
+    }
+    rows
+}
