@@ -1,5 +1,6 @@
 //! Operations on each octet of a row, whole vectors of them at once.
-ghost use Rattle.std.specs.Prelude.{◌≡◌, ℕ, ◌+◌, ◌%◌, ◌≤◌, length};
+ghost use Rattle.std.specs.Prelude.{◌≡◌, ℕ, ◌+◌, ◌%◌, ◌<◌, ◌≤◌, length, get_or, min};
+ghost use Rattle.std.specs.Int.Bits.{bit_xor};
 ghost use Rattle.std.specs.List.{range_with_len};
 ghost use Rattle.std.specs.Simd.Lanes.{zip2, chunk, put_chunk};
 ghost use Rattle.rq_bytes.specs.Ranges.{with_range};
@@ -11,10 +12,6 @@ use std::simd::prelude::*;
 /// What is made of the octet at each place of a row, by an operation on one octet and on a vector of
 /// them.
 pub(crate) trait LaneOperation {
-    ghost use Rattle.std.specs.Prelude.{◌≡◌, ℕ, ◌+◌, ◌%◌, ◌<◌, ◌≤◌, length};
-    ghost use Rattle.std.specs.List.{range_with_len};
-    ghost use Rattle.std.specs.Simd.Lanes.{zip2};
-
     // what it makes of an octet at a place
     ghost made: { Self → ℕ → ℕ → ℕ };
 
@@ -82,9 +79,6 @@ pub(crate) struct AddMade<'a, O> {
 }
 
 impl<'a, O: LaneOperation> LaneOperation for AddMade<'a, O> {
-    ghost use Rattle.std.specs.Prelude.{length, get_or, min};
-    ghost use Rattle.std.specs.Int.Bits.{bit_xor};
-
     ghost made = { λ s x i. bit_xor x (O.made s.operation.now (get_or s.other.now i 0) i) };
 
     ghost places = { λ s. min (O.places s.operation.now) (length s.other.now) };

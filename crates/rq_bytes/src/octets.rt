@@ -1,11 +1,14 @@
 //! Rows of octets and packed rows of bits.
 ghost use Rattle.std.specs.Prelude.{◌≡◌, ◌↔◌, ◌+◌, ◌*◌, ◌%◌, ◌^◌, ◌<◌, ◌≤◌, All, length, replicate, true, vec_len};
-ghost use Rattle.rq_bytes.specs.BinaryOctetVec.{octets_of_bits, padding_of, packed_bits};
+ghost use Rattle.std.specs.Int.Bits.{bit_xor};
+ghost use Rattle.rq_bytes.specs.BinaryOctetVec.{octets_of_bits, padding_of, packed_bit, packed_bits};
+ghost use Rattle.rq_standard.specs.Octets.{octet_mul};
 ghost use Rattle.rq_standard.specs.Rows.{row_sum, row_multiple};
 
 use crate::lanes::{AddMade, LaneOperation, change_row};
 use crate::octet::Octet;
 use crate::products::{LANES, bit_product, bit_products, half_of_word, plane_products, product};
+use crate::row_sums::add_rows;
 use std::marker::Model;
 use std::simd::prelude::*;
 
@@ -97,33 +100,7 @@ pub fn add_assign(octets: &mut [u8], other: &[u8])
     requires { length other.now ≡ length octets.old }
     ensures { octets.new ≡ row_sum octets.old other.now }
 {
-    change_row(octets, &Added { other });
-}
-
-// Adds another row.
-#[derive(Clone, Copy)]
-struct Added<'a> {
-    other: &'a [u8],
-}
-
-impl<'a> LaneOperation for Added<'a> {
-    ghost use Rattle.std.specs.Prelude.{length, get_or};
-    ghost use Rattle.std.specs.Int.Bits.{bit_xor};
-
-    ghost made = { λ s x i. bit_xor x (get_or s.other.now i 0) };
-
-    ghost places = { λ s. length s.other.now };
-
-    #[inline(always)]
-    fn lanes(&self, octets: u8x32, place: usize) -> u8x32 {
-        let other = self.other;
-        octets ^ u8x32::from_slice(&other[place..])
-    }
-
-    #[inline(always)]
-    fn octet(&self, octet: u8, place: usize) -> u8 {
-        octet ^ self.other[place]
-    }
+    add_rows(octets, &[other]);
 }
 
 /// Multiplies a row by an octet.
@@ -162,9 +139,6 @@ struct PlaneProducts {
 }
 
 impl LaneOperation for PlaneProducts {
-    ghost use Rattle.std.specs.Prelude.{◌^◌};
-    ghost use Rattle.rq_standard.specs.Octets.{octet_mul};
-
     ghost made = { λ s x i. octet_mul s.scalar x };
 
     ghost places = { λ s. 2 ^ 64 };
@@ -216,11 +190,6 @@ struct BitMultiples<'a> {
 }
 
 impl<'a> LaneOperation for BitMultiples<'a> {
-    ghost use Rattle.std.specs.Prelude.{◌*◌, length};
-    ghost use Rattle.std.specs.Int.Bits.{bit_xor};
-    ghost use Rattle.rq_standard.specs.Octets.{octet_mul};
-    ghost use Rattle.rq_bytes.specs.BinaryOctetVec.{packed_bit};
-
     ghost made = { λ s x i. bit_xor x (octet_mul s.scalar (packed_bit s.bits.now i)) };
 
     ghost places = { λ s. 64 * length s.bits.now };

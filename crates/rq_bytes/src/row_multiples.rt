@@ -1,5 +1,7 @@
 //! Multiples of long rows.
-ghost use Rattle.std.specs.Prelude.{◌≡◌, ◌<◌, length};
+ghost use Rattle.std.specs.Prelude.{◌≡◌, ◌^◌, ◌<◌, length, get_or};
+ghost use Rattle.std.specs.Int.Bits.{bit_xor};
+ghost use Rattle.rq_standard.specs.Octets.{octet_mul};
 ghost use Rattle.rq_standard.specs.Rows.{row_sum, row_multiple};
 
 use crate::half_products::HalfProducts;
@@ -47,9 +49,6 @@ pub fn double_and_add(octets: &mut [u8], other: &[u8])
 
 // The multiple of each octet is looked up by its halves.
 impl LaneOperation for HalfProducts {
-    ghost use Rattle.std.specs.Prelude.{◌^◌};
-    ghost use Rattle.rq_standard.specs.Octets.{octet_mul};
-
     ghost made = { λ s x i. octet_mul s.octet x };
 
     ghost places = { λ s. 2 ^ 64 };
@@ -70,9 +69,6 @@ impl LaneOperation for HalfProducts {
 struct Doubled;
 
 impl LaneOperation for Doubled {
-    ghost use Rattle.std.specs.Prelude.{◌^◌};
-    ghost use Rattle.rq_standard.specs.Octets.{octet_mul};
-
     ghost made = { λ s x i. octet_mul 2 x };
 
     ghost places = { λ s. 2 ^ 64 };
@@ -95,10 +91,6 @@ struct DoubledAndAdded<'a> {
 }
 
 impl<'a> LaneOperation for DoubledAndAdded<'a> {
-    ghost use Rattle.std.specs.Prelude.{length, get_or};
-    ghost use Rattle.std.specs.Int.Bits.{bit_xor};
-    ghost use Rattle.rq_standard.specs.Octets.{octet_mul};
-
     ghost made = { λ s x i. bit_xor (octet_mul 2 x) (get_or s.other.now i 0) };
 
     ghost places = { λ s. length s.other.now };

@@ -1,5 +1,6 @@
 //! Sums of several rows, in one pass over them.
-ghost use Rattle.std.specs.Prelude.{◌≡◌, ℕ, ◌+◌, ◌≤◌, List, ◌++◌, length, take, map, fold, All};
+ghost use Rattle.std.specs.Prelude.{◌≡◌, ℕ, ◌+◌, ◌≤◌, List, ◌++◌, length, get_or, take, map, fold, All};
+ghost use Rattle.std.specs.Int.Bits.{bit_xor};
 ghost use Rattle.rq_standard.specs.Rows.{row_sum};
 ghost use Rattle.rq_bytes.specs.Ranges.{range_of, with_range};
 ghost use Rattle.rq_bytes.specs.RangeSums.{sum_of_ranges, with_ranges_added, IsRangeBeside};
@@ -30,9 +31,6 @@ struct RowSum<'a> {
 }
 
 impl<'a> LaneOperation for RowSum<'a> {
-    ghost use Rattle.std.specs.Prelude.{get_or, fold};
-    ghost use Rattle.std.specs.Int.Bits.{bit_xor};
-
     ghost made = { λ s x i. fold (λ sum row. bit_xor sum (get_or row.now i 0)) x s.rows.now };
 
     ghost places = { λ s. s.len };
