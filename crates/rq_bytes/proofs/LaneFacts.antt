@@ -91,15 +91,3 @@ ranges_alike f g b n same =
     ext_get_or 0 (map f (range_with_len 0 n)) (map g (range_with_len b n)) (long ∙ sym (length-map-range_with_len g b n)) (λ i under.
     let lt : i < n = omega (arith, under, long) in
     get_or-map-range_with_len f 0 n i i 0 lt (omega arith) ∙ same i lt ∙ sym (get_or-map-range_with_len g b n i (b + i) 0 lt (omega arith)))
-
-zip2-same : (h : ℕ → ℕ) (f : ℕ → ℕ → ℕ) (ks : List ℕ) → zip2 f (map h ks) ks ≡ map (λ k. f (h k) k) ks
-zip2-same h f [] = refl
-zip2-same h f (k ∷ ks) = ap (λ zs. f (h k) k ∷ zs) (zip2-same h f ks)
-
--- what is made of another row's octets, added to a row's
-pub added_beside : (f : ℕ → ℕ → ℕ) (xs ys : List ℕ) (i n : ℕ) → length xs ≡ n → i + n ≤ length ys
-    → zip2 bit_xor xs (zip2 f (chunk i n ys) (range_with_len i n)) ≡ zip2 (λ x k. bit_xor x (f (get_or ys k 0) k)) xs (range_with_len i (length xs))
-added_beside f xs ys i n long fits =
-    ap (zip2 bit_xor xs) (ap (λ zs. zip2 f zs (range_with_len i n)) (sym (pick_l-range_with_len 0 ys i n fits)) ∙ zip2-same (λ k. get_or ys k 0) f (range_with_len i n))
-    ∙ zip2-map_right bit_xor (λ k. f (get_or ys k 0) k) xs (range_with_len i n)
-    ∙ ap (λ m. zip2 (λ x k. bit_xor x (f (get_or ys k 0) k)) xs (range_with_len i m)) (sym long)

@@ -1,7 +1,7 @@
 -- Sums of several rows, vector by vector.
 use Rattle.std.proofs.Common.{◌≡◌, ℕ, ◌+◌, ◌<◌, ◌≤◌, List, [], ◌∷◌, ◌++◌, length, get_or, set, take, drop, map, fold, All, refl, sym, ap, ◌∙◌, subst, arith}
 use Rattle.std.proofs.Math.Seq.{drop-append-add}
-use Rattle.std.proofs.lemmas.List.{drop-append-le, map-append, map_more, take_more_set, get_or-map, length-map, map-id, take-append-le, length-drop}
+use Rattle.std.proofs.lemmas.List.{drop-append-le, map-append, map_more, take_all, take_more_set, take_all, get_or-map, length-map, map-id, take-append-le, length-drop}
 use Rattle.std.proofs.lemmas.List.Elements.{All-head, All-tail, All-map}
 use Rattle.std.proofs.lemmas.List.Folds.{fold-map}
 use Rattle.std.proofs.lemmas.List.FromFn.{length-range_with_len}
@@ -64,12 +64,15 @@ one_more_row of rows i d xs sum at n long lt so_far fits =
 pub all_unmap : {X Y : Type 0} (P : Y → Type 0) (f : X → Y) (xs : List X) → All P (map f xs) → All (λ x. P (f x)) xs
 all_unmap P f xs all = λ k d lt. subst P (get_or-map f xs k d (f d) lt) (all k (f d) (omega (arith, length-map xs f)))
 
-module _ {R P : Type 0} (of : R → List ℕ) (f : P → List ℕ) (rows : List R) (places : List P) (same : map of rows ≡ map f places) where
-  pub rows_long : (n : ℕ) → All (λ p. n ≤ length (f p)) places → All (λ r. n ≤ length (of r)) rows
-  rows_long n all = let long = λ (row : List ℕ). n ≤ length row in all_unmap long of rows (subst (All long) (sym same) (All-map long f places all))
+module _ {R P : Type 0} (of : R → List ℕ) (f : P → List ℕ) (rows : List R) (places : List P) (i n : ℕ) (so_far : map of (take i rows) ≡ map f (take i places)) (end : i ≡ n) (count : length places ≡ n) where
+  same : map of (take n rows) ≡ map f places
+  same = ap (λ k. map of (take k rows)) (sym end) ∙ so_far ∙ ap (map f) (take_all i places (omega (arith, end, count)))
 
-  pub rows_summed : (x : List ℕ) → fold (λ sum r. row_sum sum (of r)) x rows ≡ fold (λ sum p. row_sum sum (f p)) x places
-  rows_summed x = sym (fold-map row_sum of x rows) ∙ ap (fold row_sum x) same ∙ fold-map row_sum f x places
+  pub rows_long : (m : ℕ) → All (λ p. m ≤ length (f p)) places → All (λ r. m ≤ length (of r)) (take n rows)
+  rows_long m all = let long = λ (row : List ℕ). m ≤ length row in all_unmap long of (take n rows) (subst (All long) (sym same) (All-map long f places all))
+
+  pub rows_summed : (x : List ℕ) → fold (λ sum r. row_sum sum (of r)) x (take n rows) ≡ fold (λ sum p. row_sum sum (f p)) x places
+  rows_summed x = sym (fold-map row_sum of x (take n rows)) ∙ ap (fold row_sum x) same ∙ fold-map row_sum f x places
 
 -- one more of them
 pub rows_more : {R P : Type 0} (of : R → List ℕ) (f : P → List ℕ) (rows : List R) (places : List P) (i : ℕ) (row : R) (default : P) → map of (take i rows) ≡ map f (take i places)

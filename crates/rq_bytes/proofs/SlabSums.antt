@@ -152,9 +152,9 @@ module _ {bytes : List ℕ} {count size : ℕ} {order : Option (List ℕ)} {slab
       ap (λ z. with_symbols_added slab z places) (sym (add_symbols-rows x y (one ∙ sym long)))
       ∙ rows_are_symbols (add_symbols octets x y) places (length-add_symbols octets size size x y long one) (All-tail P p places all)
 
-  pub symbols_long : (places : List ℕ) → All (λ p. meant_at slab.order p < length slab.values) places → All (λ p. slab.symbol_size ≤ length (symbol_in slab p)) places
-  symbols_long places all =
-      All-weaker (λ p. meant_at slab.order p < length slab.values) (λ p. slab.symbol_size ≤ length (symbol_in slab p)) (λ p lt. omega (arith, size_is is, length-range_at is (meant_at slab.order p) lt)) places all
+  pub symbols_long : (n : ℕ) (places : List ℕ) → n ≡ slab.symbol_size → All (λ p. meant_at slab.order p < length slab.values) places → All (λ p. n ≤ length (symbol_in slab p)) places
+  symbols_long n places long all =
+      All-weaker (λ p. meant_at slab.order p < length slab.values) (λ p. n ≤ length (symbol_in slab p)) (λ p lt. omega (arith, long, size_is is, length-range_at is (meant_at slab.order p) lt)) places all
 
   module _ (dest : ℕ) (to : meant_at slab.order dest < length slab.values) (sources : List ℕ) (all : AreSources slab dest sources) where
     starts_beside : All (IsRangeBeside (length bytes) (start_in slab dest) size) (map (start_in slab) sources)

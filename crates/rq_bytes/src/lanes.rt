@@ -1,6 +1,5 @@
 //! Operations on each octet of a row, whole vectors of them at once.
-ghost use Rattle.std.specs.Prelude.{◌≡◌, ℕ, ◌+◌, ◌%◌, ◌<◌, ◌≤◌, length, get_or, min};
-ghost use Rattle.std.specs.Int.Bits.{bit_xor};
+ghost use Rattle.std.specs.Prelude.{◌≡◌, ℕ, ◌+◌, ◌%◌, ◌<◌, ◌≤◌, length};
 ghost use Rattle.std.specs.List.{range_with_len};
 ghost use Rattle.std.specs.Simd.Lanes.{zip2, chunk, put_chunk};
 ghost use Rattle.rq_bytes.specs.Ranges.{with_range};
@@ -69,33 +68,6 @@ fn change_vector<O: LaneOperation>(octets: &mut [u8], operation: &O, at: usize)
 {
     let made = operation.lanes(u8x32::from_slice(&octets[at..]), at);
     made.copy_to_slice(&mut octets[at..]);
-}
-
-/// Adds what another operation makes of another row.
-#[derive(Clone, Copy)]
-pub(crate) struct AddMade<'a, O> {
-    pub(crate) other: &'a [u8],
-    pub(crate) operation: &'a O,
-}
-
-impl<'a, O: LaneOperation> LaneOperation for AddMade<'a, O> {
-    ghost made = { λ s x i. bit_xor x (O.made s.operation.now (get_or s.other.now i 0) i) };
-
-    ghost places = { λ s. min (O.places s.operation.now) (length s.other.now) };
-
-    #[inline(always)]
-    fn lanes(&self, octets: u8x32, place: usize) -> u8x32 {
-        let other = self.other;
-        let made = self
-            .operation
-            .lanes(u8x32::from_slice(&other[place..]), place);
-        octets ^ made
-    }
-
-    #[inline(always)]
-    fn octet(&self, octet: u8, place: usize) -> u8 {
-        octet ^ self.operation.octet(self.other[place], place)
-    }
 }
 
 /// Writes a piece of N octets from `at` on.

@@ -4,6 +4,7 @@
 pub mod error;
 pub mod gf2;
 mod half_products;
+mod lane_multiples;
 mod lanes;
 mod logarithms;
 mod marks;

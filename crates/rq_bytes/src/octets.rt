@@ -5,9 +5,10 @@ ghost use Rattle.rq_bytes.specs.BinaryOctetVec.{octets_of_bits, padding_of, pack
 ghost use Rattle.rq_standard.specs.Octets.{octet_mul};
 ghost use Rattle.rq_standard.specs.Rows.{row_sum, row_multiple};
 
-use crate::lanes::{AddMade, LaneOperation, change_row};
+use crate::lane_multiples::{AddMultiple, Multiple};
+use crate::lanes::{LaneOperation, change_row};
 use crate::octet::Octet;
-use crate::products::{LANES, bit_product, bit_products, half_of_word, plane_products, product};
+use crate::products::{LANES, bit_product, bit_products, half_of_word};
 use crate::row_sums::add_rows;
 use std::marker::Model;
 use std::simd::prelude::*;
@@ -110,12 +111,7 @@ pub fn mulassign_scalar(octets: &mut [u8], scalar: &Octet)
     ensures octet { scalar.now < 256 }
     ensures multiple { octets.new ≡ row_multiple scalar.now octets.old }
 {
-    change_row(
-        octets,
-        &PlaneProducts {
-            scalar: scalar.byte(),
-        },
-    );
+    change_row(octets, &Multiple::Planes(scalar.byte()));
 }
 
 /// Adds a multiple of a row to a row of the same length.
@@ -126,32 +122,8 @@ pub fn fused_addassign_mul_scalar(octets: &mut [u8], other: &[u8], scalar: &Octe
     ensures octet { scalar.now < 256 }
     ensures sum { octets.new ≡ row_sum octets.old (row_multiple scalar.now other.now) }
 {
-    let operation = &PlaneProducts {
-        scalar: scalar.byte(),
-    };
-    change_row(octets, &AddMade { other, operation });
-}
-
-// Multiplies by an octet, one bit of the lanes after another.
-#[derive(Clone, Copy)]
-struct PlaneProducts {
-    scalar: u8,
-}
-
-impl LaneOperation for PlaneProducts {
-    ghost made = { λ s x i. octet_mul s.scalar x };
-
-    ghost places = { λ s. 2 ^ 64 };
-
-    #[inline(always)]
-    fn lanes(&self, octets: u8x32, _place: usize) -> u8x32 {
-        plane_products(self.scalar, octets)
-    }
-
-    #[inline(always)]
-    fn octet(&self, octet: u8, _place: usize) -> u8 {
-        product(self.scalar, octet)
-    }
+    let multiple = Multiple::Planes(scalar.byte());
+    change_row(octets, &AddMultiple { other, multiple });
 }
 
 /// Adds a multiple of a packed row to a row of the same length.

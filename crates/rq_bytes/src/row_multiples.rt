@@ -1,11 +1,12 @@
 //! Multiples of long rows.
-ghost use Rattle.std.specs.Prelude.{◌≡◌, ◌^◌, ◌<◌, length, get_or};
+ghost use Rattle.std.specs.Prelude.{◌≡◌, ◌<◌, length, get_or};
 ghost use Rattle.std.specs.Int.Bits.{bit_xor};
 ghost use Rattle.rq_standard.specs.Octets.{octet_mul};
 ghost use Rattle.rq_standard.specs.Rows.{row_sum, row_multiple};
 
 use crate::half_products::HalfProducts;
-use crate::lanes::{AddMade, LaneOperation, change_row};
+use crate::lane_multiples::{AddMultiple, Multiple};
+use crate::lanes::{LaneOperation, change_row};
 use crate::octet::Octet;
 use crate::octets::add_assign;
 use crate::products::{doubled_lanes, product};
@@ -17,9 +18,10 @@ pub fn multiply_row(octets: &mut [u8], scalar: &Octet)
     ensures multiple { octets.new ≡ row_multiple scalar.now octets.old }
 {
     if scalar.byte() == 2 {
-        change_row(octets, &Doubled);
+        change_row(octets, &Multiple::Double);
     } else {
-        change_row(octets, &HalfProducts::new(scalar.byte()));
+        let products = HalfProducts::new(scalar.byte());
+        change_row(octets, &Multiple::LookUp(products));
     }
 }
 
@@ -33,8 +35,8 @@ pub fn add_row_multiple(octets: &mut [u8], other: &[u8], scalar: &Octet)
     if scalar.byte() == 1 {
         add_assign(octets, other);
     } else {
-        let operation = &HalfProducts::new(scalar.byte());
-        change_row(octets, &AddMade { other, operation });
+        let multiple = Multiple::LookUp(HalfProducts::new(scalar.byte()));
+        change_row(octets, &AddMultiple { other, multiple });
     }
 }
 
@@ -45,43 +47,6 @@ pub fn double_and_add(octets: &mut [u8], other: &[u8])
     ensures { octets.new ≡ row_sum (row_multiple 2 octets.old) other.now }
 {
     change_row(octets, &DoubledAndAdded { other });
-}
-
-// The multiple of each octet is looked up by its halves.
-impl LaneOperation for HalfProducts {
-    ghost made = { λ s x i. octet_mul s.octet x };
-
-    ghost places = { λ s. 2 ^ 64 };
-
-    #[inline(always)]
-    fn lanes(&self, octets: u8x32, _place: usize) -> u8x32 {
-        self.lane_products(octets)
-    }
-
-    #[inline(always)]
-    fn octet(&self, octet: u8, _place: usize) -> u8 {
-        product(self.octet, octet)
-    }
-}
-
-// Multiplies by x, as most multiplications of a plan do. Nothing is looked up for it.
-#[derive(Clone, Copy)]
-struct Doubled;
-
-impl LaneOperation for Doubled {
-    ghost made = { λ s x i. octet_mul 2 x };
-
-    ghost places = { λ s. 2 ^ 64 };
-
-    #[inline(always)]
-    fn lanes(&self, octets: u8x32, _place: usize) -> u8x32 {
-        doubled_lanes(octets)
-    }
-
-    #[inline(always)]
-    fn octet(&self, octet: u8, _place: usize) -> u8 {
-        product(2, octet)
-    }
 }
 
 // Multiplies by x, and adds another row.

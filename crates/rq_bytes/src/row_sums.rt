@@ -77,30 +77,18 @@ pub(crate) fn add_ranges<const C: usize>(
 
 // Adds the octets from each of C starts on to a row that stands between two parts.
 #[inline(always)]
-fn add_rows_beside<const C: usize>(row: &mut [u8], front: &[u8], back: &[u8], starts: &[usize])
+fn add_rows_beside<'a, const C: usize>(
+    row: &mut [u8],
+    front: &'a [u8],
+    back: &'a [u8],
+    starts: &[usize],
+)
     requires few { C ≤ 8 }
     requires count { length starts.now ≡ C }
     requires starts { All (IsRangeBeside (length front.now + length row.old + length back.now) (length front.now) (length row.old)) starts.now }
     ensures { row.new ≡ with_ranges_added row.old (front.now ++ (row.old ++ back.now)) starts.now (length row.old) }
 {
-    let rows = rows_beside::<C>(front, back, starts, row.len());
-    add_rows(row, &rows[..C]);
-}
-
-// The `len` octets from each of C starts on, where as many stand between two parts and none of these is
-// among them.
-#[inline(always)]
-fn rows_beside<'a, const C: usize>(
-    front: &'a [u8],
-    back: &'a [u8],
-    starts: &[usize],
-    len: usize,
-) -> [&'a [u8]; ROWS]
-    requires few { C ≤ 8 }
-    requires count { length starts.now ≡ C }
-    requires starts { All (IsRangeBeside (length front.now + len + length back.now) (length front.now) len) starts.now }
-    ensures { (row : List ℕ) → length row ≡ len → map (λ r. r.now) (take C result) ≡ map (λ start. range_of (front.now ++ (row ++ back.now)) start len) starts.now }
-{
+    let len = row.len();
     let mut rows = [front; ROWS];
     for i in 0..C {
         rows[i] = if starts[i] < front.len() {
@@ -109,5 +97,5 @@ fn rows_beside<'a, const C: usize>(
             range(back, starts[i] - front.len() - len, len)
         };
     }
-    rows
+    add_rows(row, &rows[..C]);
 }

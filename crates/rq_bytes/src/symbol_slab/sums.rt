@@ -1,7 +1,7 @@
 //! Sums of symbols, in one pass over their octets.
-ghost use Rattle.std.specs.Prelude.{◌≡◌, ◌*◌, ◌<◌, ◌≤◌, length, map, take, All};
+ghost use Rattle.std.specs.Prelude.{◌≡◌, ◌*◌, ◌<◌, ◌≤◌, length, map, All};
 ghost use Rattle.rq_algebra.specs.Operations.{AddAssign, meant_at};
-ghost use Rattle.rq_bytes.specs.SymbolSlab.{after_all, HasPlace, Allows, symbol_in, with_symbols_added};
+ghost use Rattle.rq_bytes.specs.SymbolSlab.{after_all, HasPlace, Allows, with_symbols_added};
 
 use super::SymbolSlab;
 use crate::octets::add_assign;
@@ -84,24 +84,11 @@ impl SymbolSlab {
         requires len { length row.old ≡ self.now.symbol_size }
         ensures { row.new ≡ with_symbols_added self.now row.old places.now }
     {
-        let rows = self.rows_of::<C>(places);
-        add_rows(row, &rows[..C]);
-    }
-
-    // The symbols that C places mean.
-    #[inline(always)]
-    fn rows_of<const C: usize>(&self, places: &[usize]) -> [&[u8]; ROWS]
-        requires few { C ≤ 8 }
-        requires count { length places.now ≡ C }
-        requires places { All (HasPlace self.now) places.now }
-        ensures rows { map (λ row. row.now) (take C result) ≡ map (symbol_in self.now) places.now }
-        ensures long { All (λ place. self.now.symbol_size ≤ length (symbol_in self.now place)) places.now }
-    {
         let mut rows = [self.data.as_slice(); ROWS];
         for i in 0..C {
             rows[i] = self.get(places[i]);
         }
-        rows
+        add_rows(row, &rows[..C]);
     }
 
     // Where the symbols that C places mean begin in the buffer.

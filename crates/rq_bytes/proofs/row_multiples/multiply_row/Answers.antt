@@ -11,4 +11,4 @@ returns-then-byte-eq2-clause-multiple c =
 
 pub returns-else-byte-eq2-clause-multiple : goal.returns-else-byte-eq2-clause-multiple
 returns-else-byte-eq2-clause-multiple c =
-    c.change_row-else-byte-eq2.ensures ∙ alone (octet_mul c.new.result.octet) c.args.octets.now 0 ∙ ap (λ (a : ℕ). row_multiple a c.args.octets.now) (c.new.ensures ∙ c.byte-else-byte-eq2.ensures)
+    c.change_row-else-byte-eq2.ensures ∙ alone (octet_mul c.new-products.result.octet) c.args.octets.now 0 ∙ ap (λ (a : ℕ). row_multiple a c.args.octets.now) (c.new-products.ensures ∙ c.byte-else-byte-eq2.ensures)

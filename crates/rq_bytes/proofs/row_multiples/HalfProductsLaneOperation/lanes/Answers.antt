@@ -1,8 +1,0 @@
--- What the check leaves to show of a multiple by look-up on vectors.
-use Rattle.std.proofs.Common.{sym, ◌∙◌}
-use Rattle.rq_standard.specs.Octets.{octet_mul}
-use Rattle.rq_bytes.proofs.LaneFacts.{alone}
-use Rattle.rq_bytes.proofs.row_multiples.HalfProductsLaneOperation.lanes.Goals as goal
-
-pub returns : goal.returns
-returns c = c.lane_products.ensures ∙ sym (alone (octet_mul c.args.self.now.octet) c.args.octets c.args._place)
