@@ -1,78 +1,65 @@
 -- The bits of a word as lanes.
-use Rattle.std.proofs.Common.{w64, zero, suc, ◌++◌, ◌≡◌, ℕ, ◌+◌, ◌-◌, ◌*◌, ◌/◌, ◌%◌, ◌^◌, ◌<◌, ◌≤◌, true, false, cond, eqb, List, length, drop, get_or, map, replicate, refl, sym, ap, ◌∙◌, arith, ⊎_elim}
-use Rattle.std.proofs.lemmas.Bool.{agree_below, agree_below_at, eqb-true, cases_eq, cond-true, cond-false, eq-eqb, ne_eqb}
-use Rattle.std.proofs.lemmas.List.{ext_get_or, get_or-drop, get_or-map, get_or_append_left, length-drop, length-map, length-replicate}
+use Rattle.std.proofs.Common.{zero, suc, ◌++◌, ◌≡◌, ℕ, ◌+◌, ◌-◌, ◌*◌, ◌/◌, ◌%◌, ◌^◌, ◌<◌, ◌≤◌, true, false, cond, eqb, List, length, get_or, map, replicate, refl, sym, ap, ◌∙◌, arith, ⊎_elim}
+use Rattle.std.proofs.lemmas.Bool.{agree_below, agree_below_at, eqb-true, cases_eq, cases_lt, cond-true, cond-false, eq-eqb, ne_eqb}
+use Rattle.std.proofs.lemmas.List.{ext_get_or, get_or-map, get_or_append_left, length-map, length-replicate}
 use Rattle.std.proofs.lemmas.List.FromFn.{length-map-range_with_len, get_or-map-range_with_len}
 use Rattle.std.proofs.lemmas.Nat.{pow-add, shr-shr, pow_pos}
-use Rattle.std.proofs.lemmas.Nat.Bits.{bit_at_cat_low, and_pow, bit_at-lt}
+use Rattle.std.proofs.lemmas.Nat.Bits.{bit_at_cat_low, bit_at_cat_high, and_pow, bit_at-lt}
 use Rattle.std.proofs.lemmas.Simd.{get_or-chunk, length-zip2, get_or-zip2, length-sel_l, get_or-sel_l, get_or-replicate}
 use Rattle.std.specs.List.{range_with_len}
-use Rattle.std.specs.Int.{bit_at, byte_at, bytes_low_first, to_le_bytes}
+use Rattle.std.specs.Int.{w128, bit_at, byte_at, bytes_low_first, to_le_bytes}
+use Rattle.std.specs.Int.Bits.{bit_xor}
 use lib.Bits.{bit_and}
 use lib.Lanes.{zip2, chunk, sel_l, pick_l}
 use Rattle.rq_standard.specs.Octets.{octet_mul}
-use Rattle.rq_bytes.specs.BinaryOctetVec.{octets_of_bits, padding_of, packed_bit, packed_bits}
+use Rattle.rq_standard.specs.Rows.{row_sum, row_multiple}
+use Rattle.rq_bytes.specs.BinaryOctetVec.{padding_of, packed_bit, packed_bits}
 use Rattle.rq_bytes.specs.OctetBits.{octet_bit}
-use Rattle.rq_bytes.proofs.LaneFacts.{ranges_alike}
-use Rattle.rq_bytes.proofs.PackedRows.{length-packed_bits, get_or-packed_bits, is_unpacked}
+use Rattle.rq_bytes.proofs.PackedRows.{length-packed_bits}
+use Rattle.rq_bytes.proofs.ZipUpto.{zip2-map_right}
 use Rattle.rq_standard.specs.OctetProducts.{mul-one, mul-zero}
 use Rattle.rq_bytes.specs.declared.products.TheConstants.{MASKS, PLACES}
 
--- a row of n elements, packed in these words
-pub record IsPacked (words : List ℕ) (len : ℕ) (row : List ℕ) (padding n : ℕ) : Type 0 where
-  pub view : packed_bits words len ≡ row
-  pub long : length row ≡ n
-  pub before : padding ≡ padding_of (length row)
+-- the packed row of n elements
+module _ (words row : List ℕ) (len padding n : ℕ) (view : packed_bits words len ≡ row) (long : length row ≡ n) (before : padding ≡ padding_of (length row)) where
+  pub len_is : len ≡ n
+  len_is = sym (length-packed_bits words len) ∙ ap length view ∙ long
 
-pub length-packed : (words row : List ℕ) (len padding n : ℕ) → IsPacked words len row padding n → len ≡ n
-length-packed words row len padding n is = sym (length-packed_bits words len) ∙ ap length is.view ∙ is.long
+  pub padding_is : padding ≡ padding_of len
+  padding_is = before ∙ ap padding_of (long ∙ sym len_is)
 
-packed_at : (words row : List ℕ) (len padding n i : ℕ) → IsPacked words len row padding n → i < n
-    → bit_at (get_or words ((padding + i) / 64) 0) ((padding + i) % 64) ≡ get_or row i 0
-packed_at words row len padding n i is lt =
-    let len_is = length-packed words row len padding n is in
-    ap (λ p. bit_at (get_or words ((p + i) / 64) 0) ((p + i) % 64)) (is.before ∙ ap padding_of (is.long ∙ sym len_is))
-    ∙ sym (get_or-packed_bits words len i (omega arith))
-    ∙ ap (λ xs. get_or xs i 0) is.view
+  pub row_is : row ≡ map (λ k. packed_bit words (padding + k)) (range_with_len 0 n)
+  unfolding packed_bits
+  row_is =
+      sym view
+      ∙ ap (λ p. map (λ k. packed_bit words (p + k)) (range_with_len 0 len)) (sym padding_is)
+      ∙ ap (λ l. map (λ k. packed_bit words (padding + k)) (range_with_len 0 l)) len_is
 
--- an element in the first word, where that is not whole
-pub first_bit : (words row : List ℕ) (len padding n i word : ℕ) → IsPacked words len row padding n → i < n % 64 → word ≡ get_or words 0 0
-    → bit_at word (padding + i) ≡ get_or row i 0
-first_bit words row len padding n i word is lt e =
-    let bound = is.before in
-    let long = is.long in
-    let first : 0 ≡ (padding + i) / 64 = omega arith in
-    let place : padding + i ≡ (padding + i) % 64 = omega arith in
-    ap (λ w. bit_at w (padding + i)) (e ∙ ap (λ k. get_or words k 0) first)
-    ∙ ap (bit_at (get_or words ((padding + i) / 64) 0)) place
-    ∙ packed_at words row len padding n i is (omega arith)
+-- 32 bits of a word and the next one
+pub bits_joined : (words : List ℕ) (place i next : ℕ) → get_or words (place / 64) 0 < 2 ^ 64 → (32 < place % 64 → next ≡ get_or words (place / 64 + 1) 0) → i < 32
+    → bit_at (next * 2 ^ 64 + get_or words (place / 64) 0) (place % 64 + i) ≡ packed_bit words (place + i)
+bits_joined words place i next small is lt =
+    let word = get_or words (place / 64) 0 in
+    let bit = place % 64 + i in
+    ⊎_elim
+    (λ (low : bit < 64).
+    let same : place / 64 ≡ (place + i) / 64 = omega arith in
+    let there : bit ≡ (place + i) % 64 = omega arith in
+    bit_at_cat_low next 64 word bit low ∙ ap (λ k. bit_at (get_or words k 0) bit) same ∙ ap (bit_at (get_or words ((place + i) / 64) 0)) there)
+    (λ (high : 64 ≤ bit).
+    let same : place / 64 + 1 ≡ (place + i) / 64 = omega arith in
+    let there : bit - 64 ≡ (place + i) % 64 = omega arith in
+    bit_at_cat_high next 64 word bit small high
+    ∙ ap (λ n. bit_at n (bit - 64)) (is (omega arith))
+    ∙ ap (λ k. bit_at (get_or words k 0) (bit - 64)) same
+    ∙ ap (bit_at (get_or words ((place + i) / 64) 0)) there)
+    (cases_lt bit 64)
 
--- multiples of the bits of half of a word
-pub products_of_half : (scalar place : ℕ) (bits half : List ℕ) → place % 32 ≡ 0 → ((i : ℕ) → i < 32 → octet_bit half i ≡ bit_at (get_or bits (place / 64) 0) (32 * (place / 32 % 2) + i))
-    → map (λ i. octet_mul scalar (octet_bit half i)) (range_with_len 0 32) ≡ map (λ k. octet_mul scalar (packed_bit bits k)) (range_with_len place 32)
-products_of_half scalar place bits half whole half_is =
-    ranges_alike (λ i. octet_mul scalar (octet_bit half i)) (λ k. octet_mul scalar (packed_bit bits k)) place 32 (λ i l.
-    let word : place / 64 ≡ (place + i) / 64 = omega arith in
-    let bit : 32 * (place / 32 % 2) + i ≡ (place + i) % 64 = omega arith in
-    ap (octet_mul scalar) (
-    half_is i l
-    ∙ ap (λ k. bit_at (get_or bits k 0) (32 * (place / 32 % 2) + i)) word
-    ∙ ap (bit_at (get_or bits ((place + i) / 64) 0)) bit))
-
--- the elements from a word's first on
-pub whole_words : (words row : List ℕ) (len padding n i word : ℕ) → IsPacked words len row padding n → i ≤ n → 64 * word ≡ padding + i
-    → octets_of_bits (n - i) (drop word words) ≡ drop i row
-whole_words words row len padding n i word is fits start =
-    let long = length-drop i row in
-    is_unpacked (n - i) (drop word words) (drop i row) (omega (arith, is.long)) (λ k l.
-    let which : word + k / 64 ≡ (padding + (i + k)) / 64 = omega arith in
-    let place : k % 64 ≡ (padding + (i + k)) % 64 = omega arith in
-    get_or-drop i row k 0
-    ∙ sym (packed_at words row len padding n (i + k) is (omega arith))
-    ∙ sym (
-    ap (λ w. bit_at w (k % 64)) (get_or-drop word words (k / 64) 0)
-    ∙ ap (λ j. bit_at (get_or words j 0) (k % 64)) which
-    ∙ ap (bit_at (get_or words ((padding + (i + k)) / 64) 0)) place))
+-- a multiple of bits, added
+pub bits_added : (scalar : ℕ) (bit : ℕ → ℕ) (xs : List ℕ) → zip2 (λ x k. bit_xor x (octet_mul scalar (bit k))) xs (range_with_len 0 (length xs)) ≡ row_sum xs (row_multiple scalar (map bit (range_with_len 0 (length xs))))
+bits_added scalar bit xs =
+    let places = range_with_len 0 (length xs) in
+    sym (zip2-map_right bit_xor (octet_mul scalar) xs (map bit places) ∙ zip2-map_right (λ x y. bit_xor x (octet_mul scalar y)) bit xs places)
 
 -- ---- lanes of bits
 
@@ -177,21 +164,11 @@ byte_bits (suc octet) word i l =
     ∙ ap (λ d. bit_at (word / d) i) (power_of_256 (suc octet))
     ∙ ap (λ x. x % 2) (shr-shr word (8 * suc octet) i)
 
--- the bits of its octets
-bytes_bits : (word k : ℕ) → k < 64 → octet_bit (to_le_bytes w64 word) k ≡ bit_at word k
-bytes_bits word k l =
-    let there : 8 * (0 + k / 8) + k % 8 ≡ k = omega arith in
-    ap (λ x. bit_at x (k % 8)) (byte_of 0 8 (k / 8) word (omega arith))
-    ∙ byte_bits (0 + k / 8) word (k % 8) (omega arith)
+-- the bits of its first octets
+pub octets_bits : (word k : ℕ) → k < 32 → octet_bit (chunk 0 4 (to_le_bytes w128 word)) k ≡ bit_at word k
+octets_bits word k l =
+    let bytes = to_le_bytes w128 word in
+    let there : 8 * (0 + (0 + k / 8)) + k % 8 ≡ k = omega arith in
+    ap (λ x. bit_at x (k % 8)) (get_or-chunk 0 4 bytes (k / 8) 0 (omega arith) ∙ byte_of 0 16 (0 + k / 8) word (omega arith))
+    ∙ byte_bits (0 + (0 + k / 8)) word (k % 8) (omega arith)
     ∙ ap (bit_at word) there
-
--- those of half of them
-pub half_bits : (word half i : ℕ) → half < 2 → i < 32 → octet_bit (chunk (4 * half) 4 (to_le_bytes w64 word)) i ≡ bit_at word (32 * half + i)
-half_bits word half i some lt =
-    let j = 32 * half + i in
-    let bytes = to_le_bytes w64 word in
-    let octet : 4 * half + i / 8 ≡ j / 8 = omega arith in
-    let place : i % 8 ≡ j % 8 = omega arith in
-    ap (λ x. bit_at x (i % 8)) (get_or-chunk (4 * half) 4 bytes (i / 8) 0 (omega arith) ∙ ap (λ k. get_or bytes k 0) octet)
-    ∙ ap (bit_at (get_or bytes (j / 8) 0)) place
-    ∙ bytes_bits word j (omega arith)

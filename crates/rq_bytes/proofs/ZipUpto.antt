@@ -1,8 +1,5 @@
 -- A list of which the first i elements are made by f from them and those of another.
-use Rattle.std.proofs.Common.{◌≡◌, ℕ, zero, suc, ◌+◌, ◌-◌, ◌<◌, ◌≤◌, List, [], ◌∷◌, ◌++◌, length, get_or, set, take, drop, map, refl, sym, ap, ◌∙◌, arith, add-one}
-use borrow.Rule.Slice.PartMut.{put_mid}
-use Rattle.std.proofs.lemmas.List.{append-nil, drop_all, length-drop, take_rest}
-use Rattle.std.specs.Int.Bits.{bit_xor}
+use Rattle.std.proofs.Common.{◌≡◌, ℕ, zero, suc, ◌+◌, ◌<◌, ◌≤◌, List, [], ◌∷◌, length, get_or, set, take, map, refl, sym, ap, ◌∙◌, arith, add-one}
 use lib.Lanes.{zip2, chunk, put_chunk}
 
 abbrev pub zip_upto : {A B : Type 0} → (A → B → A) → ℕ → List A → List B → List A
@@ -23,20 +20,6 @@ zip_upto_all f zero (x ∷ xs) ys e all = absurd (omega arith)
 zip_upto_all f (suc i) [] ys e all = refl
 zip_upto_all f (suc i) (x ∷ xs) [] e all = absurd (omega arith)
 zip_upto_all f (suc i) (x ∷ xs) (y ∷ ys) e all = ap (λ zs. f x y ∷ zs) (zip_upto_all f i xs ys (omega arith) (omega arith))
-
--- the elements that are not made yet stand as they were
-drop-zip_upto : {A B : Type 0} (f : A → B → A) (i : ℕ) (xs : List A) (ys : List B) → drop i (zip_upto f i xs ys) ≡ drop i xs
-drop-zip_upto f zero xs ys = refl
-drop-zip_upto f (suc i) [] ys = refl
-drop-zip_upto f (suc i) (x ∷ xs) [] = refl
-drop-zip_upto f (suc i) (x ∷ xs) (y ∷ ys) = drop-zip_upto f i xs ys
-
-take-zip_upto : {A B : Type 0} (f : A → B → A) (i : ℕ) (xs : List A) (ys : List B) → i ≤ length ys
-    → take i (zip_upto f i xs ys) ++ zip2 f (drop i xs) (drop i ys) ≡ zip2 f xs ys
-take-zip_upto f zero xs ys fits = refl
-take-zip_upto f (suc i) [] ys fits = refl
-take-zip_upto f (suc i) (x ∷ xs) [] fits = absurd (omega arith)
-take-zip_upto f (suc i) (x ∷ xs) (y ∷ ys) fits = ap (λ zs. f x y ∷ zs) (take-zip_upto f i xs ys (omega arith))
 
 -- one more element
 pub zip_upto_more : {A B : Type 0} (f : A → B → A) (i : ℕ) (xs : List A) (ys : List B) (c : A) (d : B) → i < length xs → i < length ys
@@ -104,24 +87,3 @@ pub zip2-left : {A B : Type 0} (g : A → A) (xs : List A) (ys : List B) → len
 zip2-left g [] ys e = refl
 zip2-left g (x ∷ xs) [] e = absurd (omega arith)
 zip2-left g (x ∷ xs) (y ∷ ys) e = ap (λ zs. g x ∷ zs) (zip2-left g xs ys (omega arith))
-
--- ---- a list to which a loop adds what g makes of another's
-
-module _ (g : ℕ → ℕ) (now xs ys : List ℕ) (i : ℕ) (so_far : now ≡ zip_upto (λ x y. bit_xor x (g y)) i xs ys) (long : length xs ≤ length ys) where
-  pub added_one : (y : ℕ) → y ≡ g (get_or ys i 0) → i < length xs → set now i (bit_xor (get_or now i 0) y) ≡ zip_upto (λ x y. bit_xor x (g y)) (i + 1) xs ys
-  added_one y is lt = ap (λ p. set now i (bit_xor (get_or now i 0) p)) is ∙ step_one (λ x y. bit_xor x (g y)) i now xs ys 0 0 so_far lt long
-
-  -- the others at once
-  pub added_rest : (rest : List ℕ) → i ≤ length xs → rest ≡ zip2 bit_xor (take (length now - i) (drop i now)) (map g (drop i ys)) → put_mid i (length now - i) now rest ≡ zip2 bit_xor xs (map g ys)
-  added_rest rest inside is =
-      let f : ℕ → ℕ → ℕ = λ x y. bit_xor x (g y) in
-      let behind = length-drop i now in
-      let made : rest ≡ zip2 f (drop i xs) (drop i ys) =
-      is
-      ∙ zip2-map_right bit_xor g (take (length now - i) (drop i now)) (drop i ys)
-      ∙ ap (λ zs. zip2 f zs (drop i ys)) (take_rest now i ∙ ap (drop i) so_far ∙ drop-zip_upto f i xs ys) in
-      ap (λ zs. take i now ++ (rest ++ zs)) (drop_all (length now - i) (drop i now) (omega arith))
-      ∙ ap (λ zs. take i now ++ zs) (append-nil rest ∙ made)
-      ∙ ap (λ zs. take i zs ++ zip2 f (drop i xs) (drop i ys)) so_far
-      ∙ take-zip_upto f i xs ys (omega arith)
-      ∙ sym (zip2-map_right bit_xor g xs ys)

@@ -1,5 +1,5 @@
 //! Operations on each octet of a row, whole vectors of them at once.
-ghost use Rattle.std.specs.Prelude.{◌≡◌, ℕ, ◌+◌, ◌%◌, ◌<◌, ◌≤◌, length};
+ghost use Rattle.std.specs.Prelude.{◌≡◌, ℕ, ◌+◌, ◌<◌, ◌≤◌, length};
 ghost use Rattle.std.specs.List.{range_with_len};
 ghost use Rattle.std.specs.Simd.Lanes.{zip2, chunk, put_chunk};
 ghost use Rattle.rq_bytes.specs.Ranges.{with_range};
@@ -17,10 +17,9 @@ pub(crate) trait LaneOperation {
     // how many places it knows
     ghost places: { Self → ℕ };
 
-    /// What it makes of the octets from a place on, where whole vectors stand before it.
+    /// What it makes of the octets from a place on.
     fn lanes(&self, octets: u8x32, place: usize) -> u8x32
         requires long { length octets ≡ 32 }
-        requires whole { place % 32 ≡ 0 }
         requires within { place + 32 ≤ places self.now }
         ensures { result ≡ zip2 (made self.now) octets (range_with_len place (length octets)) };
 
@@ -61,7 +60,6 @@ pub(crate) fn change_row<O: LaneOperation>(octets: &mut [u8], operation: &O)
 // Does an operation to the vector of octets from a place on.
 #[inline(always)]
 fn change_vector<O: LaneOperation>(octets: &mut [u8], operation: &O, at: usize)
-    requires whole { at % 32 ≡ 0 }
     requires within { at + 32 ≤ length octets.old }
     requires known { length octets.old ≤ O.places operation.now }
     ensures { octets.new ≡ put_chunk at octets.old (zip2 (O.made operation.now) (chunk at 32 octets.old) (range_with_len at (length (chunk at 32 octets.old)))) }

@@ -1,5 +1,5 @@
 //! Rows of octets and packed rows of bits.
-ghost use Rattle.std.specs.Prelude.{◌≡◌, ◌↔◌, ◌+◌, ◌*◌, ◌%◌, ◌^◌, ◌<◌, ◌≤◌, All, length, replicate, true, vec_len};
+ghost use Rattle.std.specs.Prelude.{◌≡◌, ◌↔◌, ◌+◌, ◌-◌, ◌*◌, ◌%◌, ◌^◌, ◌<◌, ◌≤◌, All, length, min, replicate, true, vec_len};
 ghost use Rattle.std.specs.Int.Bits.{bit_xor};
 ghost use Rattle.rq_bytes.specs.BinaryOctetVec.{octets_of_bits, padding_of, packed_bit, packed_bits};
 ghost use Rattle.rq_standard.specs.Octets.{octet_mul};
@@ -8,7 +8,7 @@ ghost use Rattle.rq_standard.specs.Rows.{row_sum, row_multiple};
 use crate::lane_multiples::{AddMultiple, Multiple};
 use crate::lanes::{LaneOperation, change_row};
 use crate::octet::Octet;
-use crate::products::{LANES, bit_product, bit_products, half_of_word};
+use crate::products::{LANES, bit_product, bit_products, bits_from};
 use crate::row_sums::add_rows;
 use std::marker::Model;
 use std::simd::prelude::*;
@@ -134,15 +134,17 @@ pub fn fused_addassign_mul_scalar_binary(octets: &mut [u8], other: &BinaryOctetV
     ensures octet { scalar.now < 256 }
     ensures sum { octets.new ≡ row_sum octets.old (row_multiple scalar.now other.now) }
 {
+    let first = other.padding_bits();
+    let bits = other.elements.as_slice();
     let scalar = scalar.byte();
-    let padding = other.padding_bits();
-    // The first word may be begun; each later one is whole.
-    let begun = octets.len() % WORD_BITS;
-    for i in 0..begun {
-        octets[i] ^= bit_product(scalar, other.elements[0], padding + i);
-    }
-    let whole = (padding + begun) / WORD_BITS;
-    add_bit_multiples(&mut octets[begun..], &other.elements[whole..], scalar);
+    change_row(
+        octets,
+        &BitMultiples {
+            bits,
+            first,
+            scalar,
+        },
+    );
 }
 
 /// Adds a multiple of bits to as many octets, which fill whole vectors. Not in the Rust crate.
@@ -151,29 +153,39 @@ pub fn add_bit_multiples(octets: &mut [u8], bits: &[u64], scalar: u8)
     requires whole { length octets.old % 32 ≡ 0 }
     ensures { octets.new ≡ row_sum octets.old (row_multiple scalar (octets_of_bits (length octets.old) bits.now)) }
 {
-    change_row(octets, &BitMultiples { bits, scalar });
+    let first = 0;
+    change_row(
+        octets,
+        &BitMultiples {
+            bits,
+            first,
+            scalar,
+        },
+    );
 }
 
-// Adds an octet's multiples of packed bits.
+// Adds an octet's multiples of packed bits, those from a place in the first word on.
 #[derive(Clone, Copy)]
 struct BitMultiples<'a> {
     bits: &'a [u64],
+    first: usize,
     scalar: u8,
+    ghost begins: { first < 64 },
 }
 
 impl<'a> LaneOperation for BitMultiples<'a> {
-    ghost made = { λ s x i. bit_xor x (octet_mul s.scalar (packed_bit s.bits.now i)) };
+    ghost made = { λ s x i. bit_xor x (octet_mul s.scalar (packed_bit s.bits.now (s.first + i))) };
 
-    ghost places = { λ s. 64 * length s.bits.now };
+    ghost places = { λ s. min (64 * length s.bits.now - s.first) (2 ^ 63) };
 
     #[inline(always)]
     fn lanes(&self, octets: u8x32, place: usize) -> u8x32 {
-        let half = half_of_word(self.bits[place / WORD_BITS], place / LANES % 2);
-        octets ^ bit_products(self.scalar, half)
+        octets ^ bit_products(self.scalar, bits_from(self.bits, self.first + place))
     }
 
     #[inline(always)]
     fn octet(&self, octet: u8, place: usize) -> u8 {
-        octet ^ bit_product(self.scalar, self.bits[place / WORD_BITS], place % WORD_BITS)
+        let bit = self.first + place;
+        octet ^ bit_product(self.scalar, self.bits[bit / WORD_BITS], bit % WORD_BITS)
     }
 }

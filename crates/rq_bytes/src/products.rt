@@ -1,8 +1,9 @@
 //! Products of an octet and each lane of a vector.
-ghost use Rattle.std.specs.Prelude.{◌≡◌, ℕ, ◌+◌, ◌*◌, ◌/◌, ◌%◌, ◌^◌, ◌<◌, length, map, slice_index, cond, ◌==◌};
+ghost use Rattle.std.specs.Prelude.{◌≡◌, ℕ, ◌+◌, ◌*◌, ◌/◌, ◌%◌, ◌^◌, ◌<◌, ◌≤◌, length, map, slice_index, cond, ◌==◌};
 ghost use Rattle.std.specs.Int.{bit_at};
 ghost use Rattle.std.specs.List.{range_with_len};
 ghost use Rattle.rq_standard.specs.Octets.{octet_double, octet_mul};
+ghost use Rattle.rq_bytes.specs.BinaryOctetVec.{packed_bit};
 ghost use Rattle.rq_bytes.specs.OctetBits.{octet_bit};
 
 use std::simd::prelude::*;
@@ -104,13 +105,16 @@ pub(crate) fn bit_products(scalar: u8, bits: u8x4) -> u8x32
         .select(u8x32::splat(scalar), u8x32::splat(0))
 }
 
-/// The four octets of a word that half 0, the lower one, or half 1 has.
+/// The 32 bits from a place on, in four octets.
 #[inline(always)]
-pub(crate) fn half_of_word(word: u64, half: usize) -> u8x4
-    requires { half < 2 }
+pub(crate) fn bits_from(words: &[u64], place: usize) -> u8x4
+    requires { place + 32 ≤ 64 * length words.now }
     ensures len { length result ≡ 4 }
-    ensures bits { (i : ℕ) → i < 32 → octet_bit result i ≡ bit_at word (32 * half + i) }
+    ensures bits { (i : ℕ) → i < 32 → octet_bit result i ≡ packed_bit words.now (place + i) }
 {
-    let octets = word.to_le_bytes();
-    u8x4::from_slice(&octets[4 * half..])
+    let (word, shift) = (place / 64, place % 64);
+    let next = if shift > 32 { words[word + 1] } else { 0 };
+    let both = u128::from(next) * 0x1_0000_0000_0000_0000 + u128::from(words[word]);
+    let octets = (both >> shift).to_le_bytes();
+    u8x4::from_slice(&octets[..])
 }

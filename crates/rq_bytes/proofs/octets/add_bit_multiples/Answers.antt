@@ -1,17 +1,15 @@
 -- What the check leaves to show of `octets::add_bit_multiples`.
-use Rattle.std.proofs.Common.{length, sym, ◌∙◌}
-use Rattle.std.specs.Int.Bits.{bit_xor}
-use Rattle.std.specs.List.{range_with_len}
-use Rattle.rq_standard.specs.Octets.{octet_mul}
-use Rattle.rq_bytes.specs.BinaryOctetVec.{packed_bit, octets_of_bits}
-use Rattle.rq_bytes.proofs.ZipUpto.{zip2-map_right}
+use Rattle.std.proofs.Common.{◌+◌, length, ap, sym, ◌∙◌, arith}
+use Rattle.rq_standard.specs.Rows.{row_sum, row_multiple}
+use Rattle.rq_bytes.specs.BinaryOctetVec.{packed_bit}
+use Rattle.rq_bytes.proofs.BitLanes.{bits_added}
+use Rattle.rq_bytes.proofs.LaneFacts.{ranges_alike}
 use Rattle.rq_bytes.proofs.octets.add_bit_multiples.Goals as goal
 
 pub returns : goal.returns
 returns c =
     let octets = c.args.octets.now in
-    let bits = c.args.bits.now in
-    let multiple = octet_mul c.args.scalar in
-    c.change_row.ensures ∙ sym (
-    zip2-map_right bit_xor multiple octets (octets_of_bits (length octets) bits)
-    ∙ zip2-map_right (λ x y. bit_xor x (multiple y)) (packed_bit bits) octets (range_with_len 0 (length octets)))
+    let bit = packed_bit c.args.bits.now in
+    c.change_row.ensures
+    ∙ bits_added c.args.scalar (λ k. bit (0 + k)) octets
+    ∙ ap (λ ys. row_sum octets (row_multiple c.args.scalar ys)) (sym (ranges_alike bit (λ k. bit (0 + k)) 0 (length octets) (λ i lt. ap bit (omega arith))))
