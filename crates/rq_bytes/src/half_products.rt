@@ -210,15 +210,6 @@ impl HalfProducts {
         }
     }
 
-    /// The products of the octet and each lane.
-    #[inline(always)]
-    pub(crate) fn lane_products(&self, lanes: u8x32) -> u8x32
-        requires { length lanes ≡ 32 }
-        ensures { result ≡ map (λ x. octet_mul self.now.octet x) lanes }
-    {
-        self.products(&Halves::new(lanes))
-    }
-
     /// The products of the octet and each of those that were split.
     #[inline(always)]
     pub(crate) fn products(&self, halves: &Halves) -> u8x32

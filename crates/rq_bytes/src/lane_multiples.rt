@@ -4,7 +4,7 @@ ghost use Rattle.std.specs.Int.Bits.{bit_xor};
 ghost use Rattle.rq_standard.specs.Octets.{octet_mul};
 ghost use Rattle.rq_bytes.specs.LaneMultiples.{octet_of};
 
-use crate::half_products::HalfProducts;
+use crate::half_products::{HalfProducts, Halves};
 use crate::lanes::LaneOperation;
 use crate::products::{doubled_lanes, plane_products, product};
 use std::simd::prelude::*;
@@ -27,7 +27,7 @@ impl LaneOperation for Multiple {
     fn lanes(&self, octets: u8x32, _place: usize) -> u8x32 {
         match self {
             Multiple::Double => doubled_lanes(octets),
-            Multiple::LookUp(products) => products.lane_products(octets),
+            Multiple::LookUp(factor) => factor.products(&Halves::new(octets)),
             Multiple::Planes(scalar) => plane_products(*scalar, octets),
         }
     }
@@ -36,7 +36,7 @@ impl LaneOperation for Multiple {
     fn octet(&self, octet: u8, _place: usize) -> u8 {
         match self {
             Multiple::Double => product(2, octet),
-            Multiple::LookUp(products) => product(products.octet, octet),
+            Multiple::LookUp(factor) => product(factor.octet, octet),
             Multiple::Planes(scalar) => product(*scalar, octet),
         }
     }

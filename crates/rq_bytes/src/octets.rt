@@ -134,17 +134,10 @@ pub fn fused_addassign_mul_scalar_binary(octets: &mut [u8], other: &BinaryOctetV
     ensures octet { scalar.now < 256 }
     ensures sum { octets.new ≡ row_sum octets.old (row_multiple scalar.now other.now) }
 {
-    let first = other.padding_bits();
+    let from = other.padding_bits();
     let bits = other.elements.as_slice();
     let scalar = scalar.byte();
-    change_row(
-        octets,
-        &BitMultiples {
-            bits,
-            first,
-            scalar,
-        },
-    );
+    change_row(octets, &BitMultiples { bits, from, scalar });
 }
 
 /// Adds a multiple of bits to as many octets, which fill whole vectors. Not in the Rust crate.
@@ -153,39 +146,32 @@ pub fn add_bit_multiples(octets: &mut [u8], bits: &[u64], scalar: u8)
     requires whole { length octets.old % 32 ≡ 0 }
     ensures { octets.new ≡ row_sum octets.old (row_multiple scalar (octets_of_bits (length octets.old) bits.now)) }
 {
-    let first = 0;
-    change_row(
-        octets,
-        &BitMultiples {
-            bits,
-            first,
-            scalar,
-        },
-    );
+    let from = 0;
+    change_row(octets, &BitMultiples { bits, from, scalar });
 }
 
 // Adds an octet's multiples of packed bits, those from a place in the first word on.
 #[derive(Clone, Copy)]
 struct BitMultiples<'a> {
     bits: &'a [u64],
-    first: usize,
+    from: usize,
     scalar: u8,
-    ghost begins: { first < 64 },
+    ghost begins: { from < 64 },
 }
 
 impl<'a> LaneOperation for BitMultiples<'a> {
-    ghost made = { λ s x i. bit_xor x (octet_mul s.scalar (packed_bit s.bits.now (s.first + i))) };
+    ghost made = { λ s x i. bit_xor x (octet_mul s.scalar (packed_bit s.bits.now (s.from + i))) };
 
-    ghost places = { λ s. min (64 * length s.bits.now - s.first) (2 ^ 63) };
+    ghost places = { λ s. min (64 * length s.bits.now - s.from) (2 ^ 63) };
 
     #[inline(always)]
     fn lanes(&self, octets: u8x32, place: usize) -> u8x32 {
-        octets ^ bit_products(self.scalar, bits_from(self.bits, self.first + place))
+        octets ^ bit_products(self.scalar, bits_from(self.bits, self.from + place))
     }
 
     #[inline(always)]
     fn octet(&self, octet: u8, place: usize) -> u8 {
-        let bit = self.first + place;
+        let bit = self.from + place;
         octet ^ bit_product(self.scalar, self.bits[bit / WORD_BITS], bit % WORD_BITS)
     }
 }

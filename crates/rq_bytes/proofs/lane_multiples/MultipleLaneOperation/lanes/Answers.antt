@@ -12,7 +12,7 @@ returns c =
     let times = λ (m : Multiple). map (octet_mul (octet_of m)) c.args.octets in
     let made : c.match-self.result ≡ times c.args.self.now = elim c.match-self.branch [
       | in-Double w ↦ w.result-is ∙ w.doubled_lanes.ensures ∙ ap times (sym w.in-Double.is)
-      | in-LookUp w ↦ w.result-is ∙ w.lane_products.ensures ∙ ap times (sym w.in-LookUp.is)
+      | in-LookUp w ↦ w.result-is ∙ w.products.ensures.products ∙ ap (map (octet_mul _)) w.new.ensures ∙ ap times (sym w.in-LookUp.is)
       | in-Planes w ↦ w.result-is ∙ w.plane_products.ensures ∙ ap times (sym w.in-Planes.is)
     ] in
     made ∙ sym (alone (octet_mul (octet_of c.args.self.now)) c.args.octets c.args._place)
