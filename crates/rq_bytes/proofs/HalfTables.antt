@@ -1,50 +1,49 @@
 -- The products of an octet and the halves of a byte, from the tables of those of its own halves.
-use Rattle.std.proofs.Common.{◌≡◌, ℕ, ◌+◌, ◌*◌, ◌/◌, ◌%◌, ◌<◌, true, eqb, List, [], ◌++◌, length, get_or, refl, sym, ap, ◌∙◌, arith}
+use Rattle.std.proofs.Common.{◌≡◌, ℕ, ◌+◌, ◌*◌, ◌/◌, ◌%◌, ◌<◌, true, eqb, List, ◌++◌, ◌-◌, length, take, drop, get_or, refl, sym, ap, ◌∙◌, arith}
 use Rattle.std.proofs.lemmas.Bool.{agree_below, agree_below_at, eqb-true}
-use Rattle.std.proofs.lemmas.List.{get_or-map, get_or_append_left, length-map}
-use Rattle.std.proofs.lemmas.Simd.{get_or-zip2, length-zip2}
+use Rattle.std.proofs.lemmas.List.{take_rest, get_or-map, get_or_append_left, length-map}
+use Rattle.std.proofs.lemmas.Simd.{get_or-chunk, get_or-zip2, length-chunk, length-zip2}
 use Rattle.std.specs.Int.Bits.{bit_xor}
-use lib.Lanes.{zip2, pick_l}
+use lib.Lanes.{zip2, chunk, pick_l}
 use Rattle.rq_standard.specs.Octets.{octet_double, octet_mul, octet_times}
 use Rattle.rq_standard.specs.OctetProducts.{mul-xor_left}
 use Rattle.rq_bytes.specs.HalfProducts.{AreHalfProducts, half_byte}
 use Rattle.rq_bytes.specs.declared.half_products.TheConstants.{LOWER, UPPER, FIRST_HALF, SECOND_HALF}
 use Rattle.rq_bytes.proofs.HalfLookUps.{halves_xor}
 
--- an entry of the products of octets and the halves of a byte
-abbrev entry : List (List ℕ) → ℕ → ℕ → ℕ
-entry table a i = get_or (get_or table a []) i 0
-
-lower_products : agree_below (λ n. eqb (entry LOWER (n / 32) (n % 32)) (octet_mul (n / 32) (half_byte (n % 32)))) (λ _. true) 512 ≡ true
+lower_products : agree_below (λ n. eqb (get_or LOWER n 0) (octet_mul (n / 32) (half_byte (n % 32)))) (λ _. true) 512 ≡ true
 unfolding octet_mul octet_times octet_double
 lower_products = refl
 
-upper_products : agree_below (λ n. eqb (entry UPPER (n / 32) (n % 32)) (octet_mul (n / 32 * 16) (half_byte (n % 32)))) (λ _. true) 512 ≡ true
+upper_products : agree_below (λ n. eqb (get_or UPPER n 0) (octet_mul (n / 32 * 16) (half_byte (n % 32)))) (λ _. true) 512 ≡ true
 unfolding octet_mul octet_times octet_double
 upper_products = refl
 
-entry_is : (table : List (List ℕ)) (f : ℕ → ℕ) → agree_below (λ n. eqb (entry table (n / 32) (n % 32)) (octet_mul (f (n / 32)) (half_byte (n % 32)))) (λ _. true) 512 ≡ true
-    → (a i : ℕ) → a < 16 → i < 32 → entry table a i ≡ octet_mul (f a) (half_byte i)
+entry_is : (table : List ℕ) (f : ℕ → ℕ) → agree_below (λ n. eqb (get_or table n 0) (octet_mul (f (n / 32)) (half_byte (n % 32)))) (λ _. true) 512 ≡ true
+    → (a i : ℕ) → a < 16 → i < 32 → get_or table (32 * a + i) 0 ≡ octet_mul (f a) (half_byte i)
 entry_is table f all a i l n =
     let place : (32 * a + i) / 32 ≡ a = omega arith in
     let rest : (32 * a + i) % 32 ≡ i = omega arith in
-    rw (place, rest) at (eqb-true _ _ (agree_below_at (λ j. eqb (entry table (j / 32) (j % 32)) (octet_mul (f (j / 32)) (half_byte (j % 32)))) (λ _. true) 512 (32 * a + i) all (omega arith)))
-
-rows_long : (table : List (List ℕ)) → agree_below (λ a. eqb (length (get_or table a [])) 32) (λ _. true) 16 ≡ true → (a : ℕ) → a < 16 → length (get_or table a []) ≡ 32
-rows_long table all a l = eqb-true _ _ (agree_below_at (λ j. eqb (length (get_or table j [])) 32) (λ _. true) 16 a all l)
+    rw (place, rest) at (eqb-true _ _ (agree_below_at (λ j. eqb (get_or table j 0) (octet_mul (f (j / 32)) (half_byte (j % 32)))) (λ _. true) 512 (32 * a + i) all (omega arith)))
 
 module _ (scalar low high : ℕ) (small : scalar < 256) (low_is : low ≡ scalar % 16) (high_is : high ≡ scalar / 16) where
   abbrev of_lower : List ℕ
-  of_lower = get_or LOWER low []
+  of_lower = chunk (32 * low) 32 LOWER
 
   abbrev of_upper : List ℕ
-  of_upper = get_or UPPER high []
+  of_upper = chunk (32 * high) 32 UPPER
+
+  -- as a vector is read from the rest of a table
+  pub as_read : zip2 bit_xor (chunk 0 32 (take (512 - 32 * low) (drop (32 * low) LOWER))) (chunk 0 32 (take (512 - 32 * high) (drop (32 * high) UPPER))) ≡ zip2 bit_xor of_lower of_upper
+  as_read =
+      ap (λ xs. zip2 bit_xor (chunk 0 32 xs) (chunk 0 32 (take (512 - 32 * high) (drop (32 * high) UPPER)))) (take_rest LOWER (32 * low))
+      ∙ ap (λ xs. zip2 bit_xor of_lower (chunk 0 32 xs)) (take_rest UPPER (32 * high))
 
   lower_long : length of_lower ≡ 32
-  lower_long = rows_long LOWER refl low (omega (arith, low_is))
+  lower_long = let n : length LOWER ≡ 512 = refl in length-chunk (32 * low) 32 LOWER (omega (arith, n, low_is))
 
   upper_long : length of_upper ≡ 32
-  upper_long = rows_long UPPER refl high (omega (arith, small, high_is))
+  upper_long = let n : length UPPER ≡ 512 = refl in length-chunk (32 * high) 32 UPPER (omega (arith, n, small, high_is))
 
   pub sums_long : length (zip2 bit_xor of_lower of_upper) ≡ 32
   sums_long = length-zip2 bit_xor of_lower of_upper (lower_long ∙ sym upper_long) ∙ lower_long
@@ -55,8 +54,8 @@ module _ (scalar low high : ℕ) (small : scalar < 256) (low_is : low ≡ scalar
       let second : high < 16 = omega (arith, small, high_is) in
       let whole : low + 16 * high ≡ scalar = omega (arith, low_is, high_is) in
       get_or-zip2 bit_xor of_lower of_upper i 0 0 0 (omega (arith, lower_long)) (omega (arith, upper_long))
-      ∙ ap (λ x. bit_xor x (get_or of_upper i 0)) (entry_is LOWER (λ a. a) lower_products low i first l)
-      ∙ ap (bit_xor (octet_mul low (half_byte i))) (entry_is UPPER (λ a. a * 16) upper_products high i second l)
+      ∙ ap (λ x. bit_xor x (get_or of_upper i 0)) (get_or-chunk (32 * low) 32 LOWER i 0 l ∙ entry_is LOWER (λ a. a) lower_products low i first l)
+      ∙ ap (bit_xor (octet_mul low (half_byte i))) (get_or-chunk (32 * high) 32 UPPER i 0 l ∙ entry_is UPPER (λ a. a * 16) upper_products high i second l)
       ∙ sym (mul-xor_left low (high * 16) (half_byte i) (omega arith) (omega arith))
       ∙ ap (λ a. octet_mul a (half_byte i)) (halves_xor low high first second ∙ whole)
 
