@@ -2,6 +2,8 @@
 use Rattle.std.proofs.Common.{◌≡◌, ◌⊎◌, ⊎_elim, ℕ, ◌+◌, ◌-◌, ◌≤◌, List, ◌++◌, length, take, drop, sym, ap, ◌∙◌, arith}
 use Rattle.std.proofs.Math.Seq.{take-add, take-append_seam, drop-append_seam, drop-append-add}
 use Rattle.std.proofs.lemmas.List.{append_assoc, drop-drop, length-append, length-drop, length-take-le, take-append-drop}
+use Rattle.std.proofs.lemmas.Simd.{put_chunk_is}
+use lib.Lanes.{put_chunk}
 use Rattle.rq_bytes.specs.Ranges.{range_of, with_range}
 
 -- other elements in the place of `mid`
@@ -137,3 +139,7 @@ range-join xs i j n m e =
     take-add n m (drop i xs)
     ∙ ap (λ ys. range_of xs i n ++ take m ys) (drop-drop n i xs)
     ∙ ap (λ k. range_of xs i n ++ range_of xs k m) (sym e)
+
+-- a vector that is written
+pub put_is : (xs : List ℕ) (i : ℕ) (ys : List ℕ) → i + length ys ≤ length xs → put_chunk i xs ys ≡ with_range xs i ys
+put_is xs i ys within = put_chunk_is i xs ys within ∙ ap (λ rest. take i xs ++ (ys ++ rest)) (drop-drop (length ys) i xs)

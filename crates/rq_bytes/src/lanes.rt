@@ -2,10 +2,8 @@
 ghost use Rattle.std.specs.Prelude.{◌≡◌, ℕ, ◌+◌, ◌<◌, ◌≤◌, length};
 ghost use Rattle.std.specs.List.{range_with_len};
 ghost use Rattle.std.specs.Simd.Lanes.{zip2, chunk, put_chunk};
-ghost use Rattle.rq_bytes.specs.Ranges.{with_range};
 
 use crate::products::LANES;
-use std::simd::Simd;
 use std::simd::prelude::*;
 
 /// What is made of the octet at each place of a row, by an operation on one octet and on a vector of
@@ -66,14 +64,4 @@ fn change_vector<O: LaneOperation>(octets: &mut [u8], operation: &O, at: usize)
 {
     let made = operation.lanes(u8x32::from_slice(&octets[at..]), at);
     made.copy_to_slice(&mut octets[at..]);
-}
-
-/// Writes a piece of N octets from `at` on.
-#[inline(always)]
-pub(crate) fn write_piece<const N: usize>(bytes: &mut [u8], at: usize, piece: Simd<u8, N>)
-    requires len { length piece ≡ N }
-    requires within { at + N ≤ length bytes.old }
-    ensures { bytes.new ≡ with_range bytes.old at piece.entry }
-{
-    piece.copy_to_slice(&mut bytes[at..]);
 }

@@ -3,7 +3,6 @@ ghost use Rattle.std.specs.Prelude.{◌≡◌, ◌+◌, ◌<◌, ◌≤◌, leng
 ghost use Rattle.rq_bytes.specs.Ranges.{range_of};
 ghost use Rattle.rq_bytes.specs.RangeSums.{with_multiples_added, with_doubled_sum, doubled_sum, by_one, IsRangeBeside, BeginsNotInside};
 
-use crate::lanes::write_piece;
 use crate::products::{LANES, doubled_lanes, product};
 use std::simd::Simd;
 use std::simd::prelude::*;
@@ -34,12 +33,12 @@ pub(crate) fn double_add_and_spread(
         let at = LANES * piece;
         let sum = sum_of_pieces(bytes, dest + at, src + at);
         add_piece_to_all(bytes, sum, targets, at);
-        write_piece(bytes, dest + at, sum);
+        sum.copy_to_slice(&mut bytes[dest + at..]);
     }
     for at in LANES * pieces..len {
         let sum = sum_of_octets(bytes, dest + at, src + at);
         add_piece_to_all(bytes, sum, targets, at);
-        write_piece(bytes, dest + at, sum);
+        sum.copy_to_slice(&mut bytes[dest + at..]);
     }
 }
 
@@ -82,6 +81,6 @@ fn add_piece_to_all<const N: usize>(
     for target in targets {
         let start = *target + at;
         let sum = Simd::<u8, N>::from_slice(&bytes[start..]) ^ piece;
-        write_piece(bytes, start, sum);
+        sum.copy_to_slice(&mut bytes[start..]);
     }
 }

@@ -5,7 +5,6 @@ ghost use Rattle.rq_bytes.specs.RangeSums.{with_multiples_added, IsRangeBeside};
 ghost use Rattle.rq_bytes.specs.Targets.{start_and_octet};
 
 use crate::half_products::{HalfProducts, Halves};
-use crate::lanes::write_piece;
 use crate::products::{LANES, product};
 use std::simd::prelude::*;
 
@@ -45,7 +44,7 @@ fn add_pieces(bytes: &mut [u8], src: usize, targets: &[Target], at: usize)
     for target in targets {
         let start = target.start + at;
         let sum = u8x32::from_slice(&bytes[start..]) ^ target.factor.products(&halves);
-        write_piece(bytes, start, sum);
+        sum.copy_to_slice(&mut bytes[start..]);
     }
 }
 
