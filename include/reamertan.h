@@ -311,7 +311,7 @@ uint8_t reamertan_open_plan(const struct reamertan_row *rows, size_t row_count, 
  *
  * Refuses, in this order: NO_CODER where `plan` holds no plan, ROW_REFUSED, SYMBOL_SIZE_ZERO, ALIGNMENT_ZERO,
  * MISALIGNED, WRONG_DATA_LENGTH where the bytes aren't whole symbols, BLOCK_OVER_TABLE, PLAN_MISMATCH. OUT_OF_MEMORY
- * may come before any but the first. Where it refuses, `handle` holds what it held. */
+ * may come before any of these but NO_CODER. Where it refuses, `handle` holds what it held. */
 uint8_t reamertan_open_block_encoder(const struct reamertan_row *rows, size_t row_count,
                                      const uint8_t configuration[REAMERTAN_CONFIGURATION_BYTES],
                                      uint8_t block, const uint8_t *bytes, size_t length,
@@ -322,7 +322,7 @@ uint8_t reamertan_open_block_encoder(const struct reamertan_row *rows, size_t ro
  *
  * Refuses, in this order: NO_CODER where `plan` holds no plan, SYMBOL_SIZE_ZERO, ALIGNMENT_ZERO, MISALIGNED,
  * WRONG_DATA_LENGTH where the bytes aren't whole symbols, PLAN_MISMATCH where the plan is for another number of them.
- * OUT_OF_MEMORY may come before any but the first. Where it refuses, `handle` holds what it held. */
+ * OUT_OF_MEMORY may come before any of these but NO_CODER. Where it refuses, `handle` holds what it held. */
 uint8_t reamertan_open_planned_encoder(const uint8_t configuration[REAMERTAN_CONFIGURATION_BYTES], uint8_t block,
                                        const uint8_t *bytes, size_t length, struct reamertan_handle *plan,
                                        struct reamertan_handle *handle);
@@ -358,7 +358,7 @@ uint8_t reamertan_open_decoder(const struct reamertan_row *rows, size_t row_coun
  * WRONG_PAYLOAD_SIZE; the decoder then holds what it held. And then CONTRADICTION, where with the
  * packet those of its block, which has no answer yet, determine the block and no block fits them all: it
  * is taken, each later packet of its block is refused so too, and the object is never complete.
- * OUT_OF_MEMORY may come before any but the first, and then the packet may be taken or not, unless it is
+ * OUT_OF_MEMORY may come before any of these but NO_CODER, and then the packet may be taken or not, unless it is
  * one to be refused by the first four; hand it in again. */
 uint8_t reamertan_add_packet(struct reamertan_handle *handle, const uint8_t *packet,
                              size_t packet_length);

@@ -10,6 +10,11 @@ use crate::fields::{ConfigurationFields, PayloadIdFields};
 use serde::{Deserialize, Serialize};
 
 /// Which symbol of which source block a packet carries.
+///
+/// ```
+/// let id = raptorq::PayloadId::new(1, 258); // block 1, encoding symbol id 258
+/// assert_eq!(id.serialize(), [1, 0, 1, 2]);
+/// ```
 #[derive(Clone, Debug, PartialEq, PartialOrd, Eq, Ord, Hash)]
 #[cfg_attr(feature = "serde", derive(Serialize, Deserialize))]
 #[cfg_attr(feature = "serde", serde(try_from = "PayloadIdFields"))]
@@ -63,6 +68,13 @@ impl PayloadId {
 }
 
 /// A packet: an id, and the encoding symbol that it names.
+///
+/// ```
+/// let id = raptorq::PayloadId::new(0, 60);
+/// let packet = raptorq::EncodingPacket::new(id, vec![7; 96]);
+/// let bytes = packet.serialize(); // 4 bytes of id, then the payload
+/// assert_eq!(raptorq::EncodingPacket::deserialize(&bytes), packet);
+/// ```
 #[derive(Clone, Debug, PartialEq, PartialOrd, Eq, Ord, Hash)]
 #[cfg_attr(feature = "serde", derive(Serialize, Deserialize))]
 pub struct EncodingPacket {
@@ -104,6 +116,12 @@ impl EncodingPacket {
 }
 
 /// What encoder and decoder both know of an object: its length and how it is cut.
+///
+/// ```
+/// let config = raptorq::ObjectTransmissionInformation::with_defaults(5000, 100);
+/// let header = config.serialize();
+/// assert_eq!(raptorq::ObjectTransmissionInformation::deserialize(&header), config);
+/// ```
 #[derive(Copy, Clone, Debug, PartialEq, PartialOrd, Eq, Ord, Hash)]
 #[cfg_attr(feature = "serde", derive(Serialize, Deserialize))]
 #[cfg_attr(feature = "serde", serde(try_from = "ConfigurationFields"))]

@@ -10,10 +10,19 @@ use std::collections::BTreeMap;
 use std::fmt;
 use std::sync::{Mutex, PoisonError};
 
-/// Up to how many symbols the crate solves by dense matrices, where nobody sets another number.
+/// From how many symbols on the crate solves by sparse matrices, where nobody sets another number.
 const SPARSE_THRESHOLD: u32 = 250;
 
 /// Puts an object together again from its packets.
+///
+/// ```
+/// let object = [7; 5000];
+/// let encoder = raptorq::Encoder::with_defaults(&object, 100);
+/// let mut decoder = raptorq::Decoder::new(encoder.get_config());
+/// let packets = encoder.get_encoded_packets(30).into_iter().skip(25);
+/// let answer = packets.into_iter().find_map(|packet| decoder.decode(packet));
+/// assert_eq!(answer, Some(object.to_vec())); // `None` where more packets are needed
+/// ```
 #[derive(Clone, Debug, PartialEq, Eq)]
 pub struct Decoder {
     config: ObjectTransmissionInformation,
@@ -36,7 +45,7 @@ impl Decoder {
         }
     }
 
-    /// Sets up to how many symbols blocks are solved by dense matrices. Only `==` sees it: answers
+    /// Sets from how many symbols on blocks are solved by sparse matrices. Only `==` sees it: answers
     /// and times are the same.
     pub fn set_sparse_threshold(&mut self, value: u32) {
         for block in &mut self.blocks {
@@ -86,6 +95,13 @@ impl Decoder {
 }
 
 /// Puts a source block together again from its packets.
+///
+/// ```
+/// let config = raptorq::ObjectTransmissionInformation::new(160, 16, 1, 1, 8);
+/// let encoder = raptorq::SourceBlockEncoder::new(0, &config, &[7; 160]);
+/// let mut decoder = raptorq::SourceBlockDecoder::new(0, &config, 160); // block 0, of 160 bytes
+/// assert_eq!(decoder.decode(encoder.repair_packets(0, 11)), Some(vec![7; 160]));
+/// ```
 #[derive(Clone)]
 pub struct SourceBlockDecoder {
     source_block_id: u8,
@@ -140,7 +156,7 @@ impl SourceBlockDecoder {
         }
     }
 
-    /// Sets up to how many symbols the block is solved by dense matrices. Only `==` sees it: answers and
+    /// Sets from how many symbols on the block is solved by sparse matrices. Only `==` sees it: answers and
     /// times are the same.
     pub fn set_sparse_threshold(&mut self, value: u32) {
         self.sparse_threshold = value;

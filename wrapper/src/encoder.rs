@@ -12,6 +12,13 @@ use std::fmt;
 use std::ops::Range;
 
 /// Builds encoders by the memory of a decoder and a size of packets.
+///
+/// ```
+/// let mut builder = raptorq::EncoderBuilder::new();
+/// builder.set_max_packet_size(1280); // bytes of a payload
+/// builder.set_decoder_memory_requirement(1 << 20); // bytes for the symbols of a sub-block
+/// assert_eq!(builder.build(&[7; 5000]).get_config().symbol_size(), 1280);
+/// ```
 #[derive(Clone, Debug, PartialEq, Eq)]
 pub struct EncoderBuilder {
     decoder_memory_requirement: u64,
@@ -55,6 +62,13 @@ impl Default for EncoderBuilder {
 }
 
 /// Makes the packets of an object.
+///
+/// ```
+/// let encoder = raptorq::Encoder::with_defaults(&[7; 5000], 100); // bytes of a payload at most
+/// let header = encoder.get_config().serialize(); // a decoder needs these 12 bytes
+/// let packets = encoder.get_encoded_packets(30); // 30 repair packets a block
+/// assert_eq!((header.len(), packets.len()), (12, 83));
+/// ```
 #[derive(Clone, Debug, PartialEq, Eq)]
 pub struct Encoder {
     config: ObjectTransmissionInformation,
@@ -111,6 +125,14 @@ impl Encoder {
 }
 
 /// Makes the packets of a source block.
+///
+/// ```
+/// let config = raptorq::ObjectTransmissionInformation::new(160, 16, 1, 1, 8);
+/// let encoder = raptorq::SourceBlockEncoder::new(0, &config, &[7; 160]); // K = 10 symbols
+/// let mut packets = encoder.source_packets(); // encoding symbol ids 0 to K - 1
+/// packets.extend(encoder.repair_packets(0, 5)); // K to K + 4
+/// assert_eq!(packets[14].payload_id().encoding_symbol_id(), 14);
+/// ```
 #[derive(Clone)]
 pub struct SourceBlockEncoder {
     source_block_id: u8,

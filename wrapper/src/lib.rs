@@ -1,5 +1,18 @@
 //! RaptorQ (RFC 6330) by a codec that is proved, under the names of the crate `raptorq` 2.0.1.
 //!
+//! ```
+//! use raptorq::{Decoder, Encoder};
+//!
+//! let object = vec![7; 5000];
+//! let encoder = Encoder::with_defaults(&object, 96); // bytes of a payload at most
+//! let packets = encoder.get_encoded_packets(30); // 30 repair packets a block
+//! let mut decoder = Decoder::new(encoder.get_config());
+//! let answer = packets.into_iter().skip(25).find_map(|packet| decoder.decode(packet));
+//! assert_eq!(answer, Some(object));
+//! ```
+//!
+//! Packets have to arrive undamaged or not at all: put a checksum around each.
+//!
 //! A program that uses the crate changes its dependency and nothing else. Where the crate panics, these
 //! calls do too, with the name of the refusal; where they panic alone, `README.md` says.
 #![deny(unsafe_code)]

@@ -8,6 +8,13 @@ use std::sync::{Mutex, MutexGuard, PoisonError};
 
 /// What the encoders of source blocks of one size share: which of their symbols are to be added to which. To find
 /// that is most of the work of an encoder of small symbols. Clones share it.
+///
+/// ```
+/// let plan = raptorq::SourceBlockEncodingPlan::generate(10); // for all blocks of 10 symbols
+/// let config = raptorq::ObjectTransmissionInformation::new(160, 16, 1, 1, 8);
+/// let encoder = raptorq::SourceBlockEncoder::with_encoding_plan(0, &config, &[7; 160], &plan);
+/// assert_eq!(encoder.source_packets().len(), 10);
+/// ```
 #[derive(Clone)]
 pub struct SourceBlockEncodingPlan {
     source_symbol_count: u16,
