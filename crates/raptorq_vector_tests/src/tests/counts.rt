@@ -76,9 +76,8 @@ fn listed_operations(
     requires { 497 ≤ greatest_size table.now }
 {
     let found = first_solver(alloc, table, 497)?.into_operations()?;
-    found
-        .expect(rt, "the first ids determine the block")
-        .into_symbol_ops()
+    let operations = found.expect(rt, "the first ids determine the block");
+    Ok(operations.into_symbol_ops()?)
 }
 
 // Few for the greatest block of the built-in table, by the solver's own count and in the list.
