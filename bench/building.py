@@ -1,4 +1,5 @@
 """What the scripts of bench/ share: programs built in scratch folders, and the tables of the standard."""
+import glob
 import os
 import random
 import re
@@ -11,6 +12,12 @@ import time
 BENCH = os.path.dirname(os.path.abspath(__file__))
 TOP = os.path.dirname(BENCH)
 MANIFEST = '[package]\nname = "{}"\nversion = "0.0.0"\nedition = "2021"\n[dependencies]\nraptorq = {{ path = "{}", version = "=2.0.1", features = ["{}"] }}\n'
+
+
+def pages():
+    """The pages of this repository, as paths from its top."""
+    patterns = ("README.md", "CONTRIBUTING.md", "CHANGELOG.md", "docs/*.md", "wrapper/README.md", "python/README.md")
+    return sorted(os.path.relpath(path, TOP) for pattern in patterns for path in glob.glob(f"{TOP}/{pattern}"))
 
 
 def misused(usage):
