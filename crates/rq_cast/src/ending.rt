@@ -22,8 +22,9 @@ pub enum ProgramEnd {
     Stopped(Stop),
 }
 
-/// Writes two lines before the first cell: `name`, with name and configuration in 56 hexadecimal digits,
-/// and `cells`, with how many are sent.
+/// Writes three lines before the first cell: `name`, with name and configuration in 56 hexadecimal
+/// digits, `blocks`, with how many there are and how many source symbols the largest has, and `cells`,
+/// with how many are sent.
 pub fn announce<W: Write>(sender: &Sender, out: &mut W) -> io::Result<()> {
     let head = sender.head();
     write!(out, "name ")?;
@@ -34,6 +35,9 @@ pub fn announce<W: Write>(sender: &Sender, out: &mut W) -> io::Result<()> {
         write!(out, "{byte:02x}")?;
     }
     writeln!(out, "")?;
+    let blocks = head.configuration.source_blocks();
+    let largest = head.configuration.largest_block();
+    writeln!(out, "blocks {blocks} of {largest}")?;
     writeln!(out, "cells {}", sender.cells())
 }
 

@@ -57,6 +57,7 @@ fn senders_are_announced(rt: HostRuntime) {
     let sender = sender(alloc, 0, 1).expect(&rt, "sender");
     let mut out: Vec<u8> = Vec::new(alloc);
     announce(&sender, &mut out).expect(&rt, "memory");
-    let text = "name bbc28135a52ff273b0ee175977e0ddb5000000000300000201000101\ncells 2\n";
+    let text =
+        "name bbc28135a52ff273b0ee175977e0ddb5000000000300000201000101\nblocks 1 of 2\ncells 2\n";
     assert_eq!(rt; out.as_slice(), text.as_bytes());
 }
