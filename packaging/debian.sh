@@ -117,7 +117,7 @@ make_dev_deb() {
 
 # python3-rq has a /usr/bin/rq: here each program has the name of this package before its own.
 make_program_deb() {
-    local program programs=("${PROGRAMS[@]%% *}")
+    local program script programs=("${PROGRAMS[@]%% *}")
     begin reamertan amd64
     for program in "${PROGRAMS[@]%% *}"; do
         stage 755 "$work/x86/$program" "usr/bin/reamertan-$program"
@@ -125,8 +125,13 @@ make_program_deb() {
             sed 's/share\/doc\/reamertan\/LINKED/\/usr\/share\/doc\/reamertan\/copyright/' | gzip -9n >"$work/$program.1.gz"
         stage 644 "$work/$program.1.gz" "usr/share/man/man1/reamertan-$program.1.gz"
     done
+    for script in "${SCRIPTS[@]}"; do
+        sed 's/:-rqcast}/:-reamertan-rqcast}/' "$top/examples/$script" >"$work/$script"
+        stage 755 "$work/$script" "usr/share/doc/reamertan/examples/$script"
+    done
     finish utils "$(needed_glibc "${programs[@]/#/$work/x86/}")" "sends files over links that lose data (RaptorQ, RFC 6330)" \
-        "These are the programs rq and rqcast of Reamertan, as reamertan-rq and reamertan-rqcast. They make packets or cells of a file, and the file of any that determine it."
+        "These are the programs rq and rqcast of Reamertan, as reamertan-rq and reamertan-rqcast. They make packets or cells of a file, and the file of any that determine it." \
+        "Suggests: parallel, python3, socat"
 }
 
 make_debs() {

@@ -40,6 +40,9 @@ Libs: -L\${libdir} -lreamertan
 TEXT
 }
 
+# The scripts of examples/ over the programs.
+readonly SCRIPTS=(carousel diode many relay shards)
+
 # From which commit each build was proved, and by which toolchain: BUILT PROCESSOR..
 write_proved() {
     local processor
@@ -85,7 +88,7 @@ stage_documents() {
 
 # What is there for x86-64 alone: LIBDIR.
 stage_programs() {
-    local program
+    local program script
     stage 755 "$made/libreamertan.so" "$1/libreamertan.so.$version"
     ln -s "libreamertan.so.$version" "$staged/$1/$soname"
     ln -s "$soname" "$staged/$1/libreamertan.so"
@@ -94,6 +97,7 @@ stage_programs() {
         sed "s/@VERSION@/$version/" "$top/docs/$program.1" >"$made/$program.1"
         stage 644 "$made/$program.1" "share/man/man1/$program.1"
     done
+    for script in "${SCRIPTS[@]}"; do stage 755 "$top/examples/$script" "share/doc/reamertan/examples/$script"; done
 }
 
 # Puts all files into the tree `staged`, of what was made in `made`: BUILT PREFIX LIBDIR.
