@@ -10,15 +10,14 @@ pub mod PackedRows
 pub mod Pieces
 pub mod PlaneFacts
 pub mod ProductSteps
-pub mod RangeDoublings
 pub mod RangeFacts
 pub mod RangeLoans
-pub mod RangeMultiples
 pub mod RowSums
 pub mod SlabDoublings
 pub mod SlabFacts
 pub mod SlabMultiples
 pub mod SlabSums
+pub mod Spreads
 pub mod TableFacts
 pub mod UnreadFacts
 pub mod ZeroRows

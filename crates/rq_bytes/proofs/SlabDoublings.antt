@@ -16,7 +16,7 @@ use Rattle.rq_bytes.specs.Targets.{start_and_octet_in}
 use Rattle.rq_bytes.specs.declared.symbol_slab.multiples.Multiple.{Multiple}
 use Rattle.rq_bytes.proofs.Cuts.{pieces_apart}
 use Rattle.rq_bytes.proofs.Multiples.{times_one}
-use Rattle.rq_bytes.proofs.RangeDoublings.{spread_upto, length-doubled_sum}
+use Rattle.rq_bytes.proofs.Spreads.{spread_upto, length-doubled_sum}
 use Rattle.rq_bytes.proofs.RangeFacts.{length-with_range}
 use Rattle.rq_bytes.proofs.SlabFacts.{HoldsSlab, seen, apart, range_at, length-range_at, within, one_written, size_is, are_symbols, length-after, order-after}
 use Rattle.rq_bytes.proofs.SlabMultiples.{fma_of, IsTarget, AreTargets, all_written, after_all-none, after_all-first}

@@ -17,7 +17,7 @@ use Rattle.rq_bytes.specs.contracts.symbol_slab.SymbolSlab.{the_view, the_invari
 use Rattle.rq_bytes.specs.declared.range_multiples.Target.{Target}
 use Rattle.rq_bytes.specs.declared.symbol_slab.multiples.Multiple.{Multiple}
 use Rattle.rq_bytes.specs.declared.symbol_slab.SymbolSlab.TheInside.{Inside}
-use Rattle.rq_bytes.proofs.RangeMultiples.{length-multiple, length-row_added}
+use Rattle.rq_bytes.proofs.Spreads.{length-multiple, length-row_added}
 use Rattle.rq_bytes.proofs.RowSums.{all_unmap}
 use Rattle.rq_bytes.proofs.SlabFacts.{HoldsSlab, seen, apart, range_at, length-range_at, within, one_written, meant_below, length-after}
 
@@ -128,12 +128,4 @@ module _ {bytes : List ℕ} {count size : ℕ} {order : Option (List ℕ)} {slab
       → new ≡ with_multiples_added old (range_of old start size) 0 pairs
       → seen count size order items ≡ after_all (map (fma_of src) multiples) slab
   all_multiples pairs start old new items e same_pairs same kept is_new =
-      let row = symbol_in slab src in
-      ap (seen count size order) (
-      kept
-      ∙ is_new
-      ∙ ap (λ xs. with_multiples_added xs (range_of xs start size) 0 pairs) same
-      ∙ ap (λ k. with_multiples_added bytes (range_of bytes k size) 0 pairs) e
-      ∙ ap (λ r. with_multiples_added bytes r 0 pairs) (range_at is (meant_at slab.order src) from)
-      ∙ ap (with_multiples_added bytes row 0) same_pairs)
-      ∙ (all_written src row is multiples from refl all).view
+      rw (kept, is_new, same, e, range_at is (meant_at slab.order src) from, same_pairs) (all_written src (symbol_in slab src) is multiples from refl all).view

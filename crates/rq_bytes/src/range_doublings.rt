@@ -4,6 +4,7 @@ ghost use Rattle.rq_bytes.specs.Ranges.{range_of};
 ghost use Rattle.rq_bytes.specs.RangeSums.{with_multiples_added, with_doubled_sum, doubled_sum, by_one, IsRangeBeside, BeginsNotInside};
 
 use crate::products::{LANES, doubled_lanes, product};
+use crate::range_multiples::add_piece;
 use std::simd::Simd;
 use std::simd::prelude::*;
 
@@ -79,8 +80,6 @@ fn add_piece_to_all<const N: usize>(
     ensures { bytes.new ≡ with_multiples_added bytes.old piece.entry at (map by_one targets.now) }
 {
     for target in targets {
-        let start = *target + at;
-        let sum = Simd::<u8, N>::from_slice(&bytes[start..]) ^ piece;
-        sum.copy_to_slice(&mut bytes[start..]);
+        add_piece(bytes, piece, *target + at);
     }
 }

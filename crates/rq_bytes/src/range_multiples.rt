@@ -1,11 +1,12 @@
 //! Multiples of a range of one buffer, added to other ranges of it.
 ghost use Rattle.std.specs.Prelude.{◌≡◌, ◌+◌, ◌<◌, ◌≤◌, length, map, All};
 ghost use Rattle.rq_bytes.specs.Ranges.{range_of};
-ghost use Rattle.rq_bytes.specs.RangeSums.{with_multiples_added, IsRangeBeside};
+ghost use Rattle.rq_bytes.specs.RangeSums.{with_row_added, with_multiples_added, IsRangeBeside};
 ghost use Rattle.rq_bytes.specs.Targets.{start_and_octet};
 
 use crate::half_products::{HalfProducts, Halves};
 use crate::products::{LANES, product};
+use std::simd::Simd;
 use std::simd::prelude::*;
 
 /// Where a multiple is added, and the octet that multiplies.
@@ -42,9 +43,7 @@ fn add_pieces(bytes: &mut [u8], src: usize, targets: &[Target], at: usize)
 {
     let halves = Halves::new(u8x32::from_slice(&bytes[src + at..]));
     for target in targets {
-        let start = target.start + at;
-        let sum = u8x32::from_slice(&bytes[start..]) ^ target.factor.products(&halves);
-        sum.copy_to_slice(&mut bytes[start..]);
+        add_piece(bytes, target.factor.products(&halves), target.start + at);
     }
 }
 
@@ -57,6 +56,19 @@ fn add_octets(bytes: &mut [u8], src: usize, targets: &[Target], at: usize)
 {
     let octet = bytes[src + at];
     for target in targets {
-        bytes[target.start + at] ^= product(target.factor.octet, octet);
+        let multiple = Simd::<u8, 1>::splat(product(target.factor.octet, octet));
+        add_piece(bytes, multiple, target.start + at);
     }
+}
+
+/// Adds a piece to the octets from `start` on.
+#[inline(always)]
+pub(crate) fn add_piece<const N: usize>(bytes: &mut [u8], piece: Simd<u8, N>, start: usize)
+    requires lanes { N ≤ 64 }
+    requires len { length piece ≡ N }
+    requires within { start + N ≤ length bytes.old }
+    ensures { bytes.new ≡ with_row_added bytes.old start piece.entry }
+{
+    let sum = Simd::<u8, N>::from_slice(&bytes[start..]) ^ piece;
+    sum.copy_to_slice(&mut bytes[start..]);
 }

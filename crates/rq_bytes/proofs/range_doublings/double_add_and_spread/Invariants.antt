@@ -1,7 +1,7 @@
 -- What the loops keep in `range_doublings::double_add_and_spread`.
 use Rattle.std.proofs.Common.{◌≡◌, ◌*◌, map}
 use Rattle.rq_bytes.specs.RangeSums.{by_one}
-use Rattle.rq_bytes.proofs.RangeDoublings.{spread_upto}
+use Rattle.rq_bytes.proofs.Spreads.{spread_upto}
 use Rattle.rq_bytes.proofs.range_doublings.double_add_and_spread.Given as goal
 
 abbrev pub invariant-loop-piece : goal.invariant-loop-piece

@@ -3,7 +3,7 @@ use Rattle.std.proofs.Common.{ap, ◌∙◌, length}
 use Rattle.std.proofs.lemmas.Simd.{length-chunk}
 use Rattle.rq_standard.specs.Rows.{row_sum}
 use Rattle.rq_bytes.specs.Ranges.{range_of}
-use Rattle.rq_bytes.proofs.RangeDoublings.{length-doubled_sum}
+use Rattle.rq_bytes.proofs.Spreads.{length-doubled_sum}
 use Rattle.rq_bytes.proofs.range_doublings.sum_of_pieces.Goals as goal
 
 pub doubled_lanes-multiple-requires : goal.doubled_lanes-multiple-requires

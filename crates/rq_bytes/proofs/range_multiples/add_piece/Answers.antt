@@ -1,0 +1,13 @@
+-- What the check leaves to show of `range_multiples::add_piece`.
+use Rattle.std.proofs.Common.{sym, ap, ◌∙◌, arith}
+use lib.Lanes.{put_chunk}
+use Rattle.rq_standard.specs.Rows.{row_sum}
+use Rattle.rq_bytes.specs.Ranges.{range_of}
+use Rattle.rq_bytes.proofs.Spreads.{row_added-is}
+use Rattle.rq_bytes.proofs.range_multiples.add_piece.Goals as goal
+
+pub returns : goal.returns
+returns g c =
+    let bytes = c.args.bytes.now in
+    let piece = c.args.piece in
+    rw (← c.requires.len) (sym (row_added-is bytes c.args.start piece (omega arith)))
