@@ -2,7 +2,8 @@
 use Rattle.std.proofs.Common.{◌≡◌, ℕ, zero, suc, ◌+◌, ◌-◌, ◌*◌, ◌<◌, ◌≤◌, ◌⊎◌, inl, inr, ⊎_elim, List, [], ◌∷◌, ◌++◌, length, take, drop, get_or, set, replicate, refl, sym, ap, ◌∙◌, arith}
 use Rattle.std.proofs.lemmas.Bool.{cases_lt}
 use Rattle.std.proofs.Math.Seq.{take-append_seam, drop-append_seam, drop-append-add, take-append-add}
-use Rattle.std.proofs.lemmas.List.{take-take, drop-take, drop-drop, take-append-le, length-append, take-append-drop, take-replicate, drop-replicate, take_all, set_split, length-take-le, length-drop, append_assoc}
+use Rattle.std.proofs.lemmas.List.{take-take, drop-take, drop-drop, take-append-le, drop-append-le, length-append, take-append-drop}
+use Rattle.std.proofs.lemmas.List.{take-replicate, drop-replicate, take_all, set_split, length-take-le, length-drop, append_assoc}
 use Rattle.rq_standard.proofs.PlainCut.{piece_within}
 use Rattle.rq_bytes.specs.Ranges.{range_of, with_range, cut, joined_pieces}
 
@@ -13,40 +14,26 @@ length-cut (suc n) s xs = ap suc (length-cut n s (drop s xs))
 -- the first piece, and the pieces of the rest
 cut-append_one : {X : Type 0} (n s : ℕ) (first rest : List X) → length first ≡ s → cut (suc n) s (first ++ rest) ≡ first ∷ cut n s rest
 cut-append_one n s first rest e =
-    ap (λ k. take k (first ++ rest) ∷ cut n s (drop s (first ++ rest))) (sym e)
-    ∙ ap (λ k. take (length first) (first ++ rest) ∷ cut n s (drop k (first ++ rest))) (sym e)
-    ∙ ap (λ ys. ys ∷ cut n s (drop (length first) (first ++ rest))) (take-append_seam first rest)
-    ∙ ap (λ ys. first ∷ cut n s ys) (drop-append_seam first rest)
+    rw (← e, take-append_seam first rest, drop-append_seam first rest) refl
 
 with_range-append : {X : Type 0} (first rest : List X) (s i : ℕ) (ys : List X) → length first ≡ s → with_range (first ++ rest) (s + i) ys ≡ first ++ with_range rest i ys
 with_range-append first rest s i ys e =
-    ap (λ k. take (k + i) (first ++ rest) ++ (ys ++ drop (k + i + length ys) (first ++ rest))) (sym e)
-    ∙ ap (λ zs. zs ++ (ys ++ drop (length first + i + length ys) (first ++ rest))) (take-append-add first rest i)
-    ∙ ap (λ k. (first ++ take i rest) ++ (ys ++ drop k (first ++ rest))) (omega arith)
-    ∙ ap (λ zs. (first ++ take i rest) ++ (ys ++ zs)) (drop-append-add first rest (i + length ys))
-    ∙ append_assoc first (take i rest) (ys ++ drop (i + length ys) rest)
+    let sum : length first + i + length ys ≡ length first + (i + length ys) = omega arith in
+    rw (← e, take-append-add first rest i, sum, drop-append-add first rest (i + length ys)) (append_assoc first (take i rest) (ys ++ drop (i + length ys) rest))
 
 -- one piece
 pub get_or-cut : {X : Type 0} (n s p : ℕ) (xs : List X) → p < n → length xs ≡ n * s → get_or (cut n s xs) p [] ≡ range_of xs (p * s) s
 get_or-cut zero s p xs lt long = absurd (omega arith)
 get_or-cut (suc n) s zero xs lt long = ap (λ k. range_of xs k s) (let none : 0 ≡ 0 * s = omega arith in none)
 get_or-cut (suc n) s (suc p) xs lt long =
-    let first = take s xs in
-    let rest = drop s xs in
-    let few : length first ≡ s = length-take-le s xs (omega arith) in
-    let left : length rest ≡ n * s = length-drop s xs ∙ omega arith in
-    get_or-cut n s p rest (omega arith) left
-    ∙ sym (
-    ap (λ zs. range_of zs (suc p * s) s) (sym (take-append-drop s xs))
-    ∙ ap (λ k. range_of (first ++ rest) k s) (let split : suc p * s ≡ length first + p * s = omega arith in split)
-    ∙ ap (take s) (drop-append-add first rest (p * s)))
+    get_or-cut n s p (drop s xs) (omega arith) (length-drop s xs ∙ omega arith)
+    ∙ ap (take s) (drop-drop (p * s) s xs ∙ ap (λ k. drop k xs) (let next : s + p * s ≡ suc p * s = omega arith in next))
 
 pub cut-replicate : {X : Type 0} (n s : ℕ) (x : X) → cut n s (replicate (n * s) x) ≡ replicate n (replicate s x)
 cut-replicate zero s x = refl
 cut-replicate (suc n) s x =
-    ap (λ ys. ys ∷ cut n s (drop s (replicate (suc n * s) x))) (take-replicate s (suc n * s) x (omega arith))
-    ∙ ap (λ ys. replicate s x ∷ cut n s ys) (drop-replicate s (suc n * s) x ∙ ap (λ k. replicate k x) (let left : suc n * s - s ≡ n * s = omega arith in left))
-    ∙ ap (λ zs. replicate s x ∷ zs) (cut-replicate n s x)
+    let left : suc n * s - s ≡ n * s = omega arith in
+    rw (take-replicate s (suc n * s) x (omega arith), drop-replicate s (suc n * s) x, left, cut-replicate n s x) refl
 
 -- two pieces have nothing in common
 pub pieces_apart : (p q s : ℕ) → (q ≡ p → ⊥) → (p * s + s ≤ q * s) ⊎ (q * s + s ≤ p * s)
@@ -62,15 +49,10 @@ pub cut-join : {X : Type 0} (k m s : ℕ) (ys zs : List X) → length ys ≡ k *
 cut-join zero m s [] zs long = ap (λ n. cut n s zs) (omega arith)
 cut-join zero m s (y ∷ ys) zs long = absurd (omega arith)
 cut-join (suc k) m s ys zs long =
-    let first = take s ys in
-    let rest = drop s ys in
-    let few : length first ≡ s = length-take-le s ys (omega arith) in
-    let left : length rest ≡ k * s = length-drop s ys ∙ omega arith in
+    let first : s ≤ length ys = omega arith in
     ap (λ n. cut n s (ys ++ zs)) (let same : suc k + m ≡ suc (k + m) = omega arith in same)
-    ∙ ap (λ xs. cut (suc (k + m)) s (xs ++ zs)) (sym (take-append-drop s ys))
-    ∙ ap (cut (suc (k + m)) s) (append_assoc first rest zs)
-    ∙ cut-append_one (k + m) s first (rest ++ zs) few
-    ∙ ap (λ xs. first ∷ xs) (cut-join k m s rest zs left)
+    ∙ rw (take-append-le s ys zs first, drop-append-le s ys zs first)
+    (ap (λ xs. take s ys ∷ xs) (cut-join k m s (drop s ys) zs (length-drop s ys ∙ omega arith)))
 
 -- one more piece at the end
 pub cut-append : {X : Type 0} (n s : ℕ) (xs ys : List X) → length xs ≡ n * s → length ys ≡ s → cut (suc n) s (xs ++ ys) ≡ cut n s xs ++ ys ∷ []
@@ -85,16 +67,9 @@ drop-cut zero n s xs le long =
     ∙ ap (λ i. cut (n - 0) s (drop i xs)) (let none : 0 ≡ 0 * s = omega arith in none)
 drop-cut (suc k) zero s xs le long = absurd (omega arith)
 drop-cut (suc k) (suc n) s xs le long =
-    let first = take s xs in
-    let rest = drop s xs in
-    let few : length first ≡ s = length-take-le s xs (omega arith) in
-    let left : length rest ≡ n * s = length-drop s xs ∙ omega arith in
-    drop-cut k n s rest (omega arith) left
-    ∙ ap (λ m. cut m s (drop (k * s) rest)) (let same : n - k ≡ suc n - suc k = omega arith in same)
-    ∙ ap (cut (suc n - suc k) s) (sym (
-    ap (drop (suc k * s)) (sym (take-append-drop s xs))
-    ∙ ap (λ i. drop i (first ++ rest)) (let split : suc k * s ≡ length first + k * s = omega arith in split)
-    ∙ drop-append-add first rest (k * s)))
+    drop-cut k n s (drop s xs) (omega arith) (length-drop s xs ∙ omega arith)
+    ∙ ap (λ m. cut m s (drop (k * s) (drop s xs))) (let same : n - k ≡ suc n - suc k = omega arith in same)
+    ∙ ap (cut (suc n - suc k) s) (drop-drop (k * s) s xs ∙ ap (λ i. drop i xs) (let next : s + k * s ≡ suc k * s = omega arith in next))
 
 -- other pieces in the place of some
 pub cut-with_ranges : {X : Type 0} (n s p k : ℕ) (xs ys : List X) → p + k ≤ n → length ys ≡ k * s → length xs ≡ n * s
@@ -146,10 +121,7 @@ pub cut-take : {X : Type 0} (n s : ℕ) (xs : List X) → cut n s (take (n * s) 
 cut-take zero s xs = refl
 cut-take (suc n) s xs =
     let more : suc n * s ≡ s + n * s = omega arith in
-    ap (λ k. cut (suc n) s (take k xs)) more
-    ∙ ap (λ ys. ys ∷ cut n s (drop s (take (s + n * s) xs))) (take-take s (s + n * s) xs (omega arith))
-    ∙ ap (λ ys. take s xs ∷ cut n s ys) (drop-take s (n * s) xs)
-    ∙ ap (λ ys. take s xs ∷ ys) (cut-take n s (drop s xs))
+    rw (more, take-take s (s + n * s) xs (omega arith), drop-take s (n * s) xs, cut-take n s (drop s xs)) refl
 
 pub cut-refilled : {X : Type 0} (n s i : ℕ) (xs ys : List X) → i ≤ length xs → length xs ≡ n * s → cut n s (refilled (n * s) xs i ys) ≡ cut n s (with_range xs i ys)
 cut-refilled n s i xs ys le long =

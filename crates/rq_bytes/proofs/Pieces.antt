@@ -1,5 +1,5 @@
 -- A buffer of pieces of one size, and the pieces that callers see.
-use Rattle.std.proofs.Common.{length-set, ◌≡◌, ℕ, ◌+◌, ◌*◌, ◌<◌, ◌≤◌, List, [], length, get_or, set, sym, ap, ◌∙◌, arith}
+use Rattle.std.proofs.Common.{length-set, ◌≡◌, ℕ, ◌+◌, ◌*◌, ◌<◌, ◌≤◌, List, [], length, get_or, set, refl, sym, ap, ◌∙◌, arith}
 use Rattle.std.specs.List.{swap}
 use Rattle.std.proofs.lemmas.List.Edits.{swap_is}
 use Rattle.rq_standard.proofs.PlainCut.{piece_within}
@@ -41,14 +41,12 @@ module _ {items : List ℕ} {count size : ℕ} {pieces : List (List ℕ)} (is : 
 
   -- what callers see after a write of any elements from one piece on
   pub written_is : (i : ℕ) (ws : List ℕ) → cut count size (with_range items (i * size) ws) ≡ cut (length pieces) size (with_range (joined_pieces pieces) (i * size) ws)
-  written_is i ws = ap (λ xs. cut count size (with_range xs (i * size) ws)) (sym joined_is) ∙ ap (λ n. cut n size (with_range (joined_pieces pieces) (i * size) ws)) count_is
+  written_is i ws = rw (joined_is, ← count_is) refl
 
   -- and in a buffer that keeps its length
   pub refilled_is : (i all : ℕ) (ws : List ℕ) → i < length pieces → all ≡ length items → cut count size (refilled all items (i * size) ws) ≡ cut (length pieces) size (with_range (joined_pieces pieces) (i * size) ws)
   refilled_is i all ws below whole =
-      ap (λ n. cut count size (refilled n items (i * size) ws)) (whole ∙ is.long)
-      ∙ cut-refilled count size (i * size) items ws (omega (arith, within i below)) is.long
-      ∙ written_is i ws
+      rw (whole ∙ is.long, cut-refilled count size (i * size) items ws (omega (arith, within i below)) is.long) (written_is i ws)
 
 -- after an exchange of two
 pub exchanged : {items : List ℕ} {count size : ℕ} {pieces : List (List ℕ)} (is : HoldsPieces items count size pieces) (i j : ℕ) → i < length pieces → j < length pieces
@@ -60,6 +58,4 @@ exchanged {items} {count} {size} {pieces} is i j first second =
     let other_is = piece_at is j second in
     let written = piece_written is i other first (ap length other_is ∙ length-piece is j second) in
     (piece_written written j one (omega (arith, length-set pieces i other, second)) (ap length one_is ∙ length-piece is i first)).view
-    ∙ ap (λ x. set (set pieces i x) j one) other_is
-    ∙ ap (set (set pieces i (get_or pieces j [])) j) one_is
-    ∙ swap_is pieces i j [] first second
+    ∙ rw (other_is, one_is) (swap_is pieces i j [] first second)

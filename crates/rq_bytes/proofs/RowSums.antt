@@ -53,11 +53,10 @@ one_more_row of rows i d xs sum at n long lt so_far fits =
     let ks = range_with_len at (length xs) in
     let made : ℕ → ℕ → ℕ = λ x k. fold (λ s r. bit_xor s (get_or (of r) k 0)) x (take i rows) in
     let row = of (get_or rows i d) in
-    ap (λ zs. zip2 bit_xor zs (chunk at n row)) so_far
-    ∙ ap (zip2 bit_xor (zip2 made xs ks)) (sym (pick_l-range_with_len 0 row at n fits) ∙ ap (λ m. map (λ k. get_or row k 0) (range_with_len at m)) (sym long))
-    ∙ zip2-map_right bit_xor (λ k. get_or row k 0) (zip2 made xs ks) ks
-    ∙ zip2-twice made (λ x k. bit_xor x (get_or row k 0)) xs ks
-    ∙ zip2-alike (λ x k. bit_xor (made x k) (get_or row k 0)) (λ x k. fold (λ s r. bit_xor s (get_or (of r) k 0)) x (take (i + 1) rows)) (λ x k. sym (fold_more (λ s r. bit_xor s (get_or (of r) k 0)) x rows i d lt)) xs ks
+    rw (so_far, ← pick_l-range_with_len 0 row at n fits, ← long, zip2-map_right bit_xor (λ k. get_or row k 0) (zip2 made xs ks) ks)
+    (zip2-twice made (λ x k. bit_xor x (get_or row k 0)) xs ks
+    ∙ zip2-alike (λ x k. bit_xor (made x k) (get_or row k 0)) (λ x k. fold (λ s r. bit_xor s (get_or (of r) k 0)) x (take (i + 1) rows))
+    (λ x k. sym (fold_more (λ s r. bit_xor s (get_or (of r) k 0)) x rows i d lt)) xs ks)
 
 -- ---- rows that are those of some places
 
@@ -78,11 +77,7 @@ module _ {R P : Type 0} (of : R → List ℕ) (f : P → List ℕ) (rows : List 
 pub rows_more : {R P : Type 0} (of : R → List ℕ) (f : P → List ℕ) (rows : List R) (places : List P) (i : ℕ) (row : R) (default : P) → map of (take i rows) ≡ map f (take i places)
     → of row ≡ f (get_or places i default) → i < length rows → i < length places → map of (take (i + 1) (set rows i row)) ≡ map f (take (i + 1) places)
 rows_more of f rows places i row default so_far is inside lt =
-    ap (map of) (take_more_set rows i row inside)
-    ∙ map-append of (take i rows) (row ∷ [])
-    ∙ ap (λ l. l ++ (of row ∷ [])) so_far
-    ∙ ap (λ y. map f (take i places) ++ (y ∷ [])) is
-    ∙ sym (map_more f places i default lt)
+    rw (take_more_set rows i row inside, map-append of (take i rows) (row ∷ []), so_far, is, map_more f places i default lt) refl
 
 -- ranges of a list before a row and behind it
 pub range_before : (front rest : List ℕ) (start n : ℕ) → start + n ≤ length front → range_of (front ++ rest) start n ≡ range_of front start n

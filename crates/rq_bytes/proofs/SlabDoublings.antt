@@ -10,7 +10,7 @@ use Rattle.rq_standard.specs.OctetField.{octets}
 use Rattle.rq_standard.specs.Rows.{row_sum, row_multiple}
 use Rattle.rq_standard.proofs.RowSymbols.{add_symbols-rows, scale-rows}
 use Rattle.rq_bytes.specs.Ranges.{range_of, with_range}
-use Rattle.rq_bytes.specs.RangeSums.{with_multiples_added, doubled_sum, with_doubled_sum, by_one, IsRangeBeside, BeginsNotInside}
+use Rattle.rq_bytes.specs.RangeSums.{doubled_sum, with_doubled_sum, by_one, IsRangeBeside, BeginsNotInside}
 use Rattle.rq_bytes.specs.SymbolSlab.{Slab, store_of, after, after_all, Allows, symbol_in}
 use Rattle.rq_bytes.specs.Targets.{start_and_octet_in}
 use Rattle.rq_bytes.specs.declared.symbol_slab.multiples.Multiple.{Multiple}
@@ -94,16 +94,14 @@ module _ {bytes : List ℕ} {count size : ℕ} {order : Option (List ℕ)} {slab
       let y = symbol_in slab src in
       let doubled = map (octets.mul 2) x in
       let long : length y ≡ length doubled = length-range_at is (meant_at slab.order src) from ∙ sym (length-map x (octets.mul 2) ∙ length-range_at is (meant_at slab.order dest) to) in
-      ap (with_symbol slab dest) (ap (λ xs. row_sum xs y) (sym (scale-rows 2 x (omega arith))) ∙ sym (add_symbols-rows doubled y long))
-      ∙ sym (scaled_and_added slab dest 2 src other)
+      rw (scaled_and_added slab dest 2 src other, add_symbols-rows doubled y long, scale-rows 2 x (omega arith)) refl
 
   abbrev middle : List ℕ
   middle = with_doubled_sum bytes (start_in slab dest) (start_in slab src) size
 
   sum_is : doubled_sum bytes (start_in slab dest) (start_in slab src) size ≡ sum
   sum_is =
-      ap (λ x. row_sum (row_multiple 2 x) (range_of bytes (start_in slab src) size)) (range_at is (meant_at slab.order dest) to)
-      ∙ ap (row_sum (row_multiple 2 (symbol_in slab dest))) (range_at is (meant_at slab.order src) from)
+      rw (range_at is (meant_at slab.order dest) to, range_at is (meant_at slab.order src) from) refl
 
   middle_holds : HoldsSlab middle count size order begun
   middle_holds =
@@ -140,14 +138,7 @@ module _ {bytes : List ℕ} {count size : ℕ} {order : Option (List ℕ)} {slab
         let all : AreTargets begun dest (map added_once targets) = All-map (IsTarget begun dest) added_once targets (
         All-weaker (IsSource slab dest) (λ t. IsTarget begun dest (added_once t)) (λ t s. (omega (arith, s.0), λ h. s.1 (sym h), omega arith)) targets others) in
         let done = all_written dest row middle_holds (map added_once targets) to_begun (range_at middle_holds (meant_at slab.order dest) to_begun) all in
-        ap (seen count size order) (
-        kept
-        ∙ is_new
-        ∙ ap (λ xs. spread_upto xs start src_start (map by_one starts) size) same
-        ∙ ap (λ k. spread_upto bytes k src_start (map by_one starts) size) e
-        ∙ ap (λ k. spread_upto bytes (start_in slab dest) k (map by_one starts) size) f
-        ∙ ap (λ (ts : List (ℕ × ℕ)). with_multiples_added middle row 0 ts) (ap (map by_one) same_starts ∙ sym (same_targets begun targets)))
-        ∙ done.view
+        rw (kept, is_new, same, e, f, same_starts, ← same_targets begun targets) done.view
         ∙ ones_added dest begun targets (scale-rows 1 (symbol_in begun dest) (omega arith) ∙ times_one (symbol_in begun dest) (λ i l. (symbols.each (meant_at slab.order dest) (omega (arith, to_begun, symbols.count_is))).elements i 0 l))
         (All-weaker (IsSource slab dest) (λ t. meant_at slab.order dest ≢ meant_at slab.order t) (λ t s h. s.1 (sym h)) targets others)
         ∙ ap (after_all adds) begun_is

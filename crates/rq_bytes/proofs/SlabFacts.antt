@@ -89,10 +89,8 @@ module _ {bytes : List ℕ} {count size : ℕ} {order : Option (List ℕ)} {slab
   pub octets_written : (p a all : ℕ) (ws : List ℕ) → p < length slab.values → a ≡ p * slab.symbol_size → all ≡ length bytes
       → seen count size order (refilled all bytes a ws) ≡ with_octets_from slab p ws
   octets_written p a all ws lt e whole =
-      ap (λ k. seen count size order (refilled all bytes k ws)) (e ∙ ap (λ s. p * s) (sym size_is))
-      ∙ ap (λ (v : List (List ℕ)). record { values = v; symbol_size = size; order = order }) (
-      refilled_is held p all ws lt whole ∙ ap (λ s. cut (length slab.values) s (with_range (joined_pieces slab.values) (p * s) ws)) size_is)
-      ∙ ap (λ (v : Slab). record v { values = (with_octets_from slab p ws).values }) is.view
+      rw (e ∙ ap (λ s. p * s) (sym size_is), refilled_is held p all ws lt whole)
+      (ap (λ (v : Slab). with_octets_from (record v { values = slab.values }) p ws) is.view)
 
   -- and where they are as many as a symbol has
   pub symbol_written : (p : ℕ) (ws : List ℕ) → p < length slab.values → length ws ≡ slab.symbol_size
@@ -107,37 +105,29 @@ module _ {bytes : List ℕ} {count size : ℕ} {order : Option (List ℕ)} {slab
       → seen count size order items ≡ record slab { values = with_range slab.values start (cut k slab.symbol_size source) }
   block_written start k a old new items source fits e whole same kept is_new =
       let count_is_there = count_is in
-      ap (λ (v : List (List ℕ)). record { values = v; symbol_size = size; order = order }) (
-      ap (cut count size) (kept ∙ is_new ∙ ap (λ xs. with_range xs a source) same ∙ ap (λ i. with_range bytes i source) (e ∙ ap (λ s. start * s) (sym size_is)))
-      ∙ cut-with_ranges count size start k bytes source (omega arith) (whole ∙ ap (λ s. k * s) (sym size_is)) is.long
-      ∙ ap (λ (v : Slab). with_range v.values start (cut k size source)) is.view
-      ∙ ap (λ s. with_range slab.values start (cut k s source)) size_is)
-      ∙ ap (λ (v : Slab). record v { values = with_range slab.values start (cut k slab.symbol_size source) }) is.view
+      let written = cut-with_ranges count size start k bytes source (omega arith) (whole ∙ ap (λ s. k * s) (sym size_is)) is.long in
+      rw (kept, is_new, same, e ∙ ap (λ s. start * s) (sym size_is), written)
+      (ap (λ (v : Slab). record v { values = with_range v.values start (cut k v.symbol_size source) }) is.view)
 
   -- what callers see after a symbol of zeros behind the others
   pub zeros_behind : seen (count + 1) size order (bytes ++ replicate size 0) ≡ record slab { values = slab.values ++ replicate slab.symbol_size 0 ∷ [] }
   zeros_behind =
-      ap (λ (v : List (List ℕ)). record { values = v; symbol_size = size; order = order }) (
-      ap (λ n. cut n size (bytes ++ replicate size 0)) (add-one count)
-      ∙ cut-append count size bytes (replicate size 0) is.long (length-replicate {A = ℕ} size 0))
-      ∙ ap (λ (v : Slab). record v { values = v.values ++ replicate v.symbol_size 0 ∷ [] }) is.view
+      rw (add-one count, cut-append count size bytes (replicate size 0) is.long (length-replicate {A = ℕ} size 0))
+      (ap (λ (v : Slab). record v { values = v.values ++ replicate v.symbol_size 0 ∷ [] }) is.view)
 
   -- what callers see after an exchange of two symbols' octets
   pub exchanged : (p q : ℕ) (items : List ℕ) → p < length slab.values → q < length slab.values → items ≡ ranges_exchanged bytes (p * size) (q * size) size
       → seen count size order items ≡ record slab { values = swap slab.values p q }
   exchanged p q items first second is_new =
-      ap (seen count size order) is_new
-      ∙ ap (λ (v : List (List ℕ)). record { values = v; symbol_size = size; order = order }) (Pieces.exchanged held p q first second)
-      ∙ ap (λ (v : Slab). record v { values = swap slab.values p q }) is.view
+      rw (is_new, Pieces.exchanged held p q first second) (ap (λ (v : Slab). record v { values = swap slab.values p q }) is.view)
 
   -- what callers see after a write of the octets of one symbol
   pub one_written : (p a : ℕ) (old new items ws : List ℕ) → p < length slab.values → a ≡ p * slab.symbol_size → length ws ≡ size
       → old ≡ bytes → items ≡ new → new ≡ with_range old a ws
       → seen count size order items ≡ record slab { values = set slab.values p ws }
   one_written p a old new items ws lt e long same kept is_new =
-      ap (seen count size order) (kept ∙ is_new ∙ ap (λ xs. with_range xs a ws) same ∙ ap (λ i. with_range bytes i ws) (e ∙ ap (λ s. p * s) (sym size_is)))
-      ∙ ap (λ (v : List (List ℕ)). record { values = v; symbol_size = size; order = order }) (piece_written held p ws lt long).view
-      ∙ ap (λ (v : Slab). record v { values = set slab.values p ws }) is.view
+      rw (kept, is_new, same, e ∙ ap (λ s. p * s) (sym size_is), (piece_written held p ws lt long).view)
+      (ap (λ (v : Slab). record v { values = set slab.values p ws }) is.view)
 
   pub block_within : (start k : ℕ) → start + k ≤ length slab.values → start * slab.symbol_size + k * slab.symbol_size ≤ length bytes
   block_within start k fits =
@@ -195,18 +185,9 @@ pub compared_slabs : (a b : Inside) (left right : Slab) → the_view a ≡ left 
 compared_slabs a b left right av ai bv bi =
     let octets_a = joined-cut a.count a.symbol_size a.«data».items (sym a.«data».ok.0 ∙ ai.0) in
     let octets_b = joined-cut b.count b.symbol_size b.«data».items (sym b.«data».ok.0 ∙ bi.0) in
-    let sizes = a.symbol_size == b.symbol_size in
-    let counts = a.count == b.count in
-    let E = option_eq (pointwise ◌==◌) (option_map (λ o. o.items) a.order) (option_map (λ o. o.items) b.order) in
-    ap (λ (v : Slab). same_slab v right) (sym av)
-    ∙ ap (λ (v : Slab). same_slab (the_view a) v) (sym bv)
-    ∙ ap (λ n. sizes && (n == length (cut b.count b.symbol_size b.«data».items) && (E && pointwise ◌==◌ (joined_pieces (cut a.count a.symbol_size a.«data».items)) (joined_pieces (cut b.count b.symbol_size b.«data».items)))))
-    (length-cut a.count a.symbol_size a.«data».items)
-    ∙ ap (λ n. sizes && (a.count == n && (E && pointwise ◌==◌ (joined_pieces (cut a.count a.symbol_size a.«data».items)) (joined_pieces (cut b.count b.symbol_size b.«data».items)))))
-    (length-cut b.count b.symbol_size b.«data».items)
-    ∙ ap (λ xs. sizes && (counts && (E && pointwise ◌==◌ xs (joined_pieces (cut b.count b.symbol_size b.«data».items))))) octets_a
-    ∙ ap (λ ys. sizes && (counts && (E && pointwise ◌==◌ a.«data».items ys))) octets_b
-    ∙ ap (λ e. sizes && (counts && (e && pointwise ◌==◌ a.«data».items b.«data».items))) (same_order a.order b.order)
+    let count_a = length-cut a.count a.symbol_size a.«data».items in
+    let count_b = length-cut b.count b.symbol_size b.«data».items in
+    rw (← av, ← bv, count_a, count_b, octets_a, octets_b, same_order a.order b.order) refl
 
 -- ---- what an operation keeps and sets
 
@@ -231,14 +212,10 @@ pub zeros_around : (size start count n : ℕ) (bytes filled : List ℕ) → leng
 zeros_around size start count n bytes filled long fits is =
     let rest = count - start - n in
     let zeros = replicate (rest * size) 0 in
-    let front = replicate start (replicate {A = ℕ} size 0) in
     let all : count ≡ start + (n + rest) = omega arith in
+    let first = cut-join start (n + rest) size (replicate (start * size) 0) (bytes ++ zeros) (length-replicate {A = ℕ} (start * size) 0) in
     ap (λ k. cut k size filled) all
-    ∙ ap (cut (start + (n + rest)) size) is
-    ∙ cut-join start (n + rest) size (replicate (start * size) 0) (bytes ++ zeros) (length-replicate {A = ℕ} (start * size) 0)
-    ∙ ap (λ xs. xs ++ cut (n + rest) size (bytes ++ zeros)) (cut-replicate start size 0)
-    ∙ ap (λ xs. front ++ xs) (cut-join n rest size bytes zeros long ∙ ap (λ xs. cut n size bytes ++ xs) (cut-replicate rest size 0))
-    ∙ ap (λ k. front ++ (cut n size bytes ++ replicate (count - start - k) (replicate size 0))) (sym (length-cut n size bytes))
+    ∙ rw (is, first, cut-replicate {X = ℕ} start size 0, cut-join n rest size bytes zeros long, cut-replicate {X = ℕ} rest size 0, length-cut n size bytes) refl
 
 -- the buffer, filled in three steps
 pub filled_around : (size start count n all : ℕ) (bytes one two three : List ℕ) → length bytes ≡ n * size → start + n ≤ count → all ≡ length two

@@ -9,7 +9,7 @@ use Rattle.rq_algebra.specs.Symbols.{add_symbols}
 use Rattle.rq_standard.specs.OctetField.{octets}
 use Rattle.rq_standard.specs.Rows.{row_sum, row_multiple}
 use Rattle.rq_standard.proofs.RowSymbols.{add_symbols-rows, scale-rows}
-use Rattle.rq_bytes.specs.Ranges.{range_of, with_range}
+use Rattle.rq_bytes.specs.Ranges.{range_of}
 use Rattle.rq_bytes.specs.RangeSums.{with_row_added, with_multiples_added, IsRangeBeside}
 use Rattle.rq_bytes.specs.SymbolSlab.{Slab, after, after_all, Allows, symbol_in}
 use Rattle.rq_bytes.specs.Targets.{start_and_octet, start_and_octet_in}
@@ -71,14 +71,10 @@ module _ {bytes : List ℕ} {count size : ℕ} {order : Option (List ℕ)} {slab
       let as_long : length (map (octets.mul scalar) y) ≡ length x = length-map y (octets.mul scalar) ∙ long_y ∙ sym long_x in
       record {
         view =
-            one_written is d start bytes new new sum to refl (length-zip2 bit_xor x part (long_x ∙ sym long_part) ∙ long_x) refl refl (
-            ap (λ k. with_row_added bytes k part) here
-            ∙ ap (λ n. with_range bytes start (row_sum (range_of bytes start n) part)) long_part
-            ∙ ap (λ xs. with_range bytes start (row_sum xs part)) (range_at is d to))
-            ∙ ap (λ (xs : List ℕ). record slab { values = set slab.values d xs }) (
-            ap (λ r. row_sum x (row_multiple scalar r)) e
-            ∙ ap (row_sum x) (sym (scale-rows scalar y octet))
-            ∙ sym (add_symbols-rows x (map (octets.mul scalar) y) as_long));
+            one_written is d start bytes new new sum to refl (length-zip2 bit_xor x part (long_x ∙ sym long_part) ∙ long_x) refl refl
+            (rw (here, long_part, range_at is d to) refl)
+            ∙ ap (λ (xs : List ℕ). record slab { values = set slab.values d xs })
+            (rw (e, ← scale-rows scalar y octet) (sym (add_symbols-rows x (map (octets.mul scalar) y) as_long)));
         long = length-row_added bytes (start + 0) part (omega (arith, within is d to, long_part)) ∙ is.long;
       }
 

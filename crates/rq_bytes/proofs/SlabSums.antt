@@ -1,5 +1,5 @@
 -- Additions to one symbol of a slab, one after another.
-use Rattle.std.proofs.Common.{◌≡◌, ◌≢◌, ℕ, zero, suc, ◌+◌, ◌*◌, ◌<◌, ◌≤◌, Option, List, [], ◌∷◌, ◌++◌, length, get_or, set, map, take, fold, All, refl, sym, ap, ◌∙◌, subst, arith}
+use Rattle.std.proofs.Common.{◌≡◌, ◌≢◌, ℕ, zero, suc, ◌+◌, ◌*◌, ◌<◌, ◌≤◌, Option, List, [], ◌∷◌, ◌++◌, length, get_or, set, map, take, fold, All, refl, sym, ap, ◌∙◌, arith}
 use Rattle.std.proofs.lemmas.List.{get_or-set_same, get_or-set_other, set-set, set-get_or, map_more}
 use Rattle.std.proofs.lemmas.List.Elements.{All-head, All-tail, All-map, All-weaker}
 use Rattle.rq_algebra.specs.Operations.{Operation, AddAssign, MulAssign, Store, IsAllowed, order_after, step, run, meant_at}
@@ -40,11 +40,7 @@ module _ {X : Type 0} (operation : X → Operation) (keeps : (x : X) (order : Op
   run_next inside new is =
       let op = operation (get_or xs i default) in
       record {
-        so_far =
-            is
-            ∙ ap (after op) has_run.so_far
-            ∙ after_more (map operation (take i xs)) op slab
-            ∙ ap (λ ops. after_all ops slab) (sym (map_more operation xs i default inside));
+        so_far = rw (is, has_run.so_far, map_more operation xs i default inside) (after_more (map operation (take i xs)) op slab);
         count = ap (λ (v : Slab). length v.values) is ∙ length-after op now ∙ has_run.count;
         order = ap (λ (v : Slab). v.order) is ∙ order-after op now ∙ keeps (get_or xs i default) now.order ∙ has_run.order;
       }
@@ -84,10 +80,7 @@ module _ (slab : Slab) (dest : ℕ) where
   addition x src there apart =
       let d = meant_at slab.order dest in
       let values = set slab.values d x in
-      ap (λ (v : List (List ℕ)). let t : Store (List ℕ) = record { values = v; order = slab.order } in t) (
-      ap (λ y. set values d (add_symbols octets y (get_or values (meant_at slab.order src) []))) there
-      ∙ ap (λ y. set values d (add_symbols octets x y)) (get_or-set_other slab.values d (meant_at slab.order src) x [] apart)
-      ∙ set-set slab.values d x (add_symbols octets x (symbol_in slab src)))
+      rw (there, get_or-set_other slab.values d (meant_at slab.order src) x [] apart, set-set slab.values d x (add_symbols octets x (symbol_in slab src))) refl
 
   -- a multiplication of a symbol, and then an addition to it
   pub scaled_and_added : (scalar src : ℕ) → meant_at slab.order src ≢ meant_at slab.order dest
@@ -165,9 +158,7 @@ module _ {bytes : List ℕ} {count size : ℕ} {order : Option (List ℕ)} {slab
 
     pub beside_in : (start : ℕ) (starts old : List ℕ) → start ≡ start_in slab dest → starts ≡ map (start_in slab) sources → old ≡ bytes → All (IsRangeBeside (length old) start size) starts
     beside_in start starts old e same_starts same =
-        subst (λ xs. All (IsRangeBeside (length xs) start size) starts) (sym same) (
-        subst (λ k. All (IsRangeBeside (length bytes) k size) starts) (sym e) (
-        subst (All (IsRangeBeside (length bytes) (start_in slab dest) size)) (sym same_starts) starts_beside))
+        rw (same, e, same_starts) starts_beside
 
     -- what callers see once the sum is written
     pub all_added : (start : ℕ) (starts old new items : List ℕ) → start ≡ start_in slab dest → starts ≡ map (start_in slab) sources → old ≡ bytes → items ≡ new
@@ -177,19 +168,12 @@ module _ {bytes : List ℕ} {count size : ℕ} {order : Option (List ℕ)} {slab
         let d = meant_at slab.order dest in
         let x = symbol_in slab dest in
         let sum = added (symbol_in slab) x sources in
+        let x_long = length-range_at is d to in
         let meant = All-weaker (IsSource slab dest) (λ src. meant_at slab.order src < length slab.values) (λ src a. a.0) sources all in
-        let there = λ (xs : List ℕ) (k : ℕ) (ks : List ℕ). with_range old start (sum_of_ranges xs k ks size) in
-        let long : length sum ≡ size = length-summed (add_symbols octets) size (length-add_symbols octets size size) (symbol_in slab) x sources (length-range_at is d to)
+        let long : length sum ≡ size = length-summed (add_symbols octets) size (length-add_symbols octets size size) (symbol_in slab) x sources x_long
         (All-weaker (IsSource slab dest) (λ src. length (symbol_in slab src) ≡ size) (λ src a. length-range_at is (meant_at slab.order src) a.0) sources all) in
         let back : ◌≡◌ {A = Slab} (with_symbol slab dest x) slab = ap (λ (v : List (List ℕ)). record slab { values = v }) (set-get_or slab.values d []) in
         one_written is d start old new items sum to e long same kept (
-        is_new
-        ∙ ap (λ xs. there xs start starts) same
-        ∙ ap (λ k. there bytes k starts) e
-        ∙ ap (there bytes (start_in slab dest)) same_starts
-        ∙ ap (with_range old start) (
-        ap (λ z. with_ranges_added z bytes (map (start_in slab) sources) size) (range_at is d to)
-        ∙ ranges_are_symbols x sources meant
-        ∙ rows_are_symbols x sources (length-range_at is d to) meant))
+        rw (is_new, same, e, same_starts, range_at is d to, ranges_are_symbols x sources meant, rows_are_symbols x sources x_long meant) refl)
         ∙ ap (λ (s : Store (List ℕ)). record slab { values = s.values; order = s.order }) (sym (additions slab dest to x sources (All-weaker (IsSource slab dest) (λ src. meant_at slab.order src ≢ meant_at slab.order dest) (λ src a. a.1) sources all)))
         ∙ ap (after_all (map (λ src. AddAssign dest src) sources)) back

@@ -1,19 +1,19 @@
 -- The law of spreads: a row that is made and added to targets piece by piece is made and added whole.
 use Rattle.std.proofs.Common.{◌≡◌, ◌⊎◌, inl, inr, ⊎_elim, ℕ, zero, suc, ◌+◌, ◌-◌, ◌<◌, ◌≤◌, refl, sym, ap, ◌∙◌, arith}
-use Rattle.std.proofs.Common.{List, [], ◌∷◌, ◌++◌, length, take, drop, map, fold, get_or, All}
+use Rattle.std.proofs.Common.{List, [], ◌∷◌, ◌++◌, length, take, drop, map, get_or, All}
 use Rattle.std.proofs.lemmas.Bool.{cases_lt}
 use Rattle.std.proofs.lemmas.List.{ext_get_or, get_or-take, get_or-drop, get_or_past, take-append-drop, length-map, length-append, map-append, map_more}
 use Rattle.std.proofs.lemmas.List.Elements.{All-head, All-tail, All-map, All-weaker}
 use Rattle.std.proofs.lemmas.List.Sums.{fold-append}
 use Rattle.std.proofs.lemmas.Simd.{length-zip2, length-put_chunk, get_or-put_chunk_below, get_or-put_chunk_at, get_or-put_chunk_above, put_chunk_is}
 use Rattle.std.specs.Int.Bits.{bit_xor, xor_assoc, xor_zero_r}
-use lib.Lanes.{zip2, put_chunk}
+use lib.Lanes.{put_chunk}
 use Rattle.rq_standard.specs.OctetProducts.{xor_pairs}
 use Rattle.rq_standard.specs.Octets.{octet_mul}
 use Rattle.rq_standard.specs.Rows.{row_sum, row_multiple}
-use Rattle.rq_bytes.specs.Ranges.{range_of, with_range}
+use Rattle.rq_bytes.specs.Ranges.{range_of}
 use Rattle.rq_bytes.specs.RangeSums.{with_row_added, with_multiples_added, doubled_sum, with_doubled_sum, IsRangeBeside, BeginsNotInside}
-use Rattle.rq_bytes.proofs.RangeFacts.{length-range, range-join, length-with_range, range-written, put_is}
+use Rattle.rq_bytes.proofs.RangeFacts.{length-range, range-join, range-written, put_is}
 
 -- ---- what a place gets of a row that is added from place i on
 

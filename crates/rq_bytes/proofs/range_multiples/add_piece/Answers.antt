@@ -1,8 +1,5 @@
 -- What the check leaves to show of `range_multiples::add_piece`.
-use Rattle.std.proofs.Common.{sym, ap, ◌∙◌, arith}
-use lib.Lanes.{put_chunk}
-use Rattle.rq_standard.specs.Rows.{row_sum}
-use Rattle.rq_bytes.specs.Ranges.{range_of}
+use Rattle.std.proofs.Common.{sym, arith}
 use Rattle.rq_bytes.proofs.Spreads.{row_added-is}
 use Rattle.rq_bytes.proofs.range_multiples.add_piece.Goals as goal
 
