@@ -117,13 +117,9 @@ module _ {bytes : List ℕ} {count size : ℕ} {order : Option (List ℕ)} {slab
     -- no other symbol begins within one
     pub starts_outside : (src_start : ℕ) (starts : List ℕ) → src_start ≡ start_in slab src → starts ≡ map (start_in slab) targets → All (BeginsNotInside src_start size) starts
     starts_outside src_start starts f same =
-        let P = BeginsNotInside src_start size in
-        subst (All P) (sym same) (
-        All-map P (start_in slab) targets (
-        All-weaker (IsSource slab dest) (λ t. P (start_in slab t)) (λ t s.
-        let there = start_in slab t in
-        subst (λ k. BeginsNotInside k size there) (sym f) (
-        subst (λ n. BeginsNotInside (start_in slab src) n there) (sym (size_is is)) (start_outside (meant_at slab.order src) (meant_at slab.order t) slab.symbol_size))) targets others))
+        let P = BeginsNotInside (start_in slab src) size in
+        rw (same, f) (All-map P (start_in slab) targets (All-weaker (IsSource slab dest) (λ t. P (start_in slab t)) (λ t s.
+        rw (size_is is) (start_outside (meant_at slab.order src) (meant_at slab.order t) slab.symbol_size)) targets others))
 
     pub all_spread : All (λ x. x < 256) bytes → (start src_start : ℕ) (starts old new items : List ℕ) → start ≡ start_in slab dest → src_start ≡ start_in slab src
         → starts ≡ map (start_in slab) targets → old ≡ bytes → items ≡ new → new ≡ spread_upto old start src_start (map by_one starts) size

@@ -109,15 +109,13 @@ module _ {bytes : List ℕ} {count size : ℕ} {order : Option (List ℕ)} {slab
   pub targets_beside : (targets : List Target) (start : ℕ) (old : List ℕ) → start ≡ begin → map start_and_octet targets ≡ map (start_and_octet_in slab) multiples → old ≡ bytes
       → All (λ t. IsRangeBeside (length old) start size t.start) targets
   targets_beside targets start old e same_targets same =
-      let P = λ (p : ℕ × ℕ). IsRangeBeside (length old) start size p.0 in
-      all_unmap P start_and_octet targets (
-      subst (All P) (sym same_targets) (
-      All-map P (start_and_octet_in slab) multiples (
-      All-weaker (IsTarget slab src) (λ m. P (start_and_octet_in slab m)) (λ m t.
-      let there = (start_and_octet_in slab m).0 in
-      subst (λ xs. IsRangeBeside (length xs) start size there) (sym same) (
-      subst (λ k. IsRangeBeside (length bytes) k size there) (sym e)
-      (within is (meant_at slab.order m.dest) t.0, apart is (meant_at slab.order src) (meant_at slab.order m.dest) begin there (λ h. t.1 (sym h)) refl refl))) multiples all)))
+      let P = λ (p : ℕ × ℕ). IsRangeBeside (length bytes) begin size p.0 in
+      let there : (m : Multiple) → IsTarget slab src m → P (start_and_octet_in slab m) =
+      λ m t.
+      let d = meant_at slab.order m.dest in
+      (within is d t.0, apart is (meant_at slab.order src) d begin (d * slab.symbol_size) (λ h. t.1 (sym h)) refl refl) in
+      rw (same, e) (all_unmap P start_and_octet targets (rw same_targets (
+      All-map P (start_and_octet_in slab) multiples (All-weaker (IsTarget slab src) (λ m. P (start_and_octet_in slab m)) there multiples all))))
 
   -- what callers see once the multiples are added
   pub all_multiples : (pairs : List (ℕ × ℕ)) (start : ℕ) (old new items : List ℕ) → start ≡ begin → pairs ≡ map (start_and_octet_in slab) multiples → old ≡ bytes → items ≡ new

@@ -12,7 +12,6 @@ pub mod octet;
 pub mod octets;
 pub mod operation_vector;
 pub mod products;
-mod range_doublings;
 mod range_multiples;
 pub mod row_multiples;
 mod row_sums;

@@ -5,7 +5,7 @@ ghost use Rattle.rq_bytes.specs.SymbolSlab.{after_all, Allows};
 
 use super::SymbolSlab;
 use crate::octets::are_octets;
-use crate::range_doublings::double_add_and_spread;
+use crate::range_multiples::double_add_and_spread;
 use crate::row_multiples::double_and_add;
 
 impl SymbolSlab {

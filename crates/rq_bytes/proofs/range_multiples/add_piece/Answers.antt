@@ -7,4 +7,4 @@ pub returns : goal.returns
 returns g c =
     let bytes = c.args.bytes.now in
     let piece = c.args.piece in
-    rw (← c.requires.len) (sym (row_added-is bytes c.args.start piece (omega arith)))
+    rw (← c.fits-piece.0) (sym (row_added-is bytes c.args.start piece (omega arith)))

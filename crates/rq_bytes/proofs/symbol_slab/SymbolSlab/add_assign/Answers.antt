@@ -1,7 +1,6 @@
 -- What the check leaves to show of `symbol_slab::SymbolSlab::add_assign`.
 use Rattle.std.proofs.Common.{◌≡◌, List, ℕ, length, set, sym, ap, ◌∙◌}
 use Rattle.rq_algebra.specs.Operations.{step, meant_at}
-use Rattle.rq_standard.specs.Rows.{row_sum}
 use Rattle.rq_standard.proofs.RowSymbols.{add_symbols-rows}
 use Rattle.rq_bytes.specs.SymbolSlab.{symbol_in}
 use Rattle.rq_bytes.proofs.symbol_slab.SymbolSlab.add_assign.Goals as goal
@@ -16,7 +15,4 @@ returns c =
     let as_long : length y ≡ length x = ap length (sym pair.ensures.src) ∙ pair.ensures.src_len ∙ sym pair.ensures.dest_len ∙ ap length pair.ensures.dest in
     pair.ensures.whole_symbol c.add_assign.new.octets (c.add_assign.auto.octets ∙ pair.ensures.dest_len)
     ∙ ap (λ (xs : List ℕ). record slab { values = set slab.values (meant_at slab.order c.args.dest) xs }) (
-    c.add_assign.ensures
-    ∙ ap (λ xs. row_sum xs pair.result.1.now) pair.ensures.dest
-    ∙ ap (row_sum x) pair.ensures.src
-    ∙ sym (add_symbols-rows x y as_long))
+    rw (c.add_assign.ensures, pair.ensures.dest, pair.ensures.src) (sym (add_symbols-rows x y as_long)))

@@ -1,8 +1,7 @@
 -- What the check leaves to show of `symbol_slab::SymbolSlab::double_add_and_spread`.
-use Rattle.std.proofs.Common.{ℕ, List, get_or, map, refl, ap, ◌∙◌, arith}
+use Rattle.std.proofs.Common.{get_or, map, refl, arith}
 use Rattle.std.proofs.lemmas.List.{take_all}
 use Rattle.rq_algebra.specs.Operations.{AddAssign, MulAssign}
-use Rattle.rq_bytes.specs.SymbolSlab.{after_all}
 use Rattle.rq_bytes.proofs.SlabDoublings.{after_all-two, still_allowed}
 use Rattle.rq_bytes.proofs.SlabSums.{next_allowed, run_next, run_none}
 use Rattle.rq_bytes.proofs.symbol_slab.SymbolSlab.double_add_and_spread.Goals as goal
@@ -27,7 +26,5 @@ returns-after-loop-target c =
     let dest = c.args.dest in
     let targets = c.args.targets.now in
     let adds = map (λ t. AddAssign t dest) targets in
-    c.loop-target.invariant.so_far
-    ∙ ap (λ (ts : List ℕ). after_all (map (λ t. AddAssign t dest) ts) c.double_and_add.new.self) (take_all c.loop-target.target-index targets (omega arith))
-    ∙ ap (after_all adds) c.double_and_add.ensures
-    ∙ after_all-two (MulAssign dest 2) (AddAssign dest c.args.src) adds c.args.self.now
+    rw (c.loop-target.invariant.so_far, take_all c.loop-target.target-index targets (omega arith), c.double_and_add.ensures)
+    (after_all-two (MulAssign dest 2) (AddAssign dest c.args.src) adds c.args.self.now)

@@ -2,7 +2,6 @@
 use Rattle.std.proofs.Common.{◌≡◌, arith, length, map, sym, ap, ◌∙◌}
 use Rattle.std.proofs.lemmas.List.{length-map}
 use Rattle.rq_standard.specs.OctetField.{octets}
-use Rattle.rq_standard.specs.Rows.{row_sum, row_multiple}
 use Rattle.rq_standard.proofs.RowSymbols.{add_symbols-rows, scale-rows}
 use Rattle.rq_bytes.specs.SymbolSlab.{symbol_in}
 use Rattle.rq_bytes.proofs.SlabSums.{with_symbol, scaled_and_added}
@@ -19,9 +18,5 @@ returns c =
     ap length (sym pair.ensures.src) ∙ pair.ensures.src_len ∙ sym pair.ensures.dest_len ∙ ap length pair.ensures.dest ∙ sym (length-map x (octets.mul 2)) in
     pair.ensures.whole_symbol c.double_and_add.new.octets (c.double_and_add.auto.octets ∙ pair.ensures.dest_len)
     ∙ ap (with_symbol slab c.args.dest) (
-    c.double_and_add.ensures
-    ∙ ap (λ xs. row_sum (row_multiple 2 xs) pair.result.1.now) pair.ensures.dest
-    ∙ ap (row_sum (row_multiple 2 x)) pair.ensures.src
-    ∙ ap (λ xs. row_sum xs y) (sym (scale-rows 2 x (omega arith)))
-    ∙ sym (add_symbols-rows doubled y as_long))
+    rw (c.double_and_add.ensures, pair.ensures.dest, pair.ensures.src, ← scale-rows 2 x (omega arith)) (sym (add_symbols-rows doubled y as_long)))
     ∙ sym (scaled_and_added slab c.args.dest 2 c.args.src c.requires.2)

@@ -3,7 +3,6 @@ use Rattle.std.proofs.Common.{◌≡◌, List, ℕ, length, map, set, sym, ap, �
 use Rattle.std.proofs.lemmas.List.{length-map}
 use Rattle.rq_algebra.specs.Operations.{step, meant_at}
 use Rattle.rq_standard.specs.OctetField.{octets}
-use Rattle.rq_standard.specs.Rows.{row_sum, row_multiple}
 use Rattle.rq_standard.proofs.RowSymbols.{add_symbols-rows, scale-rows}
 use Rattle.rq_bytes.specs.SymbolSlab.{symbol_in}
 use Rattle.rq_bytes.proofs.symbol_slab.SymbolSlab.fma.Goals as goal
@@ -20,8 +19,5 @@ returns c =
     length-map y (octets.mul scalar) ∙ ap length (sym pair.ensures.src) ∙ pair.ensures.src_len ∙ sym pair.ensures.dest_len ∙ ap length pair.ensures.dest in
     pair.ensures.whole_symbol c.add_row_multiple.new.octets (c.add_row_multiple.auto.octets ∙ pair.ensures.dest_len)
     ∙ ap (λ (xs : List ℕ). record slab { values = set slab.values (meant_at slab.order c.args.dest) xs }) (
-    c.add_row_multiple.ensures.sum
-    ∙ ap (λ xs. row_sum xs (row_multiple scalar pair.result.1.now)) pair.ensures.dest
-    ∙ ap (λ ys. row_sum x (row_multiple scalar ys)) pair.ensures.src
-    ∙ ap (row_sum x) (sym (scale-rows scalar y c.add_row_multiple.ensures.octet))
-    ∙ sym (add_symbols-rows x (map (octets.mul scalar) y) as_long))
+    rw (c.add_row_multiple.ensures.sum, pair.ensures.dest, pair.ensures.src, ← scale-rows scalar y c.add_row_multiple.ensures.octet)
+    (sym (add_symbols-rows x (map (octets.mul scalar) y) as_long)))

@@ -43,9 +43,7 @@ returns-then-first-second c =
     ∙ c.swap_ranges.ensures
     ∙ ap (λ l. ranges_exchanged l (p.result * inside.symbol_size) (q.result * inside.symbol_size) inside.symbol_size) c.as_mut_slice-bytes.ensures.value
     in
-    exchanged is p.result q.result _ p.ensures.below q.ensures.below items
-    ∙ ap (λ n. record slab { values = swap slab.values n q.result }) p.ensures.is
-    ∙ ap (λ n. record slab { values = swap slab.values (meant_at slab.order c.args.i) n }) q.ensures.is
+    rw (← p.ensures.is, ← q.ensures.is) (exchanged is p.result q.result _ p.ensures.below q.ensures.below items)
 
 pub returns-else-first-second : goal.returns-else-first-second
 returns-else-first-second c =

@@ -1,11 +1,11 @@
--- What the check leaves to show of `range_doublings::add_piece_to_all`.
+-- What the check leaves to show of `range_multiples::add_piece_to_all`.
 use Rattle.std.proofs.Common.{◌<◌, w8, get_or, sym}
 use Rattle.std.proofs.lemmas.List.{get_or_default}
 use Rattle.std.proofs.lemmas.Simd.{Each1-get_or, below_from_Fits}
 use Rattle.rq_bytes.specs.RangeSums.{by_one}
 use Rattle.rq_bytes.proofs.Multiples.{times_one}
 use Rattle.rq_bytes.proofs.Spreads.{next_added}
-use Rattle.rq_bytes.proofs.range_doublings.add_piece_to_all.Goals as goal
+use Rattle.rq_bytes.proofs.range_multiples.add_piece_to_all.Goals as goal
 
 pub loop-target-preserved : goal.loop-target-preserved
 loop-target-preserved g c =
