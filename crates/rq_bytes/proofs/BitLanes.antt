@@ -1,24 +1,23 @@
 -- The bits of a word as lanes.
-use Rattle.std.proofs.Common.{zero, suc, ◌++◌, ◌≡◌, ℕ, ◌+◌, ◌-◌, ◌*◌, ◌/◌, ◌%◌, ◌^◌, ◌<◌, ◌≤◌, true, false, cond, eqb, List, length, get_or, map, replicate, refl, sym, ap, ◌∙◌, arith, ⊎_elim}
+use Rattle.std.proofs.Common.{[], ◌∷◌, ◌++◌, ◌≡◌, ℕ, ◌+◌, ◌-◌, ◌*◌, ◌/◌, ◌%◌, ◌^◌, ◌<◌, ◌≤◌, true, eqb, max, List, length, get_or, map, refl, sym, ap, ◌∙◌, arith, ⊎_elim}
 use Rattle.std.proofs.lemmas.Bool.{agree_below, agree_below_at, eqb-true, cases_eq, cases_lt, cond-true, cond-false, eq-eqb, ne_eqb}
-use Rattle.std.proofs.lemmas.List.{ext_get_or, get_or-map, get_or_append_left, length-map, length-replicate}
+use Rattle.std.proofs.lemmas.List.{ext_get_or, get_or-map, get_or_append_left}
 use Rattle.std.proofs.lemmas.List.FromFn.{length-map-range_with_len, get_or-map-range_with_len}
-use Rattle.std.proofs.lemmas.Nat.{pow-add, shr-shr, pow_pos}
-use Rattle.std.proofs.lemmas.Nat.Bits.{bit_at_cat_low, bit_at_cat_high, and_pow, bit_at-lt}
-use Rattle.std.proofs.lemmas.Simd.{get_or-chunk, length-zip2, get_or-zip2, length-sel_l, get_or-sel_l, get_or-replicate}
+use Rattle.std.proofs.lemmas.Nat.{shr-shr, pow_pos}
+use Rattle.std.proofs.lemmas.Nat.Bits.{bit_at_above, bit_at_cat_low, bit_at_cat_high, bit_at_or, bit_at-zero}
+use Rattle.std.proofs.lemmas.Simd.{get_or_narrower}
 use Rattle.std.specs.List.{range_with_len}
-use Rattle.std.specs.Int.{w128, bit_at, byte_at, bytes_low_first, to_le_bytes}
-use Rattle.std.specs.Int.Bits.{bit_xor}
-use lib.Bits.{bit_and}
-use lib.Lanes.{zip2, chunk, sel_l, pick_l}
+use Rattle.std.specs.Int.{bit_at}
+use Rattle.std.specs.Int.Bits.{bit_or, bit_xor}
+use lib.Lanes.{zip2, digits_l, number_l, pick_l}
 use Rattle.rq_standard.specs.Octets.{octet_mul}
+use Rattle.rq_standard.specs.OctetProducts.{if_set, mul-one, mul-zero}
 use Rattle.rq_standard.specs.Rows.{row_sum, row_multiple}
 use Rattle.rq_bytes.specs.BinaryOctetVec.{padding_of, packed_bit, packed_bits}
-use Rattle.rq_bytes.specs.OctetBits.{octet_bit}
-use Rattle.rq_bytes.proofs.PackedRows.{length-packed_bits}
-use Rattle.rq_bytes.proofs.ZipUpto.{zip2-map_right}
-use Rattle.rq_standard.specs.OctetProducts.{mul-one, mul-zero}
 use Rattle.rq_bytes.specs.declared.products.TheConstants.{MASKS, PLACES}
+use Rattle.rq_bytes.proofs.PackedRows.{length-packed_bits}
+use Rattle.rq_bytes.proofs.PlaneFacts.{where_set, length-where_set, where_set_at}
+use Rattle.rq_bytes.proofs.ZipUpto.{zip2-map_right}
 
 -- the packed row of n elements
 module _ (words row : List ℕ) (len padding n : ℕ) (view : packed_bits words len ≡ row) (long : length row ≡ n) (before : padding ≡ padding_of (length row)) where
@@ -35,25 +34,56 @@ module _ (words row : List ℕ) (len padding n : ℕ) (view : packed_bits words 
       ∙ ap (λ p. map (λ k. packed_bit words (p + k)) (range_with_len 0 len)) (sym padding_is)
       ∙ ap (λ l. map (λ k. packed_bit words (padding + k)) (range_with_len 0 l)) len_is
 
--- 32 bits of a word and the next one
-pub bits_joined : (words : List ℕ) (place i next : ℕ) → get_or words (place / 64) 0 < 2 ^ 64 → (32 < place % 64 → next ≡ get_or words (place / 64 + 1) 0) → i < 32
-    → bit_at (next * 2 ^ 64 + get_or words (place / 64) 0) (place % 64 + i) ≡ packed_bit words (place + i)
-bits_joined words place i next small is lt =
-    let word = get_or words (place / 64) 0 in
-    let bit = place % 64 + i in
-    ⊎_elim
-    (λ (low : bit < 64).
+-- what a word has at a bit when it is moved up
+moved_up : (word up i : ℕ) → i < 64 → bit_at (word * 2 ^ up % 2 ^ 64) i ≡ bit_at (word * 2 ^ up + 0) i
+moved_up word up i lt =
+    let n = word * 2 ^ up in
+    let whole : n / 2 ^ 64 * 2 ^ 64 + n % 2 ^ 64 ≡ n + 0 = omega arith in
+    sym (bit_at_cat_low (n / 2 ^ 64) 64 (n % 2 ^ 64) i lt) ∙ ap (λ x. bit_at x i) whole
+
+largest_zero : (x : ℕ) → max x 0 ≡ x
+largest_zero x = omega arith
+
+zero_largest : (x : ℕ) → max 0 x ≡ x
+zero_largest x = omega arith
+
+largest_same : (x : ℕ) → max x x ≡ x
+largest_same x = omega arith
+
+-- 32 bits from a place on, of the words where they begin and end
+pub bits_joined : (words : List ℕ) (place i : ℕ) → get_or words (place / 64) 0 < 2 ^ 64 → i < 32
+    → bit_at (bit_or (get_or words (place / 64) 0 / 2 ^ (place % 64)) (get_or words (place / 64 + (place % 64 + 31) / 64) 0 * 2 ^ ((64 - place % 64) % 64) % 2 ^ 64)) i
+    ≡ packed_bit words (place + i)
+bits_joined words place i small lt =
+    let shift = place % 64 in
+    let up = (64 - shift) % 64 in
+    let first = get_or words (place / 64) 0 in
+    let last = get_or words (place / 64 + (shift + 31) / 64) 0 in
+    let low : bit_at (first / 2 ^ shift) i ≡ bit_at first (shift + i) = ap (λ x. x % 2) (shr-shr first shift i) in
+    let high = moved_up last up i (omega arith) in
+    let is = packed_bit words (place + i) in
+    let here : shift + i < 64 → bit_at first (shift + i) ≡ is = λ fits.
     let same : place / 64 ≡ (place + i) / 64 = omega arith in
-    let there : bit ≡ (place + i) % 64 = omega arith in
-    bit_at_cat_low next 64 word bit low ∙ ap (λ k. bit_at (get_or words k 0) bit) same ∙ ap (bit_at (get_or words ((place + i) / 64) 0)) there)
-    (λ (high : 64 ≤ bit).
-    let same : place / 64 + 1 ≡ (place + i) / 64 = omega arith in
-    let there : bit - 64 ≡ (place + i) % 64 = omega arith in
-    bit_at_cat_high next 64 word bit small high
-    ∙ ap (λ n. bit_at n (bit - 64)) (is (omega arith))
-    ∙ ap (λ k. bit_at (get_or words k 0) (bit - 64)) same
-    ∙ ap (bit_at (get_or words ((place + i) / 64) 0)) there)
-    (cases_lt bit 64)
+    let there : shift + i ≡ (place + i) % 64 = omega arith in
+    ap (λ k. bit_at (get_or words k 0) (shift + i)) same ∙ ap (bit_at (get_or words ((place + i) / 64) 0)) there
+    in
+    let next : up ≤ i → bit_at (last * 2 ^ up + 0) i ≡ is = λ under.
+    let same : place / 64 + (shift + 31) / 64 ≡ (place + i) / 64 = omega arith in
+    let there : i - up ≡ (place + i) % 64 = omega arith in
+    bit_at_cat_high last up 0 i (pow_pos up) under ∙ ap (λ k. bit_at (get_or words k 0) (i - up)) same ∙ ap (bit_at (get_or words ((place + i) / 64) 0)) there
+    in
+    let either : max (bit_at first (shift + i)) (bit_at (last * 2 ^ up + 0) i) ≡ is =
+    ⊎_elim
+    (λ (over : i < up). ap (max (bit_at first (shift + i))) (bit_at_cat_low last up 0 i over ∙ bit_at-zero i) ∙ largest_zero _ ∙ here (omega arith))
+    (λ (under : up ≤ i).
+    ap (max (bit_at first (shift + i))) (next under)
+    ∙ ⊎_elim
+    (λ (fits : shift + i < 64). ap (λ x. max x is) (here fits) ∙ largest_same is)
+    (λ (past : 64 ≤ shift + i). ap (λ x. max x is) (bit_at_above first 64 (shift + i) small past) ∙ zero_largest is)
+    (cases_lt (shift + i) 64))
+    (cases_lt i up)
+    in
+    bit_at_or (first / 2 ^ shift) (last * 2 ^ up % 2 ^ 64) i ∙ ap (λ x. max x (bit_at (last * 2 ^ up % 2 ^ 64) i)) low ∙ ap (max (bit_at first (shift + i))) high ∙ either
 
 -- a multiple of bits, added
 pub bits_added : (scalar : ℕ) (bit : ℕ → ℕ) (xs : List ℕ) → zip2 (λ x k. bit_xor x (octet_mul scalar (bit k))) xs (range_with_len 0 (length xs)) ≡ row_sum xs (row_multiple scalar (map bit (range_with_len 0 (length xs))))
@@ -63,19 +93,14 @@ bits_added scalar bit xs =
 
 -- ---- lanes of bits
 
-bit_test : (scalar b p : ℕ) → scalar < 256 → b < 2 → 0 < p → cond (eqb (b * p) p) scalar 0 ≡ octet_mul scalar b
-bit_test scalar b p hs hb hp =
+if_set_is : (scalar x : ℕ) → scalar < 256 → if_set x scalar ≡ octet_mul scalar (x % 2)
+if_set_is scalar x small =
     ⊎_elim
-    (λ (is : b ≡ 0).
-    ap (λ x. cond (eqb (x * p) p) scalar 0) is
-    ∙ cond-false (eqb (0 * p) p) scalar 0 (ne_eqb (0 * p) p (λ e. omega arith))
-    ∙ sym (ap (octet_mul scalar) is ∙ mul-zero scalar))
-    (λ (ne : b ≡ 0 → ⊥).
-    let is : b ≡ 1 = omega arith in
-    ap (λ x. cond (eqb (x * p) p) scalar 0) is
-    ∙ cond-true (eqb (1 * p) p) scalar 0 (eq-eqb (1 * p) p (omega arith))
-    ∙ sym (ap (octet_mul scalar) is ∙ mul-one scalar hs))
-    (cases_eq b 0)
+    (λ (is : x % 2 ≡ 1). cond-true (eqb (x % 2) 1) scalar 0 (eq-eqb (x % 2) 1 is) ∙ sym (ap (octet_mul scalar) is ∙ mul-one scalar small))
+    (λ (ne : x % 2 ≡ 1 → ⊥).
+    let none : x % 2 ≡ 0 = omega arith in
+    cond-false (eqb (x % 2) 1) scalar 0 (ne_eqb (x % 2) 1 ne) ∙ sym (ap (octet_mul scalar) none ∙ mul-zero scalar))
+    (cases_eq (x % 2) 1)
 
 masks : agree_below (λ i. eqb (get_or MASKS i 0) (2 ^ (i % 8))) (λ _. true) 32 ≡ true
 masks = refl
@@ -83,92 +108,54 @@ masks = refl
 mask_at : (i : ℕ) → i < 32 → get_or MASKS i 0 ≡ 2 ^ (i % 8)
 mask_at i lt = eqb-true _ _ (agree_below_at (λ k. eqb (get_or MASKS k 0) (2 ^ (k % 8))) (λ _. true) 32 i masks lt)
 
--- an octet in each lane whose bit is set, the masks naming the bits, and 0 in the others
-masked : (n scalar : ℕ) (masks v : List ℕ) (bit : ℕ → ℕ) → scalar < 256 → length masks ≡ n → length v ≡ n
-    → ((i : ℕ) → i < n → get_or masks i 0 ≡ 2 ^ (i % 8))
-    → ((i : ℕ) → i < n → bit_at (get_or v i 0) (i % 8) ≡ bit i)
-    → sel_l (zip2 eqb (zip2 bit_and v masks) masks) (replicate n scalar) (replicate n 0)
-    ≡ map (λ i. octet_mul scalar (bit i)) (range_with_len 0 n)
-masked n scalar masks v bit small long_masks long masks_are bits_are =
-    let octets : List ℕ = replicate n scalar in
-    let zeros : List ℕ = replicate n 0 in
-    let long_octets : length octets ≡ n = length-replicate {A = ℕ} n scalar in
-    let long_zeros : length zeros ≡ n = length-replicate {A = ℕ} n 0 in
-    let met = zip2 bit_and v masks in
-    let long_met : length met ≡ n = length-zip2 bit_and v masks (long ∙ sym long_masks) ∙ long in
-    let tests = zip2 eqb met masks in
-    let long_tests : length tests ≡ n = length-zip2 eqb met masks (long_met ∙ sym long_masks) ∙ long_met in
-    let long_all : length (sel_l tests octets zeros) ≡ n = length-sel_l tests octets zeros (long_tests ∙ sym long_octets) (long_tests ∙ sym long_zeros) ∙ long_tests in
-    ext_get_or 0 (sel_l tests octets zeros) (map (λ i. octet_mul scalar (bit i)) (range_with_len 0 n))
-    (long_all ∙ sym (length-map-range_with_len (λ i. octet_mul scalar (bit i)) 0 n))
-    (λ i under.
-    let lt : i < n = omega (arith, under, long_all) in
-    let k = i % 8 in
-    let x = get_or v i 0 in
-    get_or-sel_l tests octets zeros i 0 (omega (arith, long_tests)) (omega (arith, long_octets)) (omega (arith, long_zeros))
-    ∙ ap (λ t. cond t (get_or octets i 0) (get_or zeros i 0)) (get_or-zip2 eqb met masks i 0 0 false (omega (arith, long_met)) (omega (arith, long_masks)))
-    ∙ ap (λ m. cond (eqb m (get_or masks i 0)) (get_or octets i 0) (get_or zeros i 0)) (get_or-zip2 bit_and v masks i 0 0 0 (omega (arith, long)) (omega (arith, long_masks)))
-    ∙ ap (λ p. cond (eqb (bit_and x p) p) (get_or octets i 0) (get_or zeros i 0)) (masks_are i lt)
-    ∙ ap (λ m. cond (eqb m (2 ^ k)) (get_or octets i 0) (get_or zeros i 0)) (and_pow x k)
-    ∙ ap (λ s. cond (eqb (bit_at x k * 2 ^ k) (2 ^ k)) s (get_or zeros i 0)) (get_or-replicate n i scalar 0 lt)
-    ∙ ap (cond (eqb (bit_at x k * 2 ^ k) (2 ^ k)) scalar) (get_or-replicate n i 0 0 lt)
-    ∙ bit_test scalar (bit_at x k) (2 ^ k) small (bit_at-lt x k) (pow_pos k)
-    ∙ ap (octet_mul scalar) (bits_are i lt)
-    ∙ sym (get_or-map-range_with_len (λ j. octet_mul scalar (bit j)) 0 n i i 0 lt (omega arith)))
+places : agree_below (λ i. eqb (get_or PLACES i 0) (i / 8)) (λ _. true) 32 ≡ true
+places = refl
 
--- ---- four octets, each at eight places
-
-octet_places : agree_below (λ i. eqb (get_or PLACES i 0) (i / 8)) (λ _. true) 32 ≡ true
-octet_places = refl
-
-repeated_at : (bits : List ℕ) (i : ℕ) → length bits ≡ 4 → i < 32 → get_or (pick_l 0 (bits ++ bits) PLACES) i 0 ≡ get_or bits (i / 8) 0
-repeated_at bits i long lt =
-    get_or-map (λ k. get_or (bits ++ bits) k 0) PLACES i 0 0 lt
-    ∙ ap (λ k. get_or (bits ++ bits) k 0) (eqb-true _ _ (agree_below_at (λ k. eqb (get_or PLACES k 0) (k / 8)) (λ _. true) 32 i octet_places lt))
-    ∙ get_or_append_left bits bits 0 (i / 8) (omega arith)
-
--- the products of an octet and the bits of four octets, lane by lane
-pub masked_bits : (scalar : ℕ) (bits : List ℕ) → scalar < 256 → length bits ≡ 4
-    → sel_l (zip2 eqb (zip2 bit_and (pick_l 0 (bits ++ bits) PLACES) MASKS) MASKS) (replicate 32 scalar) (replicate 32 0)
-    ≡ map (λ i. octet_mul scalar (octet_bit bits i)) (range_with_len 0 32)
-masked_bits scalar bits small long =
-    let v = pick_l 0 (bits ++ bits) PLACES in
-    masked 32 scalar MASKS v (octet_bit bits) small refl (length-map PLACES (λ k. get_or (bits ++ bits) k 0)) mask_at (λ i l. ap (λ x. bit_at x (i % 8)) (repeated_at bits i long l))
+place_at : (i : ℕ) → i < 32 → get_or PLACES i 0 ≡ i / 8
+place_at i lt = eqb-true _ _ (agree_below_at (λ k. eqb (get_or PLACES k 0) (k / 8)) (λ _. true) 32 i places lt)
 
 -- ---- the octets of a word
 
-byte_of : (first n i word : ℕ) → i < n → get_or (bytes_low_first first n word) i 0 ≡ byte_at (first + i) word
-byte_of first zero i word l = absurd (omega arith)
-byte_of first (suc n) zero word l = let same : first ≡ first + 0 = omega arith in ap (λ k. byte_at k word) same
-byte_of first (suc n) (suc i) word l = let same : suc first + i ≡ first + suc i = omega arith in byte_of (suc first) n i word (omega arith) ∙ ap (λ k. byte_at k word) same
+powers : agree_below (λ k. eqb (256 ^ k) (2 ^ (8 * k))) (λ _. true) 4 ≡ true
+powers = refl
 
--- a bit of the lowest octet
-lowest_bits : (n i : ℕ) → i < 8 → bit_at (n % 256) i ≡ bit_at n i
-lowest_bits n i l = let whole : n / 256 * 2 ^ 8 + n % 256 ≡ n = omega arith in sym (bit_at_cat_low (n / 256) 8 (n % 256) i l) ∙ ap (λ x. bit_at x i) whole
+-- the bits of an octet
+octet_bits : (word k i : ℕ) → k < 4 → i < 8 → bit_at (word / 256 ^ k % 256) i ≡ bit_at word (8 * k + i)
+octet_bits word k i few lt =
+    let n = word / 256 ^ k in
+    let whole : n / 256 * 2 ^ 8 + n % 256 ≡ n = omega arith in
+    sym (bit_at_cat_low (n / 256) 8 (n % 256) i lt)
+    ∙ ap (λ x. bit_at x i) whole
+    ∙ ap (λ d. bit_at (word / d) i) (eqb-true _ _ (agree_below_at (λ k. eqb (256 ^ k) (2 ^ (8 * k))) (λ _. true) 4 k powers few))
+    ∙ ap (λ x. x % 2) (shr-shr word (8 * k) i)
 
-power_of_256 : (n : ℕ) → 256 ^ n ≡ 2 ^ (8 * n)
-power_of_256 zero = refl
-power_of_256 (suc n) =
-    let one_more : suc n ≡ n + 1 = omega arith in
-    let eight_more : 8 * n + 8 ≡ 8 * suc n = omega arith in
-    ap (λ k. 256 ^ k) one_more
-    ∙ pow-add 256 n 1
-    ∙ ap (λ x. x * 256) (power_of_256 n)
-    ∙ sym (pow-add 2 (8 * n) 8)
-    ∙ ap (λ k. 2 ^ k) eight_more
+module _ (scalar word : ℕ) (small : scalar < 256) (fits : word < 2 ^ 64) where
+  abbrev octets : List ℕ
+  octets = digits_l 256 8 (number_l (2 ^ 64) (word ∷ []))
 
-byte_bits : (octet word i : ℕ) → i < 8 → bit_at (byte_at octet word) i ≡ bit_at word (8 * octet + i)
-byte_bits zero word i l = let same : i ≡ 8 * 0 + i = omega arith in lowest_bits word i l ∙ ap (bit_at word) same
-byte_bits (suc octet) word i l =
-    lowest_bits (word / 256 ^ suc octet) i l
-    ∙ ap (λ d. bit_at (word / d) i) (power_of_256 (suc octet))
-    ∙ ap (λ x. x % 2) (shr-shr word (8 * suc octet) i)
+  -- each of the lowest four, in eight lanes
+  abbrev repeated : List ℕ
+  repeated = pick_l 0 (octets ++ octets) PLACES
 
--- the bits of its first octets
-pub octets_bits : (word k : ℕ) → k < 32 → octet_bit (chunk 0 4 (to_le_bytes w128 word)) k ≡ bit_at word k
-octets_bits word k l =
-    let bytes = to_le_bytes w128 word in
-    let there : 8 * (0 + (0 + k / 8)) + k % 8 ≡ k = omega arith in
-    ap (λ x. bit_at x (k % 8)) (get_or-chunk 0 4 bytes (k / 8) 0 (omega arith) ∙ byte_of 0 16 (0 + k / 8) word (omega arith))
-    ∙ byte_bits (0 + (0 + k / 8)) word (k % 8) (omega arith)
-    ∙ ap (bit_at word) there
+  repeated_at : (i : ℕ) → i < 32 → get_or repeated i 0 ≡ word / 256 ^ (i / 8) % 256
+  repeated_at i lt =
+      let part : i / 8 ≡ 8 * 0 + i / 8 = omega arith in
+      get_or-map (λ k. get_or (octets ++ octets) k 0) PLACES i 0 0 lt
+      ∙ ap (λ k. get_or (octets ++ octets) k 0) (place_at i lt)
+      ∙ get_or_append_left octets octets 0 (i / 8) (omega arith)
+      ∙ ap (λ k. get_or octets k 0) part
+      ∙ get_or_narrower (2 ^ 64) 8 256 8 (word ∷ []) 0 (i / 8) refl (fits, tt) (omega arith) (omega arith)
+
+  -- the products of an octet and the lowest bits
+  pub masked_bits : where_set 32 scalar MASKS repeated ≡ map (λ i. octet_mul scalar (bit_at word i)) (range_with_len 0 32)
+  masked_bits =
+      let product : ℕ → ℕ = λ i. octet_mul scalar (bit_at word i) in
+      let long : length (where_set 32 scalar MASKS repeated) ≡ 32 = length-where_set 32 scalar MASKS repeated refl refl in
+      ext_get_or 0 (where_set 32 scalar MASKS repeated) (map product (range_with_len 0 32)) (long ∙ sym (length-map-range_with_len product 0 32)) (λ i under.
+      let lt : i < 32 = omega (arith, under, long) in
+      let whole : 8 * (i / 8) + i % 8 ≡ i = omega arith in
+      where_set_at 32 scalar MASKS repeated refl refl i (i % 8) lt (mask_at i lt)
+      ∙ if_set_is scalar (get_or repeated i 0 / 2 ^ (i % 8)) small
+      ∙ ap (λ x. octet_mul scalar (bit_at x (i % 8))) (repeated_at i lt)
+      ∙ ap (octet_mul scalar) (octet_bits word (i / 8) (i % 8) (omega arith) (omega arith) ∙ ap (bit_at word) whole)
+      ∙ sym (get_or-map-range_with_len product 0 32 i i 0 lt (omega arith)))

@@ -1,5 +1,5 @@
 -- Lanes that have a bit set.
-use Rattle.std.proofs.Common.{◌≡◌, ℕ, ◌-◌, ◌*◌, ◌/◌, ◌%◌, ◌^◌, ◌<◌, ◌≤◌, Bool, false, cond, eqb, List, length, get_or, map, replicate, sym, ap, ◌∙◌, arith, ⊎_elim}
+use Rattle.std.proofs.Common.{◌≡◌, ℕ, ◌-◌, ◌*◌, ◌/◌, ◌%◌, ◌^◌, ◌<◌, ◌≤◌, false, cond, eqb, List, length, get_or, map, replicate, sym, ap, ◌∙◌, arith, ⊎_elim}
 use Rattle.std.proofs.lemmas.Bool.{cases_eq, eq-eqb, ne_eqb}
 use Rattle.std.proofs.lemmas.List.{ext_get_or, get_or-map, length-map}
 use Rattle.std.proofs.lemmas.Nat.{pow_pos}
@@ -25,40 +25,36 @@ eqb_scaled b p hb hp =
 bit_tests : (x k : ℕ) → eqb (bit_and x (2 ^ k)) (2 ^ k) ≡ eqb (x / 2 ^ k % 2) 1
 bit_tests x k = ap (λ y. eqb y (2 ^ k)) (and_pow x k) ∙ eqb_scaled (x / 2 ^ k % 2) (2 ^ k) (bit_at-lt x k) (pow_pos k)
 
-abbrev pub tests_of : ℕ → ℕ → List ℕ → List Bool
-tests_of n bit v = zip2 eqb (zip2 bit_and v (replicate n bit)) (replicate n bit)
+-- an octet in each lane that has the bit set that its mask has, and 0 in the others
+abbrev pub where_set : ℕ → ℕ → List ℕ → List ℕ → List ℕ
+where_set n term masks v = sel_l (zip2 eqb (zip2 bit_and v masks) masks) (replicate n term) (replicate n 0)
 
-length-met : (n bit : ℕ) (v : List ℕ) → length v ≡ n → length (zip2 bit_and v (replicate n bit)) ≡ n
-length-met n bit v long = length-zip2 bit_and v (replicate n bit) (long ∙ sym (length-replicate n bit)) ∙ long
+module _ (n term : ℕ) (masks v : List ℕ) (long_masks : length masks ≡ n) (long : length v ≡ n) where
+  length-met : length (zip2 bit_and v masks) ≡ n
+  length-met = length-zip2 bit_and v masks (long ∙ sym long_masks) ∙ long
 
-length-tests : (n bit : ℕ) (v : List ℕ) → length v ≡ n → length (tests_of n bit v) ≡ n
-length-tests n bit v long =
-    length-zip2 eqb (zip2 bit_and v (replicate n bit)) (replicate n bit) (length-met n bit v long ∙ sym (length-replicate n bit)) ∙ length-met n bit v long
+  length-tests : length (zip2 eqb (zip2 bit_and v masks) masks) ≡ n
+  length-tests = length-zip2 eqb (zip2 bit_and v masks) masks (length-met ∙ sym long_masks) ∙ length-met
 
-pub length-plane : (n bit term : ℕ) (v : List ℕ) → length v ≡ n → length (sel_l (tests_of n bit v) (replicate n term) (replicate n 0)) ≡ n
-length-plane n bit term v long =
-    let l = length-tests n bit v long in
-    length-sel_l (tests_of n bit v) (replicate n term) (replicate n 0) (l ∙ sym (length-replicate n term)) (l ∙ sym (zeros n)) ∙ l
-  where
-    zeros : (m : ℕ) → length (replicate {A = ℕ} m 0) ≡ m
-    zeros m = length-replicate {A = ℕ} m 0
+  zeros : length (replicate {A = ℕ} n 0) ≡ n
+  zeros = length-replicate {A = ℕ} n 0
 
-pub get_or-plane : (n k bit term : ℕ) (v : List ℕ) → bit ≡ 2 ^ k → length v ≡ n → (i : ℕ) → i < n
-    → get_or (sel_l (tests_of n bit v) (replicate n term) (replicate n 0)) i 0 ≡ if_set (get_or v i 0 / 2 ^ k) term
-get_or-plane n k bit term v is long i lt =
-    let l = length-tests n bit v long in
-    let m = length-met n bit v long in
-    let ts = length-replicate n term in
-    let bs = length-replicate n bit in
-    let zs = length-replicate {A = ℕ} n 0 in
-    get_or-sel_l (tests_of n bit v) (replicate n term) (replicate n 0) i 0 (omega arith) (omega arith) (omega arith)
-    ∙ ap (λ t. cond t (get_or (replicate n term) i 0) (get_or (replicate n 0) i 0))
-    (get_or-zip2 eqb (zip2 bit_and v (replicate n bit)) (replicate n bit) i 0 0 false (omega arith) (omega arith)
-    ∙ ap (λ x. eqb x (get_or (replicate n bit) i 0)) (get_or-zip2 bit_and v (replicate n bit) i 0 0 0 (omega arith) (omega arith))
-    ∙ ap (λ b. eqb (bit_and (get_or v i 0) b) b) (get_or-replicate n i bit 0 lt ∙ is)
-    ∙ bit_tests (get_or v i 0) k)
-    ∙ ap (λ s. cond (eqb (get_or v i 0 / 2 ^ k % 2) 1) s (get_or (replicate n 0) i 0)) (get_or-replicate n i term 0 lt)
-    ∙ ap (cond (eqb (get_or v i 0 / 2 ^ k % 2) 1) term) (get_or-replicate n i 0 0 lt)
+  pub length-where_set : length (where_set n term masks v) ≡ n
+  length-where_set =
+      length-sel_l (zip2 eqb (zip2 bit_and v masks) masks) (replicate n term) (replicate n 0) (length-tests ∙ sym (length-replicate n term)) (length-tests ∙ sym zeros)
+      ∙ length-tests
+
+  pub where_set_at : (i k : ℕ) → i < n → get_or masks i 0 ≡ 2 ^ k → get_or (where_set n term masks v) i 0 ≡ if_set (get_or v i 0 / 2 ^ k) term
+  where_set_at i k lt is =
+      let terms = length-replicate n term in
+      get_or-sel_l (zip2 eqb (zip2 bit_and v masks) masks) (replicate n term) (replicate n 0) i 0 (omega (arith, length-tests)) (omega (arith, terms)) (omega (arith, zeros))
+      ∙ ap (λ t. cond t (get_or (replicate n term) i 0) (get_or (replicate n 0) i 0))
+      (get_or-zip2 eqb (zip2 bit_and v masks) masks i 0 0 false (omega (arith, length-met)) (omega arith)
+      ∙ ap (λ x. eqb x (get_or masks i 0)) (get_or-zip2 bit_and v masks i 0 0 0 (omega arith) (omega arith))
+      ∙ ap (λ b. eqb (bit_and (get_or v i 0) b) b) is
+      ∙ bit_tests (get_or v i 0) k)
+      ∙ ap (λ s. cond (eqb (get_or v i 0 / 2 ^ k % 2) 1) s (get_or (replicate n 0) i 0)) (get_or-replicate n i term 0 lt)
+      ∙ ap (cond (eqb (get_or v i 0 / 2 ^ k % 2) 1) term) (get_or-replicate n i 0 0 lt)
 
 pub all_planes : (k term s : ℕ) (sum lanes : List ℕ) → 8 ≤ k → length sum ≡ 32 → length lanes ≡ 32
     → ((i : ℕ) → i < 32 → bit_xor (get_or sum i 0) (octet_times (8 - k) term (get_or lanes i 0 / 2 ^ k)) ≡ octet_mul s (get_or lanes i 0))

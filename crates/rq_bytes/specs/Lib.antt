@@ -2,7 +2,6 @@ pub mod BinaryOctetVec
 pub mod Error
 pub mod HalfProducts
 pub mod LaneMultiples
-pub mod OctetBits
 pub mod ProductTables
 pub mod RangeSums
 pub mod Ranges

@@ -4,7 +4,6 @@ ghost use Rattle.std.specs.Int.{bit_at};
 ghost use Rattle.std.specs.List.{range_with_len};
 ghost use Rattle.rq_standard.specs.Octets.{octet_double, octet_mul};
 ghost use Rattle.rq_bytes.specs.BinaryOctetVec.{packed_bit};
-ghost use Rattle.rq_bytes.specs.OctetBits.{octet_bit};
 
 use std::simd::prelude::*;
 
@@ -93,28 +92,26 @@ pub(crate) fn bit_product(scalar: u8, word: u64, bit: usize) -> u8
     if (word >> bit) % 2 == 1 { scalar } else { 0 }
 }
 
-/// The products of an octet and each bit of four octets.
+/// The products of an octet and each of the 32 lowest bits of a word.
 #[inline(always)]
-pub(crate) fn bit_products(scalar: u8, bits: u8x4) -> u8x32
-    requires { length bits ≡ 4 }
-    ensures { result ≡ map (λ i. octet_mul scalar (octet_bit bits i)) (range_with_len 0 32) }
+pub(crate) fn bit_products(scalar: u8, word: u64) -> u8x32
+    ensures { result ≡ map (λ i. octet_mul scalar (bit_at word i)) (range_with_len 0 32) }
 {
     let masks = u8x32::from_array(MASKS);
-    (bits.swizzle(PLACES) & masks)
+    let octets = u64x1::splat(word).to_le_bytes();
+    (octets.swizzle(PLACES) & masks)
         .simd_eq(masks)
         .select(u8x32::splat(scalar), u8x32::splat(0))
 }
 
-/// The 32 bits from a place on, in four octets.
+/// A word whose 32 lowest bits are those from a place on.
 #[inline(always)]
-pub(crate) fn bits_from(words: &[u64], place: usize) -> u8x4
+pub(crate) fn bits_from(words: &[u64], place: usize) -> u64
     requires { place + 32 ≤ 64 * length words.now }
-    ensures len { length result ≡ 4 }
-    ensures bits { (i : ℕ) → i < 32 → octet_bit result i ≡ packed_bit words.now (place + i) }
+    ensures { (i : ℕ) → i < 32 → bit_at result i ≡ packed_bit words.now (place + i) }
 {
     let (word, shift) = (place / 64, place % 64);
-    let next = if shift > 32 { words[word + 1] } else { 0 };
-    let both = u128::from(next) * 0x1_0000_0000_0000_0000 + u128::from(words[word]);
-    let octets = (both >> shift).to_le_bytes();
-    u8x4::from_slice(&octets[..])
+    // Where they end in the same word, none of its bits gets below bit 32 a second time.
+    let last = words[word + (shift + 31) / 64];
+    (words[word] >> shift) | (last << ((64 - shift) % 64))
 }
