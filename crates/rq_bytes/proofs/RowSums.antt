@@ -1,7 +1,7 @@
 -- Sums of several rows, vector by vector.
 use Rattle.std.proofs.Common.{◌≡◌, ℕ, ◌+◌, ◌<◌, ◌≤◌, List, [], ◌∷◌, ◌++◌, length, get_or, set, take, drop, map, fold, All, refl, sym, ap, ◌∙◌, subst, arith}
 use Rattle.std.proofs.Math.Seq.{drop-append-add}
-use Rattle.std.proofs.lemmas.List.{drop-append-le, map-append, map_more, take_all, take_more_set, take_all, get_or-map, length-map, map-id, take-append-le, length-drop}
+use Rattle.std.proofs.lemmas.List.{drop-append-le, map-append, map_more, take_all, take_more_set, get_or-map, length-map, map-id, take-append-le, length-drop}
 use Rattle.std.proofs.lemmas.List.Elements.{All-head, All-tail, All-map}
 use Rattle.std.proofs.lemmas.List.Folds.{fold-map}
 use Rattle.std.proofs.lemmas.List.FromFn.{length-range_with_len}

@@ -2,6 +2,7 @@ pub mod BinaryOctetVec
 pub mod Error
 pub mod HalfProducts
 pub mod LaneMultiples
+pub mod Lanes
 pub mod ProductTables
 pub mod RangeSums
 pub mod Ranges

@@ -12,13 +12,13 @@ use std::simd::prelude::*;
 /// A way to multiply by an octet: by x, as most multiplications of a plan do, with nothing looked up,
 /// by look-ups of halves, or by one bit of the lanes after another.
 #[derive(Clone, Copy)]
-pub(crate) enum Multiple {
+pub(crate) enum Multiplier {
     Double,
     LookUp(HalfProducts),
     Planes(u8),
 }
 
-impl LaneOperation for Multiple {
+impl LaneOperation for Multiplier {
     ghost made = { λ s x i. octet_mul (octet_of s) x };
 
     ghost places = { λ s. 2 ^ 64 };
@@ -26,18 +26,18 @@ impl LaneOperation for Multiple {
     #[inline(always)]
     fn lanes(&self, octets: u8x32, _place: usize) -> u8x32 {
         match self {
-            Multiple::Double => doubled_lanes(octets),
-            Multiple::LookUp(factor) => factor.products(&Halves::new(octets)),
-            Multiple::Planes(scalar) => plane_products(*scalar, octets),
+            Multiplier::Double => doubled_lanes(octets),
+            Multiplier::LookUp(factor) => factor.products(&Halves::new(octets)),
+            Multiplier::Planes(scalar) => plane_products(*scalar, octets),
         }
     }
 
     #[inline(always)]
     fn octet(&self, octet: u8, _place: usize) -> u8 {
         match self {
-            Multiple::Double => product(2, octet),
-            Multiple::LookUp(factor) => product(factor.octet, octet),
-            Multiple::Planes(scalar) => product(*scalar, octet),
+            Multiplier::Double => product(2, octet),
+            Multiplier::LookUp(factor) => product(factor.octet, octet),
+            Multiplier::Planes(scalar) => product(*scalar, octet),
         }
     }
 }
@@ -46,11 +46,11 @@ impl LaneOperation for Multiple {
 #[derive(Clone, Copy)]
 pub(crate) struct AddMultiple<'a> {
     pub(crate) other: &'a [u8],
-    pub(crate) multiple: Multiple,
+    pub(crate) multiplier: Multiplier,
 }
 
 impl<'a> LaneOperation for AddMultiple<'a> {
-    ghost made = { λ s x i. bit_xor x (octet_mul (octet_of s.multiple) (get_or s.other.now i 0)) };
+    ghost made = { λ s x i. bit_xor x (octet_mul (octet_of s.multiplier) (get_or s.other.now i 0)) };
 
     ghost places = { λ s. length s.other.now };
 
@@ -58,13 +58,13 @@ impl<'a> LaneOperation for AddMultiple<'a> {
     fn lanes(&self, octets: u8x32, place: usize) -> u8x32 {
         let other = self.other;
         let multiple = self
-            .multiple
+            .multiplier
             .lanes(u8x32::from_slice(&other[place..]), place);
         octets ^ multiple
     }
 
     #[inline(always)]
     fn octet(&self, octet: u8, place: usize) -> u8 {
-        octet ^ self.multiple.octet(self.other[place], place)
+        octet ^ self.multiplier.octet(self.other[place], place)
     }
 }

@@ -1,7 +1,8 @@
 //! Operations on each octet of a row, whole vectors of them at once.
-ghost use Rattle.std.specs.Prelude.{◌≡◌, ℕ, ◌+◌, ◌<◌, ◌≤◌, length};
+ghost use Rattle.std.specs.Prelude.{◌≡◌, ℕ, ◌+◌, ◌*◌, ◌/◌, ◌<◌, ◌≤◌, length};
 ghost use Rattle.std.specs.List.{range_with_len};
-ghost use Rattle.std.specs.Simd.Lanes.{zip2, chunk, put_chunk};
+ghost use Rattle.std.specs.Simd.Lanes.{zip2};
+ghost use Rattle.rq_bytes.specs.Lanes.{made_from};
 
 use crate::products::LANES;
 use std::simd::prelude::*;
@@ -34,8 +35,27 @@ pub(crate) fn change_row<O: LaneOperation>(octets: &mut [u8], operation: &O)
     requires { length octets.old ≤ O.places operation.now }
     ensures { octets.new ≡ zip2 (O.made operation.now) octets.old (range_with_len 0 (length octets.old)) }
 {
-    let pairs = octets.len() / (2 * LANES);
-    for pair in 0..pairs {
+    change_pairs(octets, operation);
+    // What is left is counted by rests of divisions, so that the compiler knows that it is little.
+    let blocks = octets.len() / LANES;
+    if blocks % 2 == 1 {
+        let at = LANES * (blocks - 1);
+        let made = operation.lanes(u8x32::from_slice(&octets[at..]), at);
+        made.copy_to_slice(&mut octets[at..]);
+    }
+    for k in 0..octets.len() % LANES {
+        let i = LANES * blocks + k;
+        octets[i] = operation.octet(octets[i], i);
+    }
+}
+
+// Does an operation to the whole pairs of vectors of a row.
+#[inline(always)]
+fn change_pairs<O: LaneOperation>(octets: &mut [u8], operation: &O)
+    requires { length octets.old ≤ O.places operation.now }
+    ensures { octets.new ≡ made_from (O.made operation.now) 0 (64 * (length octets.old / 64)) octets.old }
+{
+    for pair in 0..octets.len() / (2 * LANES) {
         // Both are made before the first is written, so that all reads go ahead of the writes.
         let at = 2 * LANES * pair;
         let second = at + LANES;
@@ -44,24 +64,4 @@ pub(crate) fn change_row<O: LaneOperation>(octets: &mut [u8], operation: &O)
         made.copy_to_slice(&mut octets[at..]);
         made_second.copy_to_slice(&mut octets[second..]);
     }
-    // These are counted by rests of divisions, so that the compiler knows that they are few.
-    for block in 0..octets.len() / LANES % 2 {
-        change_vector(octets, operation, 2 * LANES * pairs + LANES * block);
-    }
-    let whole = octets.len() / LANES * LANES;
-    for k in 0..octets.len() % LANES {
-        let i = whole + k;
-        octets[i] = operation.octet(octets[i], i);
-    }
-}
-
-// Does an operation to the vector of octets from a place on.
-#[inline(always)]
-fn change_vector<O: LaneOperation>(octets: &mut [u8], operation: &O, at: usize)
-    requires within { at + 32 ≤ length octets.old }
-    requires known { length octets.old ≤ O.places operation.now }
-    ensures { octets.new ≡ put_chunk at octets.old (zip2 (O.made operation.now) (chunk at 32 octets.old) (range_with_len at (length (chunk at 32 octets.old)))) }
-{
-    let made = operation.lanes(u8x32::from_slice(&octets[at..]), at);
-    made.copy_to_slice(&mut octets[at..]);
 }

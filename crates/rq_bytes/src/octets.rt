@@ -5,7 +5,7 @@ ghost use Rattle.rq_bytes.specs.BinaryOctetVec.{octets_of_bits, padding_of, pack
 ghost use Rattle.rq_standard.specs.Octets.{octet_mul};
 ghost use Rattle.rq_standard.specs.Rows.{row_sum, row_multiple};
 
-use crate::lane_multiples::{AddMultiple, Multiple};
+use crate::lane_multiples::{AddMultiple, Multiplier};
 use crate::lanes::{LaneOperation, change_row};
 use crate::octet::Octet;
 use crate::products::{LANES, bit_product, bit_products, bits_from};
@@ -111,7 +111,7 @@ pub fn mulassign_scalar(octets: &mut [u8], scalar: &Octet)
     ensures octet { scalar.now < 256 }
     ensures multiple { octets.new ≡ row_multiple scalar.now octets.old }
 {
-    change_row(octets, &Multiple::Planes(scalar.byte()));
+    change_row(octets, &Multiplier::Planes(scalar.byte()));
 }
 
 /// Adds a multiple of a row to a row of the same length.
@@ -122,8 +122,8 @@ pub fn fused_addassign_mul_scalar(octets: &mut [u8], other: &[u8], scalar: &Octe
     ensures octet { scalar.now < 256 }
     ensures sum { octets.new ≡ row_sum octets.old (row_multiple scalar.now other.now) }
 {
-    let multiple = Multiple::Planes(scalar.byte());
-    change_row(octets, &AddMultiple { other, multiple });
+    let multiplier = Multiplier::Planes(scalar.byte());
+    change_row(octets, &AddMultiple { other, multiplier });
 }
 
 /// Adds a multiple of a packed row to a row of the same length.
@@ -162,6 +162,7 @@ struct BitMultiples<'a> {
 impl<'a> LaneOperation for BitMultiples<'a> {
     ghost made = { λ s x i. bit_xor x (octet_mul s.scalar (packed_bit s.bits.now (s.from + i))) };
 
+    // A row has fewer octets than 2 ^ 63, so its places and where the bits begin fit a `usize` together.
     ghost places = { λ s. min (64 * length s.bits.now - s.from) (2 ^ 63) };
 
     #[inline(always)]

@@ -5,7 +5,7 @@ ghost use Rattle.rq_standard.specs.Octets.{octet_mul};
 ghost use Rattle.rq_standard.specs.Rows.{row_sum, row_multiple};
 
 use crate::half_products::HalfProducts;
-use crate::lane_multiples::{AddMultiple, Multiple};
+use crate::lane_multiples::{AddMultiple, Multiplier};
 use crate::lanes::{LaneOperation, change_row};
 use crate::octet::Octet;
 use crate::octets::add_assign;
@@ -18,10 +18,10 @@ pub fn multiply_row(octets: &mut [u8], scalar: &Octet)
     ensures multiple { octets.new ≡ row_multiple scalar.now octets.old }
 {
     if scalar.byte() == 2 {
-        change_row(octets, &Multiple::Double);
+        change_row(octets, &Multiplier::Double);
     } else {
         let products = HalfProducts::new(scalar.byte());
-        change_row(octets, &Multiple::LookUp(products));
+        change_row(octets, &Multiplier::LookUp(products));
     }
 }
 
@@ -35,8 +35,8 @@ pub fn add_row_multiple(octets: &mut [u8], other: &[u8], scalar: &Octet)
     if scalar.byte() == 1 {
         add_assign(octets, other);
     } else {
-        let multiple = Multiple::LookUp(HalfProducts::new(scalar.byte()));
-        change_row(octets, &AddMultiple { other, multiple });
+        let multiplier = Multiplier::LookUp(HalfProducts::new(scalar.byte()));
+        change_row(octets, &AddMultiple { other, multiplier });
     }
 }
 

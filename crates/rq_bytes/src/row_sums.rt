@@ -1,8 +1,8 @@
 //! Sums of several rows, in one pass over them.
-ghost use Rattle.std.specs.Prelude.{◌≡◌, ℕ, ◌+◌, ◌≤◌, List, ◌++◌, length, get_or, take, map, fold, All};
+ghost use Rattle.std.specs.Prelude.{◌≡◌, ◌+◌, ◌≤◌, ◌++◌, length, get_or, fold, All};
 ghost use Rattle.std.specs.Int.Bits.{bit_xor};
 ghost use Rattle.rq_standard.specs.Rows.{row_sum};
-ghost use Rattle.rq_bytes.specs.Ranges.{range_of, with_range};
+ghost use Rattle.rq_bytes.specs.Ranges.{with_range};
 ghost use Rattle.rq_bytes.specs.RangeSums.{sum_of_ranges, with_ranges_added, IsRangeBeside};
 
 use crate::lanes::{LaneOperation, change_row};

@@ -1,20 +1,29 @@
 -- What the check leaves to show of `lanes::change_row`.
-use Rattle.std.proofs.Common.{◌+◌, ◌*◌, ◌/◌, length, refl, ◌∙◌, arith}
+use Rattle.std.proofs.Common.{◌≡◌, ◌+◌, ◌-◌, ◌*◌, ◌/◌, length, refl, ap, ◌∙◌, arith}
 use Rattle.std.proofs.lemmas.Simd.{length-chunk}
-use Rattle.rq_bytes.proofs.LaneFacts.{one_made, lanes_made, two_made, all_made}
+use Rattle.rq_bytes.proofs.LaneFacts.{made_upto, one_made, lanes_made, all_made}
 use Rattle.rq_bytes.proofs.lanes.change_row.Goals as goal
+use Rattle.rq_bytes.proofs.lanes.change_row.Goals.{then-blocks-eq1, else-blocks-eq1}
 
 pub lanes-made-requires-clause-long : goal.lanes-made-requires-clause-long
-lanes-made-requires-clause-long g c = length-chunk (64 * c.loop-pair.pair) 32 c.loop-pair.octets (omega (arith, c.loop-pair.auto.octets))
+lanes-made-requires-clause-long g c = length-chunk (32 * (length c.change_pairs.new.octets / 32 - 1)) 32 c.change_pairs.new.octets (omega arith)
 
-pub lanes-made_second-requires-clause-long : goal.lanes-made_second-requires-clause-long
-lanes-made_second-requires-clause-long g c = length-chunk (64 * c.loop-pair.pair + 32) 32 c.loop-pair.octets (omega (arith, c.loop-pair.auto.octets))
-
-pub loop-pair-preserved : goal.loop-pair-preserved
-loop-pair-preserved g c = two_made (g.O.LaneOperation.made c.args.operation.now) c.loop-pair.octets c.args.octets.now _ 32 _ (64 * (c.loop-pair.pair + 1)) _ _ c.loop-pair.invariant c.lanes-made.ensures refl c.lanes-made_second.ensures (omega arith) (omega arith)
-
-pub loop-block-preserved : goal.loop-block-preserved
-loop-block-preserved g c = c.change_vector.ensures ∙ lanes_made (g.O.LaneOperation.made c.args.operation.now) c.loop-block.octets c.args.octets.now _ c.loop-block.invariant 32 (64 * (length c.args.octets.now / 64) + 32 * (c.loop-block.block + 1)) _ refl (omega arith) (omega arith)
+pub loop-k-init : goal.loop-k-init
+loop-k-init g c =
+    let f = g.O.LaneOperation.made c.args.operation.now in
+    let xs = c.args.octets.now in
+    let now = c.change_pairs.new.octets in
+    let n = 64 * (length xs / 64) in
+    let whole = 32 * (length now / 32) in
+    let pairs : now ≡ made_upto f n xs = c.change_pairs.ensures ∙ lanes_made f xs xs 0 refl n n _ refl (omega arith) (omega arith) in
+    elim c.if-blocks-eq1.branch [
+      | then-blocks-eq1 w ↦
+          let last : n ≡ 32 * (length now / 32 - 1) = omega arith in
+          w.octets-is ∙ lanes_made f now xs (32 * (length now / 32 - 1)) (pairs ∙ ap (λ k. made_upto f k xs) last) 32 (whole + 0) _ w.lanes-made.ensures (omega arith) (omega arith)
+      | else-blocks-eq1 w ↦
+          let all : n ≡ whole + 0 = omega arith in
+          w.octets-is ∙ pairs ∙ ap (λ k. made_upto f k xs) all
+    ]
 
 pub loop-k-preserved : goal.loop-k-preserved
 loop-k-preserved g c = one_made (g.O.LaneOperation.made c.args.operation.now) c.loop-k.octets c.args.octets.now _ c.loop-k.invariant _ _ c.octet.ensures (omega arith) (omega arith)

@@ -15,7 +15,7 @@ lanes-multiple-requires-clause-long c = length-chunk c.args.place 32 c.args.self
 pub returns : goal.returns
 returns c =
     let other = c.args.self.now.other.now in
-    let times = octet_mul (octet_of c.args.self.now.multiple) in
+    let times = octet_mul (octet_of c.args.self.now.multiplier) in
     let read = chunk c.args.place 32 other in
     ap (zip2 bit_xor c.args.octets) (c.lanes-multiple.ensures ∙ alone times read c.args.place)
     ∙ zip2-map_right bit_xor times c.args.octets read
