@@ -1,22 +1,25 @@
--- The bits of a word as lanes.
-use Rattle.std.proofs.Common.{[], ◌∷◌, ◌++◌, ◌≡◌, ℕ, ◌+◌, ◌-◌, ◌*◌, ◌/◌, ◌%◌, ◌^◌, ◌<◌, ◌≤◌, true, eqb, max, List, length, get_or, map, refl, sym, ap, ◌∙◌, arith, ⊎_elim}
-use Rattle.std.proofs.lemmas.Bool.{agree_below, agree_below_at, eqb-true, cases_eq, cases_lt, cond-true, cond-false, eq-eqb, ne_eqb}
-use Rattle.std.proofs.lemmas.List.{ext_get_or, get_or-map, get_or_append_left}
+-- The bits of lanes, and those of words as lanes.
+use Rattle.std.proofs.Common.{[], ◌∷◌, ◌++◌, ◌≡◌, ℕ, ◌+◌, ◌-◌, ◌*◌, ◌/◌, ◌%◌, ◌^◌, ◌<◌, ◌≤◌, Bool, false, cond, eqb, max, List}
+use Rattle.std.proofs.Common.{length, get_or, map, replicate, refl, sym, ap, ◌∙◌, arith, ⊎_elim}
+use Rattle.std.proofs.lemmas.Bool.{cases_eq, cases_lt, cond-true, cond-false, eq-eqb, ne_eqb}
+use Rattle.std.proofs.lemmas.List.{ext_get_or, get_or-map, get_or_append_left, length-map}
 use Rattle.std.proofs.lemmas.List.FromFn.{length-map-range_with_len, get_or-map-range_with_len}
 use Rattle.std.proofs.lemmas.Nat.{shr-shr, pow_pos}
-use Rattle.std.proofs.lemmas.Nat.Bits.{bit_at_above, bit_at_cat_low, bit_at_cat_high, bit_at_or, bit_at-zero}
-use Rattle.std.proofs.lemmas.Simd.{get_or_narrower}
+use Rattle.std.proofs.lemmas.Nat.Bits.{and_pow, bit_at-lt, bit_at_above, bit_at_cat_low, bit_at_cat_high, bit_at_or, bit_at-zero}
+use Rattle.std.proofs.lemmas.Simd.{length-zip2, get_or-zip2, length-sel_l, get_or-sel_l, get_or-replicate, length-replicate, get_or_narrower}
 use Rattle.std.specs.List.{range_with_len}
 use Rattle.std.specs.Int.{bit_at}
 use Rattle.std.specs.Int.Bits.{bit_or, bit_xor}
-use lib.Lanes.{zip2, digits_l, number_l, pick_l}
-use Rattle.rq_standard.specs.Octets.{octet_mul}
+use lib.Bits.{bit_and}
+use lib.Lanes.{zip2, sel_l, digits_l, number_l, pick_l}
+use Rattle.rq_standard.specs.Octets.{octet_mul, octet_times}
 use Rattle.rq_standard.specs.OctetProducts.{if_set, mul-one, mul-zero}
 use Rattle.rq_standard.specs.Rows.{row_sum, row_multiple}
 use Rattle.rq_bytes.specs.BinaryOctetVec.{padding_of, packed_bit, packed_bits}
 use Rattle.rq_bytes.specs.declared.products.TheConstants.{MASKS, PLACES}
 use Rattle.rq_bytes.proofs.PackedRows.{length-packed_bits}
-use Rattle.rq_bytes.proofs.PlaneFacts.{where_set, length-where_set, where_set_at}
+use Rattle.rq_bytes.proofs.ProductSteps.{end}
+use Rattle.rq_bytes.proofs.SameBelow.{same_below}
 use Rattle.rq_bytes.proofs.ZipUpto.{zip2-map_right}
 
 -- the packed row of n elements
@@ -41,18 +44,10 @@ moved_up word up i lt =
     let whole : n / 2 ^ 64 * 2 ^ 64 + n % 2 ^ 64 ≡ n + 0 = omega arith in
     sym (bit_at_cat_low (n / 2 ^ 64) 64 (n % 2 ^ 64) i lt) ∙ ap (λ x. bit_at x i) whole
 
-largest_zero : (x : ℕ) → max x 0 ≡ x
-largest_zero x = omega arith
-
-zero_largest : (x : ℕ) → max 0 x ≡ x
-zero_largest x = omega arith
-
-largest_same : (x : ℕ) → max x x ≡ x
-largest_same x = omega arith
-
 -- 32 bits from a place on, of the words where they begin and end
 pub bits_joined : (words : List ℕ) (place i : ℕ) → get_or words (place / 64) 0 < 2 ^ 64 → i < 32
-    → bit_at (bit_or (get_or words (place / 64) 0 / 2 ^ (place % 64)) (get_or words (place / 64 + (place % 64 + 31) / 64) 0 * 2 ^ ((64 - place % 64) % 64) % 2 ^ 64)) i
+    → bit_at (bit_or (get_or words (place / 64) 0 / 2 ^ (place % 64))
+    (get_or words (place / 64 + (place % 64 + 31) / 64) 0 * 2 ^ ((64 - place % 64) % 64) % 2 ^ 64)) i
     ≡ packed_bit words (place + i)
 bits_joined words place i small lt =
     let shift = place % 64 in
@@ -74,22 +69,81 @@ bits_joined words place i small lt =
     in
     let either : max (bit_at first (shift + i)) (bit_at (last * 2 ^ up + 0) i) ≡ is =
     ⊎_elim
-    (λ (over : i < up). ap (max (bit_at first (shift + i))) (bit_at_cat_low last up 0 i over ∙ bit_at-zero i) ∙ largest_zero _ ∙ here (omega arith))
+    (λ (over : i < up). let none = bit_at_cat_low last up 0 i over ∙ bit_at-zero i in omega (arith, none, here (omega arith)))
     (λ (under : up ≤ i).
-    ap (max (bit_at first (shift + i))) (next under)
-    ∙ ⊎_elim
-    (λ (fits : shift + i < 64). ap (λ x. max x is) (here fits) ∙ largest_same is)
-    (λ (past : 64 ≤ shift + i). ap (λ x. max x is) (bit_at_above first 64 (shift + i) small past) ∙ zero_largest is)
+    ⊎_elim
+    (λ (fits : shift + i < 64). omega (arith, next under, here fits))
+    (λ (past : 64 ≤ shift + i). omega (arith, next under, bit_at_above first 64 (shift + i) small past))
     (cases_lt (shift + i) 64))
     (cases_lt i up)
     in
-    bit_at_or (first / 2 ^ shift) (last * 2 ^ up % 2 ^ 64) i ∙ ap (λ x. max x (bit_at (last * 2 ^ up % 2 ^ 64) i)) low ∙ ap (max (bit_at first (shift + i))) high ∙ either
+    bit_at_or (first / 2 ^ shift) (last * 2 ^ up % 2 ^ 64) i
+    ∙ ap (λ x. max x (bit_at (last * 2 ^ up % 2 ^ 64) i)) low
+    ∙ ap (max (bit_at first (shift + i))) high
+    ∙ either
 
 -- a multiple of bits, added
 pub bits_added : (scalar : ℕ) (bit : ℕ → ℕ) (xs : List ℕ) → zip2 (λ x k. bit_xor x (octet_mul scalar (bit k))) xs (range_with_len 0 (length xs)) ≡ row_sum xs (row_multiple scalar (map bit (range_with_len 0 (length xs))))
 bits_added scalar bit xs =
     let places = range_with_len 0 (length xs) in
     sym (zip2-map_right bit_xor (octet_mul scalar) xs (map bit places) ∙ zip2-map_right (λ x y. bit_xor x (octet_mul scalar y)) bit xs places)
+
+-- ---- lanes that have a bit set
+
+-- the two tests of a bit are one
+eqb_scaled : (b p : ℕ) → b < 2 → 0 < p → eqb (b * p) p ≡ eqb b 1
+eqb_scaled b p hb hp =
+    ⊎_elim
+    (λ (is : b ≡ 0). ap (λ x. eqb (x * p) p) is ∙ ne_eqb (0 * p) p (λ e. omega arith) ∙ sym (ap (λ x. eqb x 1) is))
+    (λ (ne : b ≡ 0 → ⊥).
+    let is : b ≡ 1 = omega arith in
+    ap (λ x. eqb (x * p) p) is ∙ eq-eqb (1 * p) p (omega arith) ∙ sym (ap (λ x. eqb x 1) is))
+    (cases_eq b 0)
+
+bit_tests : (x k : ℕ) → eqb (bit_and x (2 ^ k)) (2 ^ k) ≡ eqb (x / 2 ^ k % 2) 1
+bit_tests x k = ap (λ y. eqb y (2 ^ k)) (and_pow x k) ∙ eqb_scaled (x / 2 ^ k % 2) (2 ^ k) (bit_at-lt x k) (pow_pos k)
+
+-- an octet in each lane that has the bit set that its mask has, and 0 in the others
+abbrev pub where_set : ℕ → ℕ → List ℕ → List ℕ → List ℕ
+where_set n term masks v = sel_l (zip2 eqb (zip2 bit_and v masks) masks) (replicate n term) (replicate n 0)
+
+module _ (n term : ℕ) (masks v : List ℕ) (long_masks : length masks ≡ n) (long : length v ≡ n) where
+  abbrev tests : List Bool
+  tests = zip2 eqb (zip2 bit_and v masks) masks
+
+  length-met : length (zip2 bit_and v masks) ≡ n
+  length-met = length-zip2 bit_and v masks (long ∙ sym long_masks) ∙ long
+
+  length-tests : length tests ≡ n
+  length-tests = length-zip2 eqb (zip2 bit_and v masks) masks (length-met ∙ sym long_masks) ∙ length-met
+
+  zeros : length (replicate {A = ℕ} n 0) ≡ n
+  zeros = length-replicate {A = ℕ} n 0
+
+  pub length-where_set : length (where_set n term masks v) ≡ n
+  length-where_set =
+      length-sel_l tests (replicate n term) (replicate n 0) (length-tests ∙ sym (length-replicate n term)) (length-tests ∙ sym zeros) ∙ length-tests
+
+  pub where_set_at : (i k : ℕ) → i < n → get_or masks i 0 ≡ 2 ^ k → get_or (where_set n term masks v) i 0 ≡ if_set (get_or v i 0 / 2 ^ k) term
+  where_set_at i k lt is =
+      let terms = length-replicate n term in
+      get_or-sel_l tests (replicate n term) (replicate n 0) i 0 (omega (arith, length-tests)) (omega (arith, terms)) (omega (arith, zeros))
+      ∙ ap (λ t. cond t (get_or (replicate n term) i 0) (get_or (replicate n 0) i 0))
+      (get_or-zip2 eqb (zip2 bit_and v masks) masks i 0 0 false (omega (arith, length-met)) (omega arith)
+      ∙ ap (λ x. eqb x (get_or masks i 0)) (get_or-zip2 bit_and v masks i 0 0 0 (omega arith) (omega arith))
+      ∙ ap (λ b. eqb (bit_and (get_or v i 0) b) b) is
+      ∙ bit_tests (get_or v i 0) k)
+      ∙ ap (λ s. cond (eqb (get_or v i 0 / 2 ^ k % 2) 1) s (get_or (replicate n 0) i 0)) (get_or-replicate n i term 0 lt)
+      ∙ ap (cond (eqb (get_or v i 0 / 2 ^ k % 2) 1) term) (get_or-replicate n i 0 0 lt)
+
+pub all_planes : (k term s : ℕ) (sum lanes : List ℕ) → 8 ≤ k → length sum ≡ 32 → length lanes ≡ 32
+    → ((i : ℕ) → i < 32 → bit_xor (get_or sum i 0) (octet_times (8 - k) term (get_or lanes i 0 / 2 ^ k)) ≡ octet_mul s (get_or lanes i 0))
+    → sum ≡ map (λ x. octet_mul s x) lanes
+all_planes k term s sum lanes le long_sum long each =
+    ext_get_or 0 sum (map (λ x. octet_mul s x) lanes) (long_sum ∙ sym (length-map lanes (λ x. octet_mul s x) ∙ long))
+    (λ i under.
+    end k (get_or sum i 0) term (get_or lanes i 0 / 2 ^ k) (octet_mul s (get_or lanes i 0)) le (each i (omega arith))
+    ∙ sym (get_or-map (λ x. octet_mul s x) lanes i 0 0 (omega arith)))
 
 -- ---- lanes of bits
 
@@ -102,22 +156,13 @@ if_set_is scalar x small =
     cond-false (eqb (x % 2) 1) scalar 0 (ne_eqb (x % 2) 1 ne) ∙ sym (ap (octet_mul scalar) none ∙ mul-zero scalar))
     (cases_eq (x % 2) 1)
 
-masks : agree_below (λ i. eqb (get_or MASKS i 0) (2 ^ (i % 8))) (λ _. true) 32 ≡ true
-masks = refl
-
 mask_at : (i : ℕ) → i < 32 → get_or MASKS i 0 ≡ 2 ^ (i % 8)
-mask_at i lt = eqb-true _ _ (agree_below_at (λ k. eqb (get_or MASKS k 0) (2 ^ (k % 8))) (λ _. true) 32 i masks lt)
-
-places : agree_below (λ i. eqb (get_or PLACES i 0) (i / 8)) (λ _. true) 32 ≡ true
-places = refl
+mask_at = same_below (λ k. get_or MASKS k 0) (λ k. 2 ^ (k % 8)) 32 refl
 
 place_at : (i : ℕ) → i < 32 → get_or PLACES i 0 ≡ i / 8
-place_at i lt = eqb-true _ _ (agree_below_at (λ k. eqb (get_or PLACES k 0) (k / 8)) (λ _. true) 32 i places lt)
+place_at = same_below (λ k. get_or PLACES k 0) (λ k. k / 8) 32 refl
 
 -- ---- the octets of a word
-
-powers : agree_below (λ k. eqb (256 ^ k) (2 ^ (8 * k))) (λ _. true) 4 ≡ true
-powers = refl
 
 -- the bits of an octet
 octet_bits : (word k i : ℕ) → k < 4 → i < 8 → bit_at (word / 256 ^ k % 256) i ≡ bit_at word (8 * k + i)
@@ -126,7 +171,7 @@ octet_bits word k i few lt =
     let whole : n / 256 * 2 ^ 8 + n % 256 ≡ n = omega arith in
     sym (bit_at_cat_low (n / 256) 8 (n % 256) i lt)
     ∙ ap (λ x. bit_at x i) whole
-    ∙ ap (λ d. bit_at (word / d) i) (eqb-true _ _ (agree_below_at (λ k. eqb (256 ^ k) (2 ^ (8 * k))) (λ _. true) 4 k powers few))
+    ∙ ap (λ d. bit_at (word / d) i) (same_below (λ k. 256 ^ k) (λ k. 2 ^ (8 * k)) 4 refl k few)
     ∙ ap (λ x. x % 2) (shr-shr word (8 * k) i)
 
 module _ (scalar word : ℕ) (small : scalar < 256) (fits : word < 2 ^ 64) where

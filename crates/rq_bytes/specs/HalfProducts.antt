@@ -1,5 +1,5 @@
 -- Products of an octet and the halves of a byte.
-use Rattle.std.specs.Prelude.{◌≡◌, ℕ, ◌+◌, ◌*◌, ◌/◌, ◌%◌, ◌^◌, ◌<◌, List, All, length, slice_index}
+use Rattle.std.specs.Prelude.{◌≡◌, ℕ, ◌+◌, ◌*◌, ◌/◌, ◌%◌, ◌^◌, ◌<◌, List, length, slice_index}
 use Rattle.std.specs.Simd.Lanes.{zip2}
 use Rattle.rq_standard.specs.Octets.{octet_mul}
 
@@ -19,8 +19,8 @@ pub record AreHalfProducts (scalar : ℕ) (low high : List ℕ) : Type 0 where
 pub record AreHalves (lower upper : List ℕ) : Type 0 where
   pub lower_count : length lower ≡ 32
   pub upper_count : length upper ≡ 32
-  pub lower_small : All (λ x. x < 16) lower
-  pub upper_small : All (λ x. x < 16) upper
+  pub lower_small : (i : ℕ) → i < 32 → slice_index lower i < 16
+  pub upper_small : (i : ℕ) → i < 32 → slice_index upper i < 16
 
 -- the bytes that have these halves
 abbrev pub whole_bytes : List ℕ → List ℕ → List ℕ

@@ -1,6 +1,6 @@
 -- What the check leaves to show of `half_products::half_products`.
 use Rattle.std.proofs.Common.{List, ℕ, length, get_or, ap, ◌∙◌}
-use Rattle.rq_bytes.proofs.HalfTables.{sums, sums_long, as_read}
+use Rattle.rq_bytes.proofs.HalfLookUps.{sums, sums_long, as_read}
 use Rattle.rq_bytes.proofs.half_products.half_products.Goals as goal
 
 pub returns-clause-long : goal.returns-clause-long

@@ -19,7 +19,8 @@ loop-k-init g c =
     elim c.if-blocks-eq1.branch [
       | then-blocks-eq1 w ↦
           let last : n ≡ 32 * (length now / 32 - 1) = omega arith in
-          w.octets-is ∙ lanes_made f now xs (32 * (length now / 32 - 1)) (pairs ∙ ap (λ k. made_upto f k xs) last) 32 (whole + 0) _ w.lanes-made.ensures (omega arith) (omega arith)
+          let so_far = pairs ∙ ap (λ k. made_upto f k xs) last in
+          w.octets-is ∙ lanes_made f now xs (32 * (length now / 32 - 1)) so_far 32 (whole + 0) _ w.lanes-made.ensures (omega arith) (omega arith)
       | else-blocks-eq1 w ↦
           let all : n ≡ whole + 0 = omega arith in
           w.octets-is ∙ pairs ∙ ap (λ k. made_upto f k xs) all

@@ -1,22 +1,19 @@
 -- What the check leaves to show of `products::doubled_lanes`.
-use Rattle.std.proofs.Common.{◌≡◌, ℕ, ◌+◌, ◌%◌, ◌/◌, ◌^◌, ◌<◌, true, w8, cond, eqb, get_or, length, map, refl, sym, ap, ◌∙◌, arith}
-use Rattle.std.proofs.lemmas.Bool.{agree_below, agree_below_at, eqb-true}
+use Rattle.std.proofs.Common.{◌≡◌, ℕ, ◌+◌, ◌%◌, ◌/◌, ◌^◌, ◌<◌, w8, cond, eqb, get_or, length, map, refl, sym, ap, ◌∙◌, arith}
 use Rattle.std.proofs.lemmas.List.{ext_get_or, get_or-map, length-map}
 use Rattle.std.proofs.lemmas.Simd.{length-zip2, get_or-zip2, Each1-get_or, below_from_Fits}
 use Rattle.std.specs.Int.Bits.{bit_xor}
 use lib.Lanes.{zip2}
 use Rattle.rq_standard.specs.Octets.{octet_mul, octet_times, octet_double}
+use Rattle.rq_bytes.proofs.SameBelow.{same_below}
 use Rattle.rq_bytes.proofs.products.doubled_lanes.Goals as goal
 
 abbrev doubled_as : ℕ → ℕ
 doubled_as x = bit_xor ((x + x) % 256) (cond (eqb (x / 2 ^ 7 % 2) 1) 29 0)
 
-all_doubled : agree_below (λ x. eqb (doubled_as x) (octet_mul 2 x)) (λ _. true) 256 ≡ true
-unfolding octet_mul octet_times octet_double
-all_doubled = refl
-
 doubled_is : (x : ℕ) → x < 256 → doubled_as x ≡ octet_mul 2 x
-doubled_is x lt = eqb-true _ _ (agree_below_at (λ y. eqb (doubled_as y) (octet_mul 2 y)) (λ _. true) 256 x all_doubled lt)
+unfolding octet_mul octet_times octet_double
+doubled_is = same_below doubled_as (octet_mul 2) 256 refl
 
 pub returns : goal.returns
 returns c =

@@ -4,7 +4,7 @@ use Rattle.std.proofs.lemmas.Nat.{one_shl}
 use Rattle.std.proofs.lemmas.Simd.{get_or-replicate, tops_compared}
 use lib.Bits.{bit_and}
 use lib.Lanes.{zip2, sel_l}
-use Rattle.rq_bytes.proofs.PlaneFacts.{length-where_set, where_set_at}
+use Rattle.rq_bytes.proofs.BitLanes.{length-where_set, where_set_at}
 use Rattle.rq_bytes.proofs.products.plane.Goals as goal
 
 pub returns-clause-len : goal.returns-clause-len

@@ -4,7 +4,7 @@ use Rattle.std.proofs.lemmas.Simd.{length-zip2, get_or-zip2, get_or-replicate}
 use Rattle.std.specs.Int.Bits.{bit_xor}
 use Rattle.rq_standard.specs.Octets.{octet_times, octet_mul}
 use Rattle.rq_bytes.proofs.ProductSteps.{start, add_bit}
-use Rattle.rq_bytes.proofs.PlaneFacts.{all_planes}
+use Rattle.rq_bytes.proofs.BitLanes.{all_planes}
 use Rattle.rq_bytes.proofs.products.plane_products.Goals as goal
 
 pub loop-k-init : goal.loop-k-init

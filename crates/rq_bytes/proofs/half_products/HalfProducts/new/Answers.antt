@@ -1,5 +1,5 @@
 -- What the check leaves to show of `half_products::HalfProducts::new`.
-use Rattle.rq_bytes.proofs.HalfTables.{half_products}
+use Rattle.rq_bytes.proofs.HalfLookUps.{half_products}
 use Rattle.rq_bytes.proofs.half_products.HalfProducts.new.Goals as goal
 
 pub invariant_of-result : goal.invariant_of-result

@@ -17,6 +17,7 @@ returns c =
     let read = c.bits_from in
     let multiple : ℕ → ℕ = λ k. octet_mul self.scalar (packed_bit self.bits.now (self.from + k)) in
     ap (zip2 bit_xor c.args.octets) (c.bit_products.ensures ∙ ranges_alike (λ i. octet_mul self.scalar (bit_at read.result i)) multiple place 32 (λ i lt.
-    ap (octet_mul self.scalar) (read.ensures i lt ∙ ap (packed_bit self.bits.now) (let e : self.from + place + i ≡ self.from + (place + i) = omega arith in e))))
+    let e : self.from + place + i ≡ self.from + (place + i) = omega arith in
+    ap (octet_mul self.scalar) (read.ensures i lt ∙ ap (packed_bit self.bits.now) e)))
     ∙ zip2-map_right bit_xor multiple c.args.octets (range_with_len place 32)
     ∙ ap (λ n. zip2 (λ x k. bit_xor x (multiple k)) c.args.octets (range_with_len place n)) (sym c.requires.long)
