@@ -12,25 +12,16 @@ pub record Sets (height width : ℕ) (old new : OctetTable) (i j value : ℕ) : 
   pub other_column : (i' k : ℕ) → k ≢ j → entry_of new i' k ≡ entry_of old i' k
 
 module _ {height width : ℕ} {old : OctetTable} (shape : HasShape height width old) (i j value : ℕ) (row : i < height) (column : j < width) where
-  written : OctetTable
+  abbrev written : OctetTable
   written = with_row old i (set (row_at old i) j value)
 
-  in_rows : i < length old.rows
-  in_rows = omega (arith, shape.tall)
-
-  in_row : j < length (row_at old i)
-  in_row = omega (arith, shape.full i row)
-
   row_here : row_at written i ≡ set (row_at old i) j value
-  unfolding written
-  row_here = get_or-set_same old.rows i (set (row_at old i) j value) [] in_rows
+  row_here = get_or-set_same old.rows i (set (row_at old i) j value) [] (omega (arith, shape.tall))
 
   row_there : (i' : ℕ) → i' ≢ i → row_at written i' ≡ row_at old i'
-  unfolding written
   row_there i' d = get_or-set_other old.rows i i' (set (row_at old i) j value) [] d
 
   written_shape : HasShape height width written
-  unfolding written
   written_shape = record {
     tall = length-set old.rows i (set (row_at old i) j value) ∙ shape.tall;
     wide = shape.wide;
@@ -49,11 +40,10 @@ module _ {height width : ℕ} {old : OctetTable} (shape : HasShape height width 
       ]
 
   pub sets : (new : OctetTable) → new ≡ with_row old i (set (row_at old i) j value) → Sets height width old new i j value
-  unfolding written
   sets new e =
       subst (λ (t : OctetTable). Sets height width old t i j value) (sym e) (record {
         shape = written_shape;
-        here = ap (λ r. get_or r j 0) row_here ∙ get_or-set_same (row_at old i) j value 0 in_row;
+        here = ap (λ r. get_or r j 0) row_here ∙ get_or-set_same (row_at old i) j value 0 (omega (arith, shape.full i row));
         other_row = λ i' k d. ap (λ r. get_or r k 0) (row_there i' d);
         other_column = written_column;
       })

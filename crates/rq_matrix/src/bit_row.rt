@@ -1,5 +1,5 @@
 //! A row of packed bits in words of its own, and parts of rows.
-ghost use Rattle.std.specs.Prelude.{◌≡◌, ◌≢◌, ℕ, ◌+◌, ◌-◌, ◌*◌, ◌^◌, ◌<◌, ◌≤◌, length, replicate, slice_index, IfOk};
+ghost use Rattle.std.specs.Prelude.{◌≡◌, ◌≢◌, ℕ, ◌*◌, ◌^◌, ◌<◌, ◌≤◌, length, replicate, slice_index, IfOk};
 ghost use Rattle.std.specs.Int.Bits.{bit_xor};
 ghost use Rattle.rq_standard.specs.BitTableSteps.{bit_of, AreBitsOf};
 ghost use Rattle.rq_bytes.specs.BinaryOctetVec.{packed_bit};

@@ -62,15 +62,13 @@ module _ (start end : OctetTable) (rows : List ℕ) (keeps : KeepsZeros start en
     below : free < start.width
     below = omega (arith, lacks.below, keeps.width)
 
-    before : List ℕ
+    abbrev before : List ℕ
     before = map (λ row. entry_of end row free) (take free rows)
 
     long : length before ≡ free
-    unfolding before
     long = length-map (take free rows) (λ row. entry_of end row free) ∙ length-take-le free rows fits
 
     at_before : (q : ℕ) → q < free → at column q ≡ entry_of end (at rows q) free
-    unfolding before
     at_before q l =
         ap (λ (xs : List ℕ). at xs q) is
         ∙ get_or_append_left before (1 ∷ replicate (start.width - free - 1) 0) 0 q (omega (arith, long))
@@ -78,20 +76,17 @@ module _ (start end : OctetTable) (rows : List ℕ) (keeps : KeepsZeros start en
         ∙ ap (λ (r : ℕ). entry_of end r free) (get_or-take free rows q 0 l)
 
     at_free : at column free ≡ 1
-    unfolding before
     at_free =
         let none : free - free ≡ 0 = omega arith in
         ap (λ (xs : List ℕ). at xs free) is ∙ get_or-append_right before (1 ∷ replicate (start.width - free - 1) 0) free free 0 long (omega arith) ∙ ap (at (1 ∷ replicate (start.width - free - 1) 0)) none
 
     at_behind : (k : ℕ) → free < k → k < start.width → at column k ≡ 0
-    unfolding before
     at_behind k l m =
         let next : k - free ≡ suc (k - free - 1) = omega arith in
         ap (λ (xs : List ℕ). at xs k) is ∙ get_or-append_right before (1 ∷ replicate (start.width - free - 1) 0) free k 0 long (omega arith)
         ∙ ap (at (1 ∷ replicate (start.width - free - 1) 0)) next ∙ get_or-replicate (start.width - free - 1) (k - free - 1) 0 0 (omega arith)
 
     count : length column ≡ start.width
-    unfolding before
     count = ap length is ∙ length-append before (1 ∷ replicate (start.width - free - 1) 0) ∙ omega (arith, long, below, length-replicate {A = ℕ} (start.width - free - 1) 0)
 
     elements : IsColumn octets start.width (at column)

@@ -1,7 +1,6 @@
 //! The elimination that finds a null vector of a block's equations (RFC 6330, section 5.4.2.1),
 //! which is a homogeneous column. It records nothing.
-ghost use Rattle.std.specs.Prelude.{◌≡◌, ◌≢◌, ◌-◌, ◌<◌, All, length, MatchOption, IfOk, IfErr};
-ghost use Rattle.rq_algebra.specs.Systems.{at};
+ghost use Rattle.std.specs.Prelude.{◌≡◌, ◌≢◌, ◌<◌, All, length, MatchOption, IfOk, IfErr};
 ghost use Rattle.rq_bytes.specs.declared.error.Error.TheVariants.{OutOfMemory};
 ghost use Rattle.rq_parts.specs.DenseOctetMatrix.{entry_of, HasOctets};
 ghost use Rattle.rq_null_vector.specs.Homogeneous.{ShowsHomogeneousRows, KeepsZeros, LacksPivot};

@@ -1,5 +1,5 @@
 //! Steps that are done to symbols.
-ghost use Rattle.std.specs.Prelude.{◌≡◌, ◌≤◌, ◌∷◌, length, map, take, replicate, true};
+ghost use Rattle.std.specs.Prelude.{◌≡◌, ◌∷◌, length, map, replicate, true};
 ghost use Rattle.rq_algebra.specs.Operations.{MulAssign, AddAssign, Fma, AreAllowed};
 ghost use Rattle.rq_algebra.specs.Symbols.{AreSymbols};
 ghost use Rattle.rq_bytes.specs.SymbolSlab.{after_all, HasPlace, symbol_in};

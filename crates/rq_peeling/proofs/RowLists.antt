@@ -160,11 +160,10 @@ module _ (old new : List ℕ) (kept : take (length old) new ≡ old) where
 -- ---- the number of ones
 
 module _ (starts values : List ℕ) (all : AreAllBetween starts values) where
-  list_of : ℕ → List ℕ
+  abbrev list_of : ℕ → List ℕ
   list_of row = slice_range values (slice_index starts row) (slice_index starts (row + 1))
 
   length-list_of : (row : ℕ) → row + 1 < length starts → length (list_of row) ≡ slice_index starts (row + 1) - slice_index starts row
-  unfolding list_of
   length-list_of row l = length-take-le (slice_index starts (row + 1) - slice_index starts row) (drop (slice_index starts row) values) (omega (arith, all.rise.within (row + 1) l, length-drop (slice_index starts row) values))
 
   ones_step : (n : ℕ) → n + 1 < length starts → sum_by length (map list_of (range_with_len 0 n)) ≡ slice_index starts n → sum_by length (map list_of (range_with_len 0 (n + 1))) ≡ slice_index starts (n + 1)
@@ -181,11 +180,9 @@ module _ (starts values : List ℕ) (all : AreAllBetween starts values) where
       subst (λ m. sum_by length (map list_of (range_with_len 0 m)) ≡ slice_index starts m) next (ones_step n (omega arith) (ones_before n (omega arith)))
 
   pub ones_counted : sum_by length (lists_between starts values) ≡ length values
-  unfolding list_of
   ones_counted = ones_before (length starts - 1) (omega (arith, all.rise.some)) ∙ all.last
 
   range_next : (n : ℕ) → n + 1 < length starts → take (slice_index starts n) values ++ list_of n ≡ take (slice_index starts (n + 1)) values
-  unfolding list_of
   range_next n l =
       let rise = all.rise.rise n l in
       let to : slice_index starts n + (slice_index starts (n + 1) - slice_index starts n) ≡ slice_index starts (n + 1) = omega (arith, rise) in
@@ -201,7 +198,6 @@ module _ (starts values : List ℕ) (all : AreAllBetween starts values) where
 
   -- one after the other they are all of the values
   pub lists_joined : concat (lists_between starts values) ≡ values
-  unfolding list_of
   lists_joined = joined_before (length starts - 1) (omega (arith, all.rise.some)) ∙ ap (λ (m : ℕ). take m values) all.last ∙ take_all (length values) values (omega arith)
 
 -- ---- how many ones stand before the dense columns

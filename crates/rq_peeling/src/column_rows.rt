@@ -1,6 +1,6 @@
 //! The rows that have ones in a column: a row loses an active column where one gets a pivot or is
 //! inactive (RFC 6330, section 5.4.2.2).
-ghost use Rattle.std.specs.Prelude.{◌≡◌, ℕ, ◌+◌, ◌-◌, ◌*◌, ◌^◌, ◌<◌, ◌≤◌, ◌==◌, [], List, length, count_by, sum, sum_by, take, All, IfSome, IfOk, OnOk, slice_index_or};
+ghost use Rattle.std.specs.Prelude.{◌≡◌, ℕ, ◌+◌, ◌^◌, ◌<◌, ◌≤◌, ◌==◌, [], List, length, count_by, sum, sum_by, take, All, IfSome, IfOk, OnOk, slice_index_or};
 ghost use Rattle.rq_algebra.specs.Systems.{at};
 ghost use Rattle.rq_peeling.specs.ColumnRows.{AreEnds, ListsColumns, PlacesRow};
 ghost use Rattle.rq_peeling.specs.RowDegrees.{LowersRows};

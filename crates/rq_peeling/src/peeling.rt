@@ -1,6 +1,6 @@
 //! `peel`: the whole choice of pivots (RFC 6330, section 5.4.2.2), turn after turn of a `Peeler`. And
 //! `Peeling`, its result: which column has its pivot in which row, and the order of the columns.
-ghost use Rattle.std.specs.Prelude.{◌≡◌, ◌<◌, ◌≤◌, drop, length, IfOk};
+ghost use Rattle.std.specs.Prelude.{◌≡◌, ◌+◌, ◌<◌, ◌≤◌, drop, length, IfOk};
 ghost use Rattle.rq_algebra.specs.Systems.{at};
 ghost use Rattle.rq_peeling.specs.RowDegrees.{TakesColumnsLeft, TakesFewest};
 ghost use Rattle.rq_peeling.specs.Peeling.{IsPeeled};
@@ -62,6 +62,15 @@ impl Peeling {
         ensures { result ≡ at self.now.order place }
     {
         self.order[place] as usize
+    }
+
+    /// An inactive column, by its number among them.
+    #[inline(always)]
+    pub fn inactive_column(&self, f: usize) -> usize
+        requires { length self.now.rows + f < length self.now.order }
+        ensures { result ≡ at self.now.order (length self.now.rows + f) }
+    {
+        self.order[self.rows.len() + f] as usize
     }
 
     /// The inactive columns, in their order.

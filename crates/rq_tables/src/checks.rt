@@ -1,5 +1,5 @@
 //! The seven checks of a row, in 64 bits, so that no number that is handed in wraps.
-ghost use Rattle.std.specs.Prelude.{◌≡◌, ◌<◌, slice_get};
+ghost use Rattle.std.specs.Prelude.{◌≡◌, slice_get};
 ghost use Rattle.rq_standard.specs.TableRows.{row_of_numbers, has_size, fits_ldpc, fits_hdpc, fits_pi, first_failing_check};
 
 use rq_standard::p1_table::P1_TABLE;

@@ -1,5 +1,5 @@
 //! The object transmission information (RFC 6330, 3.3.2 and 3.3.3).
-ghost use Rattle.std.specs.Prelude.{◌≡◌, ◌*◌, ◌%◌, ◌^◌, ◌<◌, Result, Ok, OnOk, slice_index};
+ghost use Rattle.std.specs.Prelude.{◌≡◌, ◌*◌, ◌%◌, ◌^◌, ◌<◌, OnOk, slice_index};
 ghost use Rattle.rq_standard.specs.Configuration.{Configuration, IsConfiguration, IsAccepted, IsAligned, total_symbols, largest_block, header_bytes, configuration_of_bytes};
 ghost use Rattle.rq_standard.specs.Streams.{frame_size};
 ghost use Rattle.rq_standard.specs.TableRows.{greatest_size};

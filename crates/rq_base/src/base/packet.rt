@@ -1,5 +1,5 @@
 //! Packets and their ids (RFC 6330, 3.2 and 4.4.2).
-ghost use Rattle.std.specs.Prelude.{◌≡◌, ◌<◌, ◌^◌, Result, Ok, Err, IfOk};
+ghost use Rattle.std.specs.Prelude.{◌≡◌, ◌<◌, ◌^◌, Ok, IfOk};
 ghost use Rattle.rq_bytes.specs.Refusals.{IsAnswer};
 ghost use Rattle.rq_standard.specs.Packet.{SymbolId, Packet, id_bytes, id_of_bytes, packet_bytes, packet_of_bytes};
 

@@ -1,5 +1,5 @@
 //! Plain records that serde reads and writes, and the values that they stand for.
-ghost use Rattle.std.specs.Prelude.{◌≡◌, Result, Ok, IfOk};
+ghost use Rattle.std.specs.Prelude.{◌≡◌, Ok, IfOk};
 ghost use Rattle.rq_bytes.specs.Refusals.{IsAnswer};
 ghost use Rattle.rq_base.specs.Records.{spelled_configuration};
 ghost use Rattle.rq_base.specs.RefusedInput.{new_id, new_packet, new_configuration};

@@ -11,7 +11,6 @@ use rq_tables::systematic_constants::SystematicTable;
 pub const DEFAULT_DECODER_MEMORY: u64 = 10485760;
 
 impl ObjectTransmissionInformation {
-    ghost use Rattle.std.specs.Int.{div_ceil};
     ghost use Rattle.rq_base.specs.Defaults.{wanted_parameters, default_memory, HasLeastSubBlocks};
 
     /// A configuration for an object of `transfer_length` bytes in packets of at most

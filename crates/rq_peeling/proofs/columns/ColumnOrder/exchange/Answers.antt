@@ -7,7 +7,7 @@ use Rattle.rq_peeling.proofs.ColumnLaws.{exchanged_state, exchanges}
 use Rattle.rq_peeling.proofs.columns.ColumnOrder.exchange.Goals as goal
 
 module _ (c : goal.After-self-4-1) where
-  start : ColumnState
+  abbrev start : ColumnState
   start = record { order = c.self.inside.order.items; places = c.self.inside.places.items; pivots = c.self.inside.pivots; end = c.self.inside.end }
 
   width : length c.self.inside.order.items ≡ length c.args.self.now.order
@@ -26,11 +26,9 @@ module _ (c : goal.After-self-4-1) where
   second = get_or_read c.self.inside.order.items _ _ in_q c.index-second.ensures 0
 
 pub invariant_of-self : goal.invariant_of-self
-unfolding start
 invariant_of-self c = exchanged_state (start c) c.self.invariant c.args.p c.args.q _ _ (in_p c) (in_q c) (first c) (second c)
 
 pub returns : goal.returns
-unfolding start
 returns c =
     let start = start c in
     subst (λ (s : ColumnState). ExchangesColumns c.args.p c.args.q s (record start { order = set (set start.order c.args.p c.index-second.result.now) c.args.q c.index-first.result.now; places = set (set start.places c.index-first.result.now c.args.q) c.index-second.result.now c.args.p })) c.self.view_is
