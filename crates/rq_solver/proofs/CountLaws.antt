@@ -141,9 +141,6 @@ abbrev pub given_before : (ℕ → ℕ → ℕ) → ℕ → ℕ → ℕ → ℕ
 given_before entries first n zero = 0
 given_before entries first n (suc s) = given_before entries first n s + multiples (entries s) first n
 
-given_before-more : (entries : ℕ → ℕ → ℕ) (first n s : ℕ) → given_before entries first n (s + 1) ≡ given_before entries first n s + multiples (entries s) first n
-given_before-more entries first n s = ap (given_before entries first n) (add-one s)
-
 given_before-column : (entries : ℕ → ℕ → ℕ) (first n s : ℕ) → given_before entries first (n + 1) s ≡ multiples (λ i. entries i first) 0 s + given_before entries (first + 1) n s
 given_before-column entries first n zero = let none = multiples-none (λ i. entries i first) 0 in omega (arith, none)
 given_before-column entries first n (suc s) =
@@ -159,7 +156,7 @@ pub back_turn : (entries : ℕ → ℕ → ℕ) (q n before now mid turn : ℕ) 
     → turn ≤ mid + multiples (λ i. entries i q) 0 q → turn ≤ before + triangle (n + 1) + given_before entries q (n + 1) q
 back_turn entries q n before now mid turn so_far ones given =
     let next = triangle-next n in
-    let own = given_before-more entries (q + 1) n q in
+    let own = ap (given_before entries (q + 1) n) (add-one q) in
     let column = given_before-column entries q n q in
     omega (arith, so_far, ones, given, next, own, column)
 

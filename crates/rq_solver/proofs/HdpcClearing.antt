@@ -137,27 +137,24 @@ module _ (rows order places : List ℕ) (first count width : ℕ) where
   -- ---- the rows get 0 in a pivot's column, one after another
 
   module _ (octet : ℕ → ℕ → ℕ) (old new : RecordedRows) (beside : HasPivotsBeside rows order places first count width old) (row place scalar : ℕ) (in_rows : row < count) (is_pivot : place < length rows) where
-    now : ℕ → ℕ → ℕ
+    abbrev now : ℕ → ℕ → ℕ
     now = with_zeros (at order place) (row + 1) octet
 
-    was : ℕ → ℕ → ℕ
+    abbrev was : ℕ → ℕ → ℕ
     was = with_zeros (at order place) row octet
 
     other_rows : (i k : ℕ) → i ≢ row → now i k ≡ was i k
-    unfolding now was
     other_rows i k d = grind (arith, d)
 
     -- a row that has 0 there takes nothing
     module _ (zero : octet row (at order place) ≡ 0) where
       pub zeros_skipped : (i p : ℕ) → i < count → p < length rows → with_zeros (at order place) row octet i (at order p) ≡ with_zeros (at order place) (row + 1) octet i (at order p)
-      unfolding now was
       zeros_skipped i p l n = grind (arith, zero)
 
     -- another takes its octet times the pivot's row
     module _ (small : scalar < 256) (scalar_is : scalar ≡ octet row (at order place)) (performs : Performs (sum_step (first + row) (at rows place) scalar ∷ []) old new) where
       module _ (m : ℕ → ℕ → ℕ) (pivots : PivotsAreCleared rows order m) (had : ShowHdpcOctets rows order first count was m) where
         had_octet : (p : ℕ) → p < length rows → m (first + row) (at order p) ≡ octet row (at order p)
-        unfolding was
         had_octet p l = had row p in_rows l ∙ same_behind (at order place) row octet row (at order p) (omega arith)
 
         next_row : (p : ℕ) → p < length rows → rows_after octets (sum_step (first + row) (at rows place) scalar ∷ []) m (first + row) (at order p) ≡ octets.add (m (first + row) (at order p)) (octets.mul scalar (m (at rows place) (at order p)))
@@ -165,7 +162,6 @@ module _ (rows order places : List ℕ) (first count width : ℕ) where
 
         -- in the column of another pivot
         other_column : (p : ℕ) → p < length rows → p ≢ place → rows_after octets (sum_step (first + row) (at rows place) scalar ∷ []) m (first + row) (at order p) ≡ now row (at order p)
-        unfolding now
         other_column p l d =
             let zero : m (at rows place) (at order p) ≡ 0 = (pivots place is_pivot).entries p l ∙ if_apart (at rows p) (at rows place) 1 0 (λ e. d (beside.pivots.apart p place l is_pivot e)) in
             let known = beside.few in
@@ -173,13 +169,11 @@ module _ (rows order places : List ℕ) (first count width : ℕ) where
             next_row p l ∙ plus_zero_times (m (first + row) (at order p)) scalar (m (at rows place) (at order p)) zero ∙ had_octet p l ∙ sym (same_beside (at order place) (row + 1) octet row (at order p) other)
 
         this_column : rows_after octets (sum_step (first + row) (at rows place) scalar ∷ []) m (first + row) (at order place) ≡ now row (at order place)
-        unfolding now
         this_column =
             let one : m (at rows place) (at order place) ≡ 1 = (pivots place is_pivot).entries place is_pivot ∙ if_same (at rows place) (at rows place) 1 0 refl in
             next_row place is_pivot ∙ plus_own (m (first + row) (at order place)) scalar (m (at rows place) (at order place)) small (had_octet place is_pivot ∙ sym scalar_is) one ∙ sym (zero_here (at order place) (row + 1) octet row (omega arith))
 
       pub changes_pivot : ChangesOctets rows order first count (with_zeros (at order place) row octet) (with_zeros (at order place) (row + 1) octet) old new
-      unfolding now was
       changes_pivot = record {
         steps = sum_step (first + row) (at rows place) scalar ∷ [];
         performs = performs;

@@ -14,9 +14,9 @@ use Rattle.rq_elimination.specs.RecordedRows.{Performs, Records}
 use Rattle.rq_elimination.specs.RowSteps.{AreRows}
 use Rattle.rq_elimination.specs.declared.counts.PhaseEnds.{PhaseEnds}
 use Rattle.rq_elimination.specs.declared.recorded.RecordedRows.{RecordedRows}
+use Rattle.rq_solver.specs.LeftRows.{ListsRows}
 use Rattle.rq_solver.specs.Peeled.{inactive_count, IsUnderWay}
 use Rattle.rq_solver.specs.Phases.{AddsLater, FindsOrder, LacksPivots, RunsLater, SolvesInactive}
-use Rattle.rq_solver.specs.RowOrder.{ListsRows}
 use Rattle.rq_solver.specs.declared.pi_solver.peeled.Peeled.{Peeled}
 use Rattle.rq_solver.proofs.CountLaws.{inactive_bound}
 use Rattle.rq_solver.proofs.PeeledSolutions.{homogeneous_of_peeled, finds_by_peeled}

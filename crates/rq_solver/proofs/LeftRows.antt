@@ -7,7 +7,7 @@ use Rattle.std.proofs.lemmas.List.Elements.{Contains-append_left, Contains-push}
 use Rattle.rq_algebra.specs.Arrangements.{ArePlaces}
 use Rattle.rq_algebra.specs.Systems.{at}
 use Rattle.rq_algebra.proofs.FewPlaces.{all_places, few_places}
-use Rattle.rq_solver.specs.RowOrder.{row_in_turn, ListsRows, MarksRows}
+use Rattle.rq_solver.specs.LeftRows.{row_in_turn, ListsRows, MarksRows}
 
 -- ---- all rows
 

@@ -21,9 +21,9 @@ use Rattle.rq_standard.specs.OctetField.{octets}
 use Rattle.rq_parts.specs.DenseOctetMatrix.{entry_of}
 use Rattle.rq_solver.specs.FirstPhase.{HasPeeledPivots}
 use Rattle.rq_solver.specs.FourthPhase.{FinishesAllPivots, IsFinished, Sparsifies}
+use Rattle.rq_solver.specs.LeftRows.{ListsRows}
 use Rattle.rq_solver.specs.Peeled.{inactive_count, IsUnderWay}
 use Rattle.rq_solver.specs.PivotAdditions.{IsCleared}
-use Rattle.rq_solver.specs.RowOrder.{ListsRows}
 use Rattle.rq_solver.specs.SecondPhase.{AreUnits, SubstitutesBack}
 use Rattle.rq_peeling.specs.ColumnState.{IsOrderOf}
 use Rattle.rq_elimination.specs.RecordedRows.{ChangesRows}
@@ -196,19 +196,15 @@ module _ (p : Peeled) (left : List ℕ) (middle : RecordedRows) (under : IsUnder
   module _ (column : List ℕ) (alone : (m : ℕ → ℕ → ℕ) (k : ℕ) → ((p : ℕ) → p < pivots → m (at rows p) k ≡ 0) → (p : ℕ) → p < pivots → rows_after octets middle.operations m (at rows p) k ≡ m (at rows p) k)
       (handed : (p : ℕ) → p < pivots → dot octets width (system (at rows p)) (at column) ≡ 0)
       (now : (q : ℕ) → q < length inactive_rows → dot octets inactive (entry_of last.table (at inactive_rows q)) (λ f. at column (at order (pivots + f))) ≡ 0) where
-    says : ℕ → ℕ → ℕ
+    abbrev says : ℕ → ℕ → ℕ
     says i k = dot octets width (system i) (at column)
-
-    says_is : (i : ℕ) → Contains (range_with_len 0 height) i → says i 0 ≡ dot octets width (system i) (at column)
-    unfolding says
-    says_is i c = refl
 
     -- a pivot's row took no rows but those of pivots
     pivot_says : (p : ℕ) → p < pivots → dot octets width (meant (at rows p)) (at column) ≡ 0
-    unfolding says
     pivot_says p l =
         let all : List ℕ = range_with_len 0 height in
-        sym (rows_after-says octets all width 0 (at column) steps says system among says_is (at rows p) (Contains-range height (at rows p) (pivot_below p l)))
+        sym (rows_after-says octets all width 0 (at column) steps says system among (λ i c. refl)
+        (at rows p) (Contains-range height (at rows p) (pivot_below p l)))
         ∙ rows_after-next octets middle.operations changes.steps says (at rows p) 0
         ∙ rows_after-apart octets left changes.steps (rows_after octets middle.operations says) (at rows p) 0 changes.within (λ c. left_apart height rows left listing (at rows p) p c l refl)
         ∙ alone says 0 handed p l ∙ handed p l

@@ -11,8 +11,8 @@ use Rattle.rq_peeling.specs.declared.system.System.{System}
 use Rattle.rq_solver.specs.FirstPhase.{HasPeeledPivots, TakesPivotsAlone}
 use Rattle.rq_solver.specs.HdpcOctets.{ClearsOctets}
 use Rattle.rq_elimination.specs.LeadingRows.{HasLeading}
+use Rattle.rq_solver.specs.LeftRows.{ListsRows}
 use Rattle.rq_solver.specs.PivotAdditions.{IsCleared, IsUncleared, ClearsRows}
-use Rattle.rq_solver.specs.RowOrder.{ListsRows}
 use Rattle.rq_peeling.specs.Peeling.{IsPeeled}
 use Rattle.rq_peeling.specs.RowOnes.{ones_of}
 use Rattle.rq_elimination.specs.RecordedRows.{Performs}
@@ -68,47 +68,39 @@ module _ (lists : List (List ℕ)) (first : ℕ) (hdpc : OctetTable) where
       uncleared : (r : ℕ) → ((i : ℕ) → i < length hdpc.rows → first + i ≢ r) → IsUncleared lists rows order (system_rows lists first hdpc) r
       uncleared r out = record { entries = λ i l. bits_at r (at order i) out }
 
-      pivots_uncleared : (p : ℕ) → p < length rows → IsUncleared lists rows order (system_rows lists first hdpc) (at rows p)
-      pivots_uncleared p l = uncleared (at rows p) (λ i n. pivot_of_bits p i l n)
-
       module _ (left : List ℕ) (listing : ListsRows (length lists) rows left) where
         abbrev all : List ℕ
         all = rows ++ left
 
         module _ (zero one two : RecordedRows) (clears : ClearsRows lists rows order all (length all) zero one) (wipes : ClearsOctets rows order (entry_of hdpc) first (length hdpc.rows) one two) where
-          system : ℕ → ℕ → ℕ
+          abbrev system : ℕ → ℕ → ℕ
           system = system_rows lists first hdpc
 
-          now : ℕ → ℕ → ℕ
+          abbrev now : ℕ → ℕ → ℕ
           now = rows_after octets clears.steps system
 
           cleared_at : (r : ℕ) → Contains all r → ((i : ℕ) → i < length hdpc.rows → first + i ≢ r) → IsCleared rows order now r
-          unfolding system now
           cleared_at r c out =
               let is : at all c.0 ≡ r = get_or_default all c.0 0 r c.1 ∙ c.2 in
-              rw is at (clears.cleared system pivots_uncleared c.0 c.1 (rw is (uncleared r out)))
+              rw is at (clears.cleared system (λ p l. uncleared (at rows p) (λ i n. pivot_of_bits p i l n)) c.0 c.1 (rw is (uncleared r out)))
 
           pivot_now : (p : ℕ) → p < length rows → IsCleared rows order now (at rows p)
           pivot_now p l = cleared_at (at rows p) (Contains-append_left rows left (at rows p) (Contains-get_or rows p 0 l)) (λ i n. pivot_of_bits p i l n)
 
           in_end : (r k : ℕ) → rows_after octets (clears.steps ++ wipes.steps) system r k ≡ rows_after octets wipes.steps now r k
-          unfolding now
           in_end r k = rows_after-next octets clears.steps wipes.steps system r k
-
-          octets_now : (i k : ℕ) → i < length hdpc.rows → now (first + i) k ≡ entry_of hdpc i k
-          unfolding system now
-          octets_now i k l = clears.idle system (first + i) k (are.empty i l) ∙ octets_at i k l
 
           left_cleared : (r : ℕ) → Contains left r → (p : ℕ) → p < length rows → rows_after octets wipes.steps now r (at order p) ≡ 0
           left_cleared r c p l = elim (cases r) [
-            | inl q ↦ rw (← q.2) (wipes.shown now pivot_now (λ i j n o. octets_now i (at order j) n) q.0 p q.1 l)
+            | inl q ↦
+                rw (← q.2) (wipes.shown now pivot_now (λ i j n o. clears.idle system (first + i) (at order j) (are.empty i n) ∙ octets_at i (at order j) n)
+                q.0 p q.1 l)
             | inr out ↦
                 wipes.elsewhere now r (at order p) out ∙ (cleared_at r (Contains-append_right rows left r c) out).entries p l
                 ∙ if_apart (at rows p) r 1 0 (left_apart (length lists) rows left listing r p c l)
           ]
 
           pub cleared_both : AreCleared rows order left (rows_after octets (clears.steps ++ wipes.steps) (system_rows lists first hdpc))
-          unfolding system
           cleared_both = record {
             pivots = λ p l. record { entries = λ i n. in_end (at rows p) (at order i) ∙ wipes.elsewhere now (at rows p) (at order i) (λ j o. pivot_of_bits p j l o) ∙ (pivot_now p l).entries i n };
             others = λ r c p l. in_end r (at order p) ∙ left_cleared r c p l;

@@ -31,14 +31,8 @@ columns_of_row width row lists columns bits l is = subst (AreColumnsOfRow width)
 
 -- ---- sums of octets
 
-one_small : 1 < 256
-one_small = lit< tt
-
-one_one : octets.mul 1 1 ≡ 1
-one_one = octets.one_mul 1 one_small
-
 pub plus_one : (x y c : ℕ) → y ≡ 1 → c ≡ 0 → octets.add (octets.add x c) (octets.mul 1 y) ≡ octets.add x 1
-plus_one x y c e z = ap (λ (w : ℕ). octets.add (octets.add x c) (octets.mul 1 w)) e ∙ ap (octets.add (octets.add x c)) one_one ∙ ap (λ (w : ℕ). octets.add (octets.add x w) 1) z ∙ ap (λ (w : ℕ). octets.add w 1) (add_zero octets x)
+plus_one x y c e z = ap (λ (w : ℕ). octets.add (octets.add x c) (octets.mul 1 w)) e ∙ ap (octets.add (octets.add x c)) (octets.one_mul 1 (lit< tt)) ∙ ap (λ (w : ℕ). octets.add (octets.add x w) 1) z ∙ ap (λ (w : ℕ). octets.add w 1) (add_zero octets x)
 
 -- what a cleared row has there is an octet
 pub cleared_small : (rows order : List ℕ) (m : ℕ → ℕ → ℕ) (r i : ℕ) → IsCleared rows order m r → i < length rows → m r (at order i) < 256
@@ -109,30 +103,24 @@ module _ (Done : List Operation → RecordedRows → RecordedRows → Type 0) (r
         pivot_cleared : IsCleared rows order m (at rows j)
         pivot_cleared = done j in_rows (subst (Contains (take (t + 1) columns)) column_is (now_there columns t in_columns)) other
 
-        now : ℕ → ℕ → ℕ
+        abbrev now : ℕ → ℕ → ℕ
         now = rows_after octets v.steps m
 
         pivot_now : (i : ℕ) → now (at rows j) (at order i) ≡ m (at rows j) (at order i)
-        unfolding now
         pivot_now i = v.elsewhere m (at rows j) (at order i) other
 
         small_now : (i : ℕ) → i < length rows → now (at rows j) (at order i) < 256
         small_now i l = rw (pivot_now i) (cleared_small rows order m (at rows j) i pivot_cleared l)
 
         before_now : (i : ℕ) → i < length rows → now row (at order i) ≡ octets.add (m row (at order i)) (if at rows i == row then 0 else count_by (λ x. x == at order i) (take t columns))
-        unfolding now
         before_now i l = v.taken m (λ q n c d. done q n (still_there columns t in_columns (at order q) c) d) i l
-
-        next_row : (i : ℕ) → i < length rows → rows_after octets (v.steps ++ sum_step row (at rows j) 1 ∷ []) m row (at order i) ≡ octets.add (now row (at order i)) (octets.mul 1 (now (at rows j) (at order i)))
-        unfolding now
-        next_row i l = sum_after-here row (at rows j) 1 m v.steps (at order i) (small_now i l)
 
         -- the pivot's row has 0 in the column of another pivot
         unchanged : (i : ℕ) → i < length rows → at rows i ≢ at rows j → octets.add (now row (at order i)) (octets.mul 1 (now (at rows j) (at order i))) ≡ octets.add (m row (at order i)) (if at rows i == row then 0 else count_by (λ x. x == at order i) (take t columns))
         unchanged i l d = plus_zero_times (now row (at order i)) 1 (now (at rows j) (at order i)) (pivot_now i ∙ pivot_cleared.entries i l ∙ if_apart (at rows i) (at rows j) 1 0 d) ∙ before_now i l
 
         next_taken : (i : ℕ) → i < length rows → rows_after octets (v.steps ++ sum_step row (at rows j) 1 ∷ []) m row (at order i) ≡ octets.add (m row (at order i)) (if at rows i == row then 0 else count_by (λ x. x == at order i) (take (t + 1) columns))
-        next_taken i l = next_row i l ∙ elim (cases_eq (at rows i) row) [
+        next_taken i l = sum_after-here row (at rows j) 1 m v.steps (at order i) (small_now i l) ∙ elim (cases_eq (at rows i) row) [
           | inl e ↦ unchanged i l (λ f. other (sym f ∙ e)) ∙ ap (octets.add (m row (at order i))) (count_kept i (inl e))
           | inr d ↦ elim (cases_eq i j) [
             | inr f ↦

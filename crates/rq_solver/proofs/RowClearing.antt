@@ -28,15 +28,14 @@ module _ (lists : List (List ℕ)) (rows order listed : List ℕ) where
 
   module _ (width : ℕ) (places : List ℕ) (bits : AreRowsOfBits width lists) (peeled : IsPeeled width lists (record { rows = rows; order = order; places = places })) (starts : (p : ℕ) → p < length rows → at listed p ≡ at rows p) (are : ArePlaces (length listed) (length lists) (at listed)) (t : ℕ) (in_listed : t < length listed)
       (old cur new : RecordedRows) (v : ClearsRows lists rows order listed t old cur) (taken : TakesPivots rows order (at listed t) (ones_of lists (at listed t)) cur new) where
-    all_steps : List Operation
+    abbrev all_steps : List Operation
     all_steps = v.steps ++ taken.steps
 
     module _ (m : ℕ → ℕ → ℕ) where
-      now : ℕ → ℕ → ℕ
+      abbrev now : ℕ → ℕ → ℕ
       now = rows_after octets v.steps m
 
       after_all : (i k : ℕ) → rows_after octets all_steps m i k ≡ rows_after octets taken.steps now i k
-      unfolding all_steps now
       after_all i k = rows_after-next octets v.steps taken.steps m i k
 
       -- other rows stay in this turn
@@ -44,7 +43,6 @@ module _ (lists : List (List ℕ)) (rows order listed : List ℕ) where
       stays i k d = after_all i k ∙ taken.elsewhere now i k d
 
       idle_next : (i k : ℕ) → ones_of lists i ≡ [] → rows_after octets all_steps m i k ≡ m i k
-      unfolding now
       idle_next i k e = elim (cases_eq i (at listed t)) [
         | inl s ↦
             let nothing : taken.steps ≡ [] = taken.idle (ap (ones_of lists) (sym s) ∙ e) in
@@ -53,7 +51,6 @@ module _ (lists : List (List ℕ)) (rows order listed : List ℕ) where
       ]
 
       kept_next : (k : ℕ) → ((p : ℕ) → p < length rows → m (at rows p) k ≡ 0) → (i : ℕ) → rows_after octets all_steps m i k ≡ m i k
-      unfolding now
       kept_next k none i = elim (cases_eq i (at listed t)) [
         | inl s ↦ rw s (after_all (at listed t) k ∙ taken.kept now k (λ j l c d. v.kept m k none (at rows j) ∙ none j l) ∙ v.kept m k none (at listed t))
         | inr d ↦ stays i k d ∙ v.kept m k none i
@@ -61,7 +58,6 @@ module _ (lists : List (List ℕ)) (rows order listed : List ℕ) where
 
       module _ (pivots : (p : ℕ) → p < length rows → IsUncleared lists rows order m (at rows p)) where
         earlier : (j : ℕ) → j < length rows → j < t → IsCleared rows order now (at rows j)
-        unfolding now
         earlier j l before_t = subst (IsCleared rows order now) (starts j l) (v.cleared m pivots j before_t (subst (IsUncleared lists rows order m) (sym (starts j l)) (pivots j l)))
 
         -- a pivot whose row this one takes stands before it
@@ -76,7 +72,6 @@ module _ (lists : List (List ℕ)) (rows order listed : List ℕ) where
         ]
 
         cleared_now : IsUncleared lists rows order m (at listed t) → IsCleared rows order (rows_after octets all_steps m) (at listed t)
-        unfolding now
         cleared_now raw = record {
           entries = λ i l.
               let row = at listed t in
@@ -86,7 +81,6 @@ module _ (lists : List (List ℕ)) (rows order listed : List ℕ) where
         }
 
         cleared_next : (s : ℕ) → s < t + 1 → IsUncleared lists rows order m (at listed s) → IsCleared rows order (rows_after octets all_steps m) (at listed s)
-        unfolding now
         cleared_next s l raw = elim (cases_eq s t) [
           | inl e ↦ subst (λ (q : ℕ). IsCleared rows order (rows_after octets all_steps m) (at listed q)) (sym e) (cleared_now (subst (λ (q : ℕ). IsUncleared lists rows order m (at listed q)) e raw))
           | inr d ↦ record {
@@ -97,7 +91,6 @@ module _ (lists : List (List ℕ)) (rows order listed : List ℕ) where
         ]
 
     pub clears_next_row : ClearsRows lists rows order listed (t + 1) old new
-    unfolding all_steps now
     clears_next_row = record {
       steps = v.steps ++ taken.steps;
       performs = performs_more v.steps taken.steps old cur new v.performs taken.done;

@@ -9,10 +9,11 @@ use Rattle.rq_algebra.proofs.Parity.{sum_listed_is}
 use Rattle.rq_algebra.proofs.Sums.{dot_same}
 use Rattle.rq_standard.specs.OctetField.{octets}
 use Rattle.rq_parts.specs.DenseOctetMatrix.{OctetTable, entry_of}
+use Rattle.rq_elimination.specs.RowSteps.{IsEchelon}
 use Rattle.rq_peeling.specs.RowOnes.{ones_of}
 use Rattle.rq_peeling.specs.SystemRows.{one_in}
 use Rattle.rq_peeling.proofs.Counting.{count_absent}
-use Rattle.rq_solver.specs.HomogeneousColumns.{inactive_dot, inactive_entry, HasZerosAtPivots, SolvesLeftRows, SolvesPivotRows}
+use Rattle.rq_solver.specs.HomogeneousColumns.{inactive_dot, inactive_entry, HasZerosAtPivots, IsZeroColumn, SolvesBehind, SolvesLeftRows, SolvesPivotRows}
 use Rattle.rq_solver.specs.Peeled.{inactive_count}
 use Rattle.rq_solver.specs.PivotAdditions.{PeelsRows}
 use Rattle.rq_solver.specs.declared.pi_solver.peeled.Peeled.{Peeled}
@@ -37,14 +38,11 @@ module _ (e : Peeled) (peels : PeelsRows e.ones e.peeling) (others : List ℕ) (
     abbrev new : List ℕ
     new = set old (at e.peeling.order place) value
 
-    pub set_count : length new ≡ width
+    set_count : length new ≡ width
     set_count = length-set old (at e.peeling.order place) value ∙ count
 
-    set_within : at e.peeling.order place < length old
-    set_within = omega (arith, count, (peels.peeled.columns.ordered place inside).0)
-
     set_here : at new (at e.peeling.order place) ≡ value
-    set_here = get_or-set_same old (at e.peeling.order place) value 0 set_within
+    set_here = get_or-set_same old (at e.peeling.order place) value 0 (omega (arith, count, (peels.peeled.columns.ordered place inside).0))
 
     set_other : (k : ℕ) → k ≢ at e.peeling.order place → at new k ≡ at old k
     set_other k apart = get_or-set_other old (at e.peeling.order place) k value 0 apart
@@ -69,21 +67,66 @@ module _ (e : Peeled) (peels : PeelsRows e.ones e.peeling) (others : List ℕ) (
     place_within : pivots + f < width
     place_within = omega (arith, inside)
 
-    pub left_here : inactive_entry e.peeling left f ≡ value
+    left_here : inactive_entry e.peeling left f ≡ value
     left_here = set_here (pivots + f) value place_within
 
-    pub left_other : (g : ℕ) → g < inactive_count e.peeling → g ≢ f → inactive_entry e.peeling left g ≡ inactive_entry e.peeling old g
+    left_other : (g : ℕ) → g < inactive_count e.peeling → g ≢ f → inactive_entry e.peeling left g ≡ inactive_entry e.peeling old g
     left_other g l apart = set_place (pivots + f) value place_within (pivots + g) (omega (arith, l)) (λ same. apart (omega (arith, same)))
 
-    pub left_zeros : HasZerosAtPivots e.peeling 0 old → HasZerosAtPivots e.peeling 0 left
+    left_zeros : HasZerosAtPivots e.peeling 0 old → HasZerosAtPivots e.peeling 0 left
     left_zeros zeros p from l = set_place (pivots + f) value place_within p (omega (arith, l, inside)) (λ same. omega (arith, same, l)) ∙ zeros p from l
 
     -- a row in whose own column it is, and one that has 0 there
-    pub left_own : (row : ℕ) → inactive_entry e.peeling old f ≡ 0 → entry_of table row f ≡ 1 → value ≡ inactive_dot e.peeling table old row → inactive_dot e.peeling table left row ≡ 0
+    left_own : (row : ℕ) → inactive_entry e.peeling old f ≡ 0 → entry_of table row f ≡ 1 → value ≡ inactive_dot e.peeling table old row → inactive_dot e.peeling table left row ≡ 0
     left_own row zero one is = dot_own octets (inactive_count e.peeling) f (inactive_entry e.peeling old) (inactive_entry e.peeling left) inside zero left_other (entry_of table row) one (left_here ∙ is)
 
-    pub left_kept : (row : ℕ) → inactive_entry e.peeling old f ≡ 0 → entry_of table row f ≡ 0 → inactive_dot e.peeling table left row ≡ inactive_dot e.peeling table old row
+    left_kept : (row : ℕ) → inactive_entry e.peeling old f ≡ 0 → entry_of table row f ≡ 0 → inactive_dot e.peeling table left row ≡ inactive_dot e.peeling table old row
     left_kept row zero none = dot_kept octets (inactive_count e.peeling) f (inactive_entry e.peeling old) (inactive_entry e.peeling left) inside zero left_other (entry_of table row) none
+
+  -- the first inactive entry that is set, in a column of zeros
+  pub solves_first : (free low : ℕ) → low ≡ free → free < inactive_count e.peeling → IsZeroColumn old
+      → SolvesBehind e others table free low (set old (at e.peeling.order (pivots + free)) 1)
+  solves_first free low start inside none =
+      let within : pivots + free < width = omega (arith, inside) in
+      let zero : (p : ℕ) → p < width → at old (at e.peeling.order p) ≡ 0 =
+      λ p l. none (at e.peeling.order p) (omega (arith, count, (peels.peeled.columns.ordered p l).0)) in
+      record {
+        count = set_count (pivots + free) 1 within;
+        elements = set_elements (pivots + free) 1 within (λ k l. omega (arith, none k (omega (arith, count, l)))) (omega arith);
+        zeros = left_zeros free 1 inside (λ p from l. zero p (omega (arith, l, e.few_pivots)));
+        before = λ f l.
+            left_other free 1 inside f (omega (arith, start, l, inside)) (λ same. omega (arith, start, same, l))
+            ∙ zero (pivots + f) (omega (arith, start, l, within));
+        one = left_here free 1 inside;
+        behind = λ f l m. left_other free 1 inside f m (λ same. omega (arith, same, l)) ∙ zero (pivots + f) (omega (arith, m));
+        solved = λ q from l. absurd (omega (arith, start, from, l));
+      }
+
+  -- the one before those that are set, which solves the row at its place
+  pub solves_next : (free low place next value : ℕ) → place < free → free < inactive_count e.peeling → low ≡ place + 1 → next ≡ place
+      → IsEchelon others free table → value < octets.size
+      → SolvesBehind e others table free low old → value ≡ inactive_dot e.peeling table old (at others place)
+      → SolvesBehind e others table free next (set old (at e.peeling.order (pivots + place)) value)
+  solves_next free low place next value early in_columns was here echelon small v value_is =
+      let inside : place < inactive_count e.peeling = omega (arith, early, in_columns) in
+      let within : pivots + place < width = omega (arith, inside) in
+      let zero : inactive_entry e.peeling old place ≡ 0 = v.before place (omega (arith, was)) in
+      record {
+        count = set_count (pivots + place) value within;
+        elements = set_elements (pivots + place) value within v.elements small;
+        zeros = left_zeros place value inside v.zeros;
+        before = λ f l.
+            left_other place value inside f (omega (arith, here, l, inside)) (λ same. omega (arith, here, same, l)) ∙ v.before f (omega (arith, here, was, l));
+        one = left_other place value inside free in_columns (λ same. omega (arith, same, early)) ∙ v.one;
+        behind = λ f l m. left_other place value inside f m (λ same. omega (arith, same, l, early)) ∙ v.behind f l m;
+        solved = λ q from l. elim (cases_eq q place) [
+          | inl same ↦ rw same (left_own place value inside (at others place) zero (echelon.ones place early) value_is)
+          | inr apart ↦
+              let later : place < q = omega (arith, here, from, apart) in
+              left_kept place value inside (at others q) zero (echelon.zeros q place (omega (arith, l, echelon.fits)) later early)
+              ∙ v.solved q (omega (arith, was, later)) l
+        ];
+      }
 
   -- ---- a pivot's entry
 

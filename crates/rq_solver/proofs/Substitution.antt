@@ -185,77 +185,50 @@ module _ (inactive_rows : List ℕ) (count : ℕ) where
     apart t s l n d e = d (are.apart t s (fits t l) (fits s n) e)
 
     module _ (m : ℕ → ℕ → ℕ) where
-      before_turn : ℕ → ℕ → ℕ
+      abbrev before_turn : ℕ → ℕ → ℕ
       before_turn = rows_after octets v.steps m
 
-      after_turn : ℕ → ℕ → ℕ
+      abbrev after_turn : ℕ → ℕ → ℕ
       after_turn = rows_after octets turn.steps before_turn
 
       after_all : (r k : ℕ) → rows_after octets (v.steps ++ (turn.steps ++ gives.steps)) m r k ≡ rows_after octets gives.steps after_turn r k
-      unfolding before_turn after_turn
       after_all r k = rows_after-next octets v.steps (turn.steps ++ gives.steps) m r k ∙ rows_after-next octets turn.steps gives.steps (rows_after octets v.steps m) r k
 
-      after_elsewhere : (r k : ℕ) → r ≢ at inactive_rows q → after_turn r k ≡ before_turn r k
-      unfolding after_turn
-      after_elsewhere r k d = turn.elsewhere before_turn r k d
-
-      zero_before : (k : ℕ) → ((f : ℕ) → f < count → m (at inactive_rows f) k ≡ 0) → (r : ℕ) → before_turn r k ≡ m r k
-      unfolding before_turn
-      zero_before k zeros r = v.kept m r k zeros
-
       zero_after : (k : ℕ) → ((f : ℕ) → f < count → m (at inactive_rows f) k ≡ 0) → (r : ℕ) → after_turn r k ≡ m r k
-      unfolding after_turn
       zero_after k zeros r = elim (cases_eq r (at inactive_rows q)) [
-        | inl e ↦ rw e (turn.kept before_turn k (λ f from l. zero_before k zeros (at inactive_rows f) ∙ zeros f l) ∙ zero_before k zeros (at inactive_rows q))
-        | inr d ↦ turn.elsewhere before_turn r k d ∙ zero_before k zeros r
+        | inl e ↦ rw e (turn.kept before_turn k (λ f from l. v.kept m (at inactive_rows f) k zeros ∙ zeros f l) ∙ v.kept m (at inactive_rows q) k zeros)
+        | inr d ↦ turn.elsewhere before_turn r k d ∙ v.kept m r k zeros
       ]
 
       module _ (column : ℕ → ℕ) (shown : ShowInactive inactive_rows count column m old.table) where
-        later : AreUnits inactive_rows (q + 1) count column before_turn
-        unfolding before_turn
-        later = v.units m column shown
-
-        was_before : (t f : ℕ) → t < q + 1 → f < q + 1 → before_turn (at inactive_rows t) (column f) ≡ entry_of old.table (at inactive_rows t) f
-        unfolding before_turn
-        was_before t f l n = v.before m column shown t f l n
-
-        was_left : (t f : ℕ) → t < q + 1 → q + 1 ≤ f → f < count → before_turn (at inactive_rows t) (column f) ≡ one_of (entry_of old.table (at inactive_rows t) f)
-        unfolding before_turn
-        was_left t f l late n = v.left m column shown t f l late n
-
         -- columns up to the row's own aren't touched as it takes ones
         early : (f : ℕ) → f < q + 1 → after_turn (at inactive_rows q) (column f) ≡ entry_of old.table (at inactive_rows q) f
-        unfolding after_turn
         early f l =
-            turn.kept before_turn (column f) (λ t from n. later t f from n (omega arith) ∙ if_apart t f 1 0 (λ e. omega (arith, e, from, l)))
-            ∙ was_before q f (omega arith) l
+            turn.kept before_turn (column f) (λ t from n. v.units m column shown t f from n (omega arith) ∙ if_apart t f 1 0 (λ e. omega (arith, e, from, l)))
+            ∙ v.before m column shown q f (omega arith) l
 
         own_unit : (f : ℕ) → f < count → after_turn (at inactive_rows q) (column f) ≡ (if q == f then 1 else 0)
-        unfolding after_turn
         own_unit f l = elim (cases_lt f (q + 1)) [
           | inl first ↦ early f first ∙ elim (cases_eq q f) [
             | inl e ↦ rw (← e) (echelon.ones q inside ∙ sym (if_same q q 1 0 refl))
             | inr d ↦ echelon.zeros q f (fits q inside) (omega arith) l ∙ sym (if_apart q f 1 0 d)
           ]
           | inr late ↦
-              turn.cleared before_turn column later (λ g from n. was_left q g (omega arith) from n ∙ ap (λ table. one_of (entry_of table (at inactive_rows q) g)) (sym v.records.table)) f late l l
+              turn.cleared before_turn column (v.units m column shown) (λ g from n. v.left m column shown q g (omega arith) from n ∙ ap (λ table. one_of (entry_of table (at inactive_rows q) g)) (sym v.records.table)) f late l l
               ∙ sym (if_apart q f 1 0 (λ e. omega (arith, e, late)))
         ]
-
-        own_zero : (f : ℕ) → f < count → f ≢ q → after_turn (at inactive_rows q) (column f) ≡ 0
-        own_zero f l d = own_unit f l ∙ if_apart q f 1 0 (λ e. d (sym e))
 
         units_next : AreUnits inactive_rows q count column (rows_after octets gives.steps after_turn)
         units_next t f from l n =
             gives.elsewhere after_turn (at inactive_rows t) (column f) (λ p u. apart p t (omega arith) l (omega arith))
             ∙ elim (cases_eq t q) [
               | inl e ↦ rw e (own_unit f n)
-              | inr d ↦ after_elsewhere (at inactive_rows t) (column f) (apart t q l inside d) ∙ later t f (omega arith) l n
+              | inr d ↦ turn.elsewhere before_turn (at inactive_rows t) (column f) (apart t q l inside d) ∙ v.units m column shown t f (omega arith) l n
             ]
 
         -- a row before this one, where this one has 0, and where it has 1
         stays : (t f : ℕ) → t < q → f < count → f ≢ q → rows_after octets gives.steps after_turn (at inactive_rows t) (column f) ≡ before_turn (at inactive_rows t) (column f)
-        stays t f l n d = gives.kept after_turn (at inactive_rows t) (column f) (own_zero f n d) ∙ after_elsewhere (at inactive_rows t) (column f) (apart t q (omega arith) inside (omega arith))
+        stays t f l n d = gives.kept after_turn (at inactive_rows t) (column f) (own_unit f n ∙ if_apart q f 1 0 (λ e. d (sym e))) ∙ turn.elsewhere before_turn (at inactive_rows t) (column f) (apart t q (omega arith) inside (omega arith))
 
         tables : mid.table ≡ old.table
         tables = turn.records.table ∙ v.records.table
@@ -263,11 +236,10 @@ module _ (inactive_rows : List ℕ) (count : ℕ) where
         loses : (t : ℕ) → t < q → rows_after octets gives.steps after_turn (at inactive_rows t) (column q) ≡ one_of (entry_of old.table (at inactive_rows t) q)
         loses t l =
             gives.given after_turn (column q) t (own_unit q inside ∙ if_same q q 1 0 refl) l
-            (after_elsewhere (at inactive_rows t) (column q) (apart t q (omega arith) inside (omega arith)) ∙ was_before t q (omega arith) (omega arith) ∙ ap (λ table. entry_of table (at inactive_rows t) q) (sym tables))
+            (turn.elsewhere before_turn (at inactive_rows t) (column q) (apart t q (omega arith) inside (omega arith)) ∙ v.before m column shown t q (omega arith) (omega arith) ∙ ap (λ table. entry_of table (at inactive_rows t) q) (sym tables))
             ∙ ap (λ table. one_of (entry_of table (at inactive_rows t) q)) tables
 
     pub back_more : SubstitutesBack inactive_rows count q old new
-    unfolding before_turn after_turn
     back_more = record {
       steps = v.steps ++ (turn.steps ++ gives.steps);
       records = records_more v.steps (turn.steps ++ gives.steps) old cur new v.records (records_more turn.steps gives.steps cur mid new turn.records gives.records);
@@ -277,9 +249,9 @@ module _ (inactive_rows : List ℕ) (count : ℕ) where
       elsewhere = λ m r k out. after_all m r k ∙ gives.elsewhere (after_turn m) r k (λ p l. out p (omega arith)) ∙ turn.elsewhere (before_turn m) r k (λ e. out q inside (sym e)) ∙ v.elsewhere m r k out;
       kept = λ m r k zeros. after_all m r k ∙ gives.kept (after_turn m) r k (zero_after m k zeros (at inactive_rows q) ∙ zeros q inside) ∙ zero_after m k zeros r;
       units = λ m column shown t f from l n. after_all m (at inactive_rows t) (column f) ∙ units_next m column shown t f from l n;
-      before = λ m column shown t f l n. after_all m (at inactive_rows t) (column f) ∙ stays m column shown t f l (omega arith) (omega arith) ∙ was_before m column shown t f (omega arith) (omega arith);
+      before = λ m column shown t f l n. after_all m (at inactive_rows t) (column f) ∙ stays m column shown t f l (omega arith) (omega arith) ∙ v.before m column shown t f (omega arith) (omega arith);
       left = λ m column shown t f l late n. after_all m (at inactive_rows t) (column f) ∙ elim (cases_eq f q) [
         | inl e ↦ rw e (loses m column shown t l)
-        | inr d ↦ stays m column shown t f l n d ∙ was_left m column shown t f (omega arith) (omega arith) n
+        | inr d ↦ stays m column shown t f l n d ∙ v.left m column shown t f (omega arith) (omega arith) n
       ];
     }

@@ -3,11 +3,11 @@ pub mod FourthPhase
 pub mod HdpcOctets
 pub mod HomogeneousColumns
 pub mod InactiveColumns
+pub mod LeftRows
 pub mod Peeled
 pub mod PhaseOutcome
 pub mod Phases
 pub mod PivotAdditions
-pub mod RowOrder
 pub mod SecondPhase
 pub mod SolverState
 pub mod Solving

@@ -15,9 +15,9 @@ use Rattle.rq_elimination.specs.PhaseCounts.{AreInOrder, first_of, second_of, fo
 use Rattle.rq_elimination.specs.declared.counts.PhaseEnds.{PhaseEnds}
 use Rattle.rq_elimination.specs.declared.recorded.RecordedRows.{RecordedRows}
 use Rattle.rq_solver.specs.FirstPhase.{ClearsPivots, TakesPivotsAlone}
+use Rattle.rq_solver.specs.LeftRows.{ListsRows}
 use Rattle.rq_solver.specs.Peeled.{IsUnderWay}
 use Rattle.rq_solver.specs.Phases.{RunsLater}
-use Rattle.rq_solver.specs.RowOrder.{ListsRows}
 use Rattle.rq_solver.specs.Solving.{Solver}
 use Rattle.rq_solver.specs.declared.pi_solver.peeled.Peeled.{Peeled}
 use Rattle.rq_solver.specs.declared.pi_solver.phase_outcome.PhaseOutcome.{PhaseOutcome}

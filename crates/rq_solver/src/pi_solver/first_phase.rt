@@ -1,13 +1,11 @@
 //! The first phase after the choice of pivots (RFC 6330, section 5.4.2.2): the pivots' columns are
-//! cleared in all rows, in those of bits and in the HDPC rows. Its state is `RecordedRows`
-//! (of `rq_elimination`), with `HdpcRows` beside it for the HDPC rows, and in the end it makes
-//! `Peeled`, and lists the rows that are left.
+//! cleared in all rows, in those of bits and in the HDPC rows.
 ghost use Rattle.std.specs.Prelude.{◌≡◌, ◌-◌, ◌/◌, length, IfOk};
 ghost use Rattle.rq_peeling.specs.Peeling.{IsPeeled};
 ghost use Rattle.rq_solver.specs.FirstPhase.{AddsFirst, ClearsPivots, TakesPivotsAlone};
+ghost use Rattle.rq_solver.specs.LeftRows.{ListsRows};
 ghost use Rattle.rq_solver.specs.Peeled.{IsUnderWay};
 ghost use Rattle.rq_solver.specs.PivotAdditions.{PivotsHaveTaken};
-ghost use Rattle.rq_solver.specs.RowOrder.{ListsRows};
 
 mod clear_bits;
 mod clear_hdpc;
@@ -46,7 +44,11 @@ pub(super) fn first_phase(
     let hdpc_count = system.hdpc.height();
     let sparsify_limit = (system.width - hdpc_count) / 2;
     let left = left_rows(alloc, height, system.first_hdpc, hdpc_count, peeling.rows())?;
-    let (ones, bounds, recorded) = clear_pivots(alloc, system, &peeling, left.as_slice())?;
+    let ClearedRows {
+        ones,
+        bounds,
+        recorded,
+    } = clear_pivots(alloc, system, &peeling, left.as_slice())?;
     let peeled = Peeled {
         peeling,
         ones,
@@ -56,21 +58,29 @@ pub(super) fn first_phase(
     Ok((peeled, left, recorded))
 }
 
-// Clears the pivots' columns in all rows, in their order. Answers the ones of the rows of bits, where
-// what each row took begins, and the rows with their entries in the inactive columns.
+// The ones of the rows of bits, where the operations begin by which each row took others, and the
+// entries of all rows in the inactive columns.
+#[derive(Drop)]
+struct ClearedRows {
+    ones: RowOnes,
+    bounds: Vec<usize>,
+    recorded: RecordedRows,
+}
+
+// Clears the pivots' columns in all rows, in their order.
 fn clear_pivots(
     alloc: Global,
     system: System,
     peeling: &Peeling,
     left: &[usize],
-) -> Result<(RowOnes, Vec<usize>, RecordedRows), AllocError>
+) -> Result<ClearedRows, AllocError>
     requires peeled { IsPeeled system.width system.ones peeling.now }
     requires listed { ListsRows (length system.ones) peeling.now.rows left.now }
-    ensures ones { IfOk result (λ answer. answer.0 ≡ system.ones) }
-    ensures cleared { IfOk result (λ answer. ClearsPivots system peeling.now left.now answer.2) }
-    ensures alone { IfOk result (λ answer. TakesPivotsAlone system peeling.now.rows answer.2.operations) }
-    ensures taken { IfOk result (λ answer. PivotsHaveTaken system.ones peeling.now answer.1.items answer.2) }
-    ensures few { IfOk result (λ answer. AddsFirst system peeling.now answer.2) }
+    ensures ones { IfOk result (λ rows. rows.ones ≡ system.ones) }
+    ensures cleared { IfOk result (λ rows. ClearsPivots system peeling.now left.now rows.recorded) }
+    ensures alone { IfOk result (λ rows. TakesPivotsAlone system peeling.now.rows rows.recorded.operations) }
+    ensures taken { IfOk result (λ rows. PivotsHaveTaken system.ones peeling.now rows.bounds.items rows.recorded) }
+    ensures few { IfOk result (λ rows. AddsFirst system peeling.now rows.recorded) }
 {
     let table = fill_inactive(alloc, &system, peeling)?;
     let System {
@@ -87,5 +97,9 @@ fn clear_pivots(
     let mut recorded = RecordedRows::new(alloc, table, room)?;
     let bounds = clear_rows(&ones, peeling, left, &mut recorded)?;
     clear_octets(hdpc, first_hdpc, peeling, &mut recorded)?;
-    Ok((ones, bounds, recorded))
+    Ok(ClearedRows {
+        ones,
+        bounds,
+        recorded,
+    })
 }

@@ -1,6 +1,5 @@
-//! `Peeled`: what no phase behind the first changes (RFC 6330, section 5.4.2). The first phase makes it
-//! when it ends, and it is lent to all others. What these change stands beside it: the list of the rows
-//! that have no pivot yet, and `RecordedRows` (of `rq_elimination`).
+//! `Peeled`: what the first phase leaves and no phase behind it changes (RFC 6330, section 5.4.2), and
+//! which row stands at a place (`row_at`).
 ghost use Rattle.std.specs.Prelude.{◌≡◌, ◌+◌, ◌<◌, ◌≤◌, ◌++◌, length};
 ghost use Rattle.rq_algebra.specs.Systems.{at};
 

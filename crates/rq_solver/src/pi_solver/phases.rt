@@ -1,14 +1,14 @@
-//! The order of the phases (RFC 6330, section 5.4.2): the first; the second, forward (`eliminate`); the
-//! third (`sparsify`); the second, back (`back_substitute`); the fourth (`clear_inactive`) with the
-//! fifth (`redo_additions`). The third and the fifth are done for single rows, and counted as the
-//! fourth's. What the first phase leaves in `Peeled` is lent to the others.
+//! `run_phases`, which goes through the phases in this order (RFC 6330, section 5.4.2): the first; the
+//! second, forward (`eliminate`); the third (`sparsify`); the second, back (`back_substitute`); the
+//! fourth (`clear_inactive`) with the fifth (`redo_additions`). The third and the fifth are done for
+//! single rows, and counted as the fourth's.
 ghost use Rattle.std.specs.Prelude.{◌≡◌, ℕ, ◌+◌, ◌*◌, ◌<◌, ◌≤◌, ◌++◌, length, map, IfNone, IfOk, OnOk};
 ghost use Rattle.rq_algebra.specs.Systems.{at};
 ghost use Rattle.rq_elimination.specs.OperationCounts.{additions};
+ghost use Rattle.rq_solver.specs.LeftRows.{ListsRows};
 ghost use Rattle.rq_solver.specs.PhaseOutcome.{in_row_order, recorded_in, RunsPhases};
 ghost use Rattle.rq_solver.specs.Peeled.{IsUnderWay};
 ghost use Rattle.rq_solver.specs.Phases.{AddsLater, FindsOrder, RunsLater, SolvesSystem};
-ghost use Rattle.rq_solver.specs.RowOrder.{ListsRows};
 
 use super::first_phase::first_phase;
 use super::fourth_phase::clear_inactive::clear_inactive;

@@ -1,6 +1,6 @@
 //! The second phase (RFC 6330, section 5.4.2.3): elimination over the inactive columns among the rows
 //! that have no pivot yet (`eliminate`) and, after `sparsify`, substitution back (`back_substitute`).
-ghost use Rattle.std.specs.Prelude.{◌≢◌, ◌+◌, ◌-◌, ◌<◌, ◌≤◌, ◌∷◌, [], length, OnOk, IfOk, IsPermutation};
+ghost use Rattle.std.specs.Prelude.{◌≢◌, ◌+◌, ◌<◌, ◌≤◌, ◌∷◌, [], length, OnOk, IfOk, IsPermutation};
 ghost use Rattle.rq_algebra.specs.Systems.{at};
 ghost use Rattle.rq_parts.specs.DenseOctetMatrix.{entry_of};
 ghost use Rattle.rq_elimination.specs.OperationCounts.{additions, multiples, triangle};

@@ -1,7 +1,7 @@
 //! A null vector, which shows what equations leave open, and for which the RFC has no phase: where an
 //! inactive column is left without a pivot, the rows as the second phase left them (RFC 6330, section
 //! 5.4.2.3) are solved with zeros as values.
-ghost use Rattle.std.specs.Prelude.{◌≡◌, ℕ, ◌+◌, ◌<◌, ◌≤◌, All, length, IfOk};
+ghost use Rattle.std.specs.Prelude.{◌≡◌, ℕ, ◌<◌, ◌≤◌, All, length, IfOk};
 ghost use Rattle.rq_algebra.specs.Operations.{plain};
 ghost use Rattle.rq_algebra.specs.Parities.{sum_listed};
 ghost use Rattle.rq_algebra.specs.Systems.{at, IsColumn};
@@ -49,14 +49,11 @@ fn solve_left_rows(peeled: &Peeled, left: &[usize], recorded: &RecordedRows, col
     ensures zeros { HasZerosAtPivots peeled.now.peeling 0 column.new }
 {
     let peeling = &peeled.peeling;
-    let pivots = peeling.pivots();
-    let free = free_column(&recorded.table, left, peeling.width() - pivots);
-    column[peeling.column_at(pivots + free)] = 1;
+    let free = free_column(&recorded.table, left, peeling.width() - peeling.pivots());
+    column[peeling.inactive_column(free)] = 1;
     for done in 0..free {
         let place = free - 1 - done;
-        column[peeling.column_at(pivots + place)] = sum_behind(
-            peeled, left, recorded, place, column,
-        );
+        column[peeling.inactive_column(place)] = sum_behind(peeled, left, recorded, place, column);
     }
 }
 
@@ -77,11 +74,10 @@ fn sum_behind(
     ensures { result ≡ inactive_dot peeled.now.peeling recorded.now.table column.now (at left.now place) }
 {
     let peeling = &peeled.peeling;
-    let pivots = peeling.pivots();
     let row = left[place];
     let mut sum = Octet::zero();
-    for f in place + 1..peeling.width() - pivots {
-        let octet = Octet::new(column[peeling.column_at(pivots + f)]);
+    for f in place + 1..peeling.width() - peeling.pivots() {
+        let octet = Octet::new(column[peeling.inactive_column(f)]);
         sum += recorded.table.get(row, f) * octet;
     }
     sum.byte()

@@ -2,8 +2,8 @@
 ghost use Rattle.std.specs.Prelude.{◌≡◌, ◌*◌, ◌<◌, length, IfOk, OnOk};
 ghost use Rattle.rq_elimination.specs.RecordedRows.{AddsAtMost};
 ghost use Rattle.rq_peeling.specs.RowOnes.{ones_of};
+ghost use Rattle.rq_solver.specs.LeftRows.{ListsRows};
 ghost use Rattle.rq_solver.specs.PivotAdditions.{ClearsAllRows, PeelsRows, PivotsHaveTaken, TakesPivots};
-ghost use Rattle.rq_solver.specs.RowOrder.{ListsRows};
 
 use crate::pi_solver::peeled::row_at;
 use rq_bytes::octet::Octet;

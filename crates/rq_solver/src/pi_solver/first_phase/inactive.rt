@@ -1,6 +1,6 @@
 //! The first phase fills the matrix U of RFC 6330 (section 5.4.2.2) from the system: the entries of
 //! rows in the inactive columns.
-ghost use Rattle.std.specs.Prelude.{◌≡◌, ◌<◌, ◌≤◌, ◌+◌, ◌-◌, ℕ, All, length, IfOk, OnOk};
+ghost use Rattle.std.specs.Prelude.{◌≡◌, ◌<◌, ◌≤◌, ◌+◌, ℕ, All, length, IfOk, OnOk};
 ghost use Rattle.rq_parts.specs.DenseOctetMatrix.{entry_of, HasOctets};
 ghost use Rattle.rq_solver.specs.InactiveColumns.{AreFilled, FillsColumn, FillsHdpcRow, HasInactive};
 ghost use Rattle.rq_peeling.specs.ColumnState.{IsOrderOf};
@@ -39,7 +39,7 @@ fn fill_columns(system: &System, peeling: &Peeling, inactive: usize, entries: &m
     ensures { AreFilled system.now.ones peeling.now inactive (length system.now.ones) entries.new }
 {
     for f in 0..inactive {
-        let column = peeling.column_at(peeling.pivots() + f);
+        let column = peeling.inactive_column(f);
         fill_column(system.column_rows.rows_in(column), f, entries);
     }
 }

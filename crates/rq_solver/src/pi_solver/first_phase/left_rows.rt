@@ -1,9 +1,9 @@
 //! The rows of a system that have no pivot, in the order in which they are worked on (RFC 6330, section
 //! 5.4.2.2).
-ghost use Rattle.std.specs.Prelude.{◌≡◌, ℕ, ◌+◌, ◌<◌, ◌≤◌, true, false, length, slice_index_or, IfOk};
+ghost use Rattle.std.specs.Prelude.{◌≡◌, ℕ, ◌+◌, ◌<◌, ◌≤◌, false, length, slice_index_or, IfOk};
 ghost use Rattle.rq_algebra.specs.Arrangements.{ArePlaces};
 ghost use Rattle.rq_algebra.specs.Systems.{at};
-ghost use Rattle.rq_solver.specs.RowOrder.{row_in_turn, ListsRows, MarksRows};
+ghost use Rattle.rq_solver.specs.LeftRows.{row_in_turn, ListsRows, MarksRows};
 
 use std::alloc::{AllocError, Global};
 

@@ -12,10 +12,10 @@ use Rattle.rq_peeling.specs.System.{rows_of_system}
 use Rattle.rq_peeling.specs.declared.system.System.{System}
 use Rattle.rq_solver.specs.FirstPhase.{AddsFirst, ClearsPivots}
 use Rattle.rq_solver.specs.HdpcOctets.{hdpc_bound}
+use Rattle.rq_solver.specs.LeftRows.{ListsRows}
 use Rattle.rq_solver.specs.Peeled.{inactive_count}
 use Rattle.rq_solver.specs.PhaseOutcome.{RunsOverSystem}
 use Rattle.rq_solver.specs.Phases.{then_ordered, AddsLater, FindsOrder, SolvesSystem}
-use Rattle.rq_solver.specs.RowOrder.{ListsRows}
 use Rattle.rq_solver.specs.declared.pi_solver.peeled.Peeled.{Peeled}
 use Rattle.rq_solver.proofs.CountLaws.{few_in_all}
 use Rattle.rq_solver.proofs.LeftRows.{all_few}

@@ -23,10 +23,10 @@ loop-f-preserved c =
     let f = c.loop-f.f in
     let row = entry_of c.args.recorded.now.table (at c.args.left.now c.args.place) in
     let entries = inactive_entry e.peeling c.args.column.now in
-    let octet_is : c.new-octet.result ≡ entries f = c.new-octet.ensures ∙ ap (at c.args.column.now) (c.column_at.ensures ∙ ap (λ (n : ℕ). at e.peeling.order (n + f)) c.pivots-pivots.ensures) in
+    let octet_is : c.new-octet.result ≡ entries f = c.new-octet.ensures ∙ ap (at c.args.column.now) c.inactive_column.ensures in
     let small : entries f < 256 = omega (arith, c.type_inv.column (at e.peeling.order (length e.peeling.rows + f))) in
     let below : (at c.args.left.now c.args.place) < length c.args.recorded.now.table.rows = c.requires.under_way.listed.below c.args.place c.requires.row in
-    let entry_small : row f < 256 = c.args.recorded.now.octets.elements (at c.args.left.now c.args.place) f below (omega (arith, c.loop-f-test.true, c.requires.under_way.pivots.wide, c.width.ensures, c.pivots-pivots.ensures)) in
+    let entry_small : row f < 256 = c.args.recorded.now.octets.elements (at c.args.left.now c.args.place) f below (omega (arith, c.loop-f-test.true, c.requires.under_way.pivots.wide, c.width.ensures, c.pivots.ensures)) in
     let next : suc f ≡ f + 1 = omega arith in
     c.add_assign.ensures.after
     ∙ ap (λ (s : ℕ). bit_xor s c.mul.result) c.loop-f.invariant
@@ -36,5 +36,5 @@ loop-f-preserved c =
 pub returns : goal.returns
 returns c =
     let e = c.args.peeled.now in
-    let end : c.loop-f.f ≡ inactive_count e.peeling = omega (arith, c.loop-f.auto.f-end, c.loop-f-test.false, c.width.ensures, c.pivots-pivots.ensures, c.requires.column) in
+    let end : c.loop-f.f ≡ inactive_count e.peeling = omega (arith, c.loop-f.auto.f-end, c.loop-f-test.false, c.width.ensures, c.pivots.ensures, c.requires.column) in
     c.byte.ensures ∙ c.loop-f.invariant ∙ ap (λ (n : ℕ). dot octets n (entry_of c.args.recorded.now.table (at c.args.left.now c.args.place)) (inactive_entry e.peeling c.args.column.now)) end

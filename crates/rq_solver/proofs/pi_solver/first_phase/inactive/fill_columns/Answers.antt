@@ -19,8 +19,8 @@ loop-f-preserved c =
     let column : ℕ = at order (pivots + f) in
     let in_width : column < system.width = (c.requires.peeled.columns.ordered (pivots + f) (omega (arith, inside, c.requires.inactive))).0 in
     let fills = c.fill_column.ensures in
-    let is : c.column_at-column.result ≡ column = c.column_at-column.ensures ∙ ap (λ (n : ℕ). at order (n + f)) c.pivots.ensures in
-    let rows : c.rows_in.result.now ≡ rows_with lists column (length lists) = c.rows_in.ensures.rows ∙ system.column_lists c.column_at-column.result (rw (is, system.column_count) in_width) ∙ ap (λ (k : ℕ). rows_with lists k (length lists)) is in
+    let is = c.inactive_column-column.ensures in
+    let rows : c.rows_in.result.now ≡ rows_with lists column (length lists) = c.rows_in.ensures.rows ∙ system.column_lists c.inactive_column-column.result (rw (is, system.column_count) in_width) ∙ ap (λ (k : ℕ). rows_with lists k (length lists)) is in
     let here : (i : ℕ) → i < length lists → min 1 (count_by (λ row. row == i) c.rows_in.result.now) ≡ one_in lists i column = (λ (i : ℕ) (l : i < length lists).
     let counted = ap (count_by (λ row. row == i)) rows ∙ count_rows lists column (length lists) i l in
     let once = system.bits.once i column l in_width in

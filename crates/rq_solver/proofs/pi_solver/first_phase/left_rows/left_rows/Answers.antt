@@ -1,6 +1,6 @@
 -- What the check leaves to show of `pi_solver::first_phase::left_rows::left_rows`.
 use Rattle.std.proofs.Common.{◌≡◌, ℕ, ◌++◌, ◌∷◌, [], ap, ◌∙◌, arith}
-use Rattle.rq_solver.specs.RowOrder.{row_in_turn}
+use Rattle.rq_solver.specs.LeftRows.{row_in_turn}
 use Rattle.rq_solver.proofs.LeftRows.{lists_rows, turns_apart, turn_below, turns_more, turns_none, turns_skipped}
 use Rattle.rq_solver.proofs.pi_solver.first_phase.left_rows.left_rows.Goals as goal
 use Rattle.rq_solver.proofs.pi_solver.first_phase.left_rows.left_rows.Goals.{then-not-has_pivot-row+in_ok-push, else-not-has_pivot-row}

@@ -1,5 +1,5 @@
 -- What the loop keeps in `pi_solver::first_phase::left_rows::left_rows`.
-use Rattle.rq_solver.specs.RowOrder.{row_in_turn}
+use Rattle.rq_solver.specs.LeftRows.{row_in_turn}
 use Rattle.rq_solver.proofs.LeftRows.{ListsTurns}
 use Rattle.rq_solver.proofs.pi_solver.first_phase.left_rows.left_rows.Given as goal
 

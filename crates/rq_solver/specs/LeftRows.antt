@@ -1,4 +1,4 @@
--- The order in which the rows of a system are worked on.
+-- The rows that are left beside those of the pivots, and the order in which they are listed.
 use Rattle.std.specs.Prelude.{◌≡◌, ◌≢◌, ◌⊎◌, ℕ, ◌+◌, ◌-◌, ◌<◌, if◌then◌else◌, nat_lt, List, Bool, true, false, Contains, length, slice_index_or}
 use Rattle.rq_algebra.specs.Arrangements.{ArePlaces}
 use Rattle.rq_algebra.specs.Systems.{at}
