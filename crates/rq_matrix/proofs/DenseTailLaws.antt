@@ -14,7 +14,7 @@ use Rattle.rq_parts.proofs.BitPairLaws.{packed_bit-at, sum_of_bits}
 use Rattle.rq_parts.specs.ListedLaws.{listed-self, listed-other}
 use Rattle.rq_parts.proofs.ListedBits.{listed-append}
 use Rattle.rq_parts.specs.PackedBits.{HasZerosBetween, IsLastOne}
-use Rattle.rq_matrix.specs.DenseTails.{with_word_added, Tail, tail_bit, IsTail, SetsTailBit, MarksRows, AddsTailRow, PushesColumn}
+use Rattle.rq_matrix.specs.DenseTails.{with_word_added, Tail, tail_bit, IsTail, SetsTailBit, SetsTailOnes, AddsTailRow, PushesColumn}
 use Rattle.rq_parts.proofs.PackedBits.{packed_bit-zeros}
 
 -- ---- one word added to another one
@@ -181,10 +181,10 @@ last_one-word tail row next end bit word some is last on none =
 
 -- ---- rows marked one after another
 
-pub marks_none : (tail : Tail) (column : ℕ) → MarksRows tail [] column tail
+pub marks_none : (tail : Tail) (column : ℕ) → SetsTailOnes tail [] column tail
 marks_none tail column = record { rows = refl; columns = refl; marked = λ r some. absurd (omega arith); unmarked = λ r none. refl; other_columns = λ r k other. refl }
 
-pub marks_more : (old mid new : Tail) (listed : List ℕ) (n row column : ℕ) → n < length listed → row ≡ get_or listed n 0 → MarksRows old (take n listed) column mid → SetsTailBit mid row column 1 new → MarksRows old (take (n + 1) listed) column new
+pub marks_more : (old mid new : Tail) (listed : List ℕ) (n row column : ℕ) → n < length listed → row ≡ get_or listed n 0 → SetsTailOnes old (take n listed) column mid → SetsTailBit mid row column 1 new → SetsTailOnes old (take (n + 1) listed) column new
 marks_more old mid new listed n row column within is marks sets =
     let more : take (n + 1) listed ≡ take n listed ++ row ∷ [] = take_more listed n 0 within ∙ ap (λ x. take n listed ++ x ∷ []) (sym is) in
     let count : (r : ℕ) → listed_bit (take (n + 1) listed) r ≡ listed_bit (take n listed) r + listed_bit (row ∷ []) r = λ r. ap (λ (l : List ℕ). listed_bit l r) more ∙ listed-append (take n listed) (row ∷ []) r in

@@ -6,7 +6,7 @@ use Rattle.rq_bytes.specs.BinaryOctetVec.{packed_bit}
 use Rattle.rq_standard.specs.BitTable.{BitTable}
 use Rattle.rq_standard.specs.BitTableSteps.{SwapsPlaces, SetsBit, SetsBoundary, AddsRowFrom, ArePlacesOfOnes, AreBitsOf, bit_of}
 use Rattle.rq_parts.specs.SparseBinaryVec.{listed_bit, SetsListed, IsListedSum}
-use Rattle.rq_matrix.specs.DenseTails.{Tail, tail_bit, SetsTailBit, AddsTailRow, PushesColumn, MarksRows}
+use Rattle.rq_matrix.specs.DenseTails.{Tail, tail_bit, SetsTailBit, AddsTailRow, PushesColumn, SetsTailOnes}
 use Rattle.rq_matrix.specs.Orders.{Order, IsPlacedOrder, ExchangesPlaces}
 use Rattle.rq_matrix.specs.SparseBinaryMatrix.{sparse_bit}
 use Rattle.rq_matrix.specs.SparseTables.{bit-before, bit-from}
@@ -187,7 +187,7 @@ module _ (height width boundary : ℕ) (indexed : Bool) (rows : List (List ℕ))
 
 pub made_dense : (height width boundary i column : ℕ) (indexed : Bool) (rows : List (List ℕ)) (row_order columns : Order) (tail mid new : Tail) (listed : List ℕ) → IsPlacedOrder row_order → height ≤ length row_order.order → length row_order.order ≡ length rows → tail.rows ≡ length rows
     → i + 1 ≡ boundary → boundary ≤ width → tail.columns ≡ width - boundary → column ≡ get_or columns.order i 0 → ((r : ℕ) → listed_bit (get_or rows r []) column < 2)
-    → ArePlacesOfOnes (λ r. listed_bit (get_or rows r []) column) 0 (length rows) listed → PushesColumn tail mid → MarksRows mid listed (width - 1 - i) new
+    → ArePlacesOfOnes (λ r. listed_bit (get_or rows r []) column) 0 (length rows) listed → PushesColumn tail mid → SetsTailOnes mid listed (width - 1 - i) new
     → SetsBoundary (table height width boundary indexed rows row_order columns tail) i (table height width i indexed rows row_order columns new)
 made_dense height width boundary i column indexed rows row_order columns tail mid new listed is_rows tall stored tail_rows last within count at_column small places pushes marks = record {
   height = refl;

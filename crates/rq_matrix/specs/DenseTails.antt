@@ -41,7 +41,7 @@ pub record SetsTailBit (old : Tail) (row column bit : ℕ) (new : Tail) : Type 0
   pub other_rows : (r k : ℕ) → r ≢ row → tail_bit new r k ≡ tail_bit old r k
 
 -- in a column the bits of the listed rows are ones, and the others are as they were
-pub record MarksRows (old : Tail) (listed : List ℕ) (column : ℕ) (new : Tail) : Type 0 where
+pub record SetsTailOnes (old : Tail) (listed : List ℕ) (column : ℕ) (new : Tail) : Type 0 where
   pub rows : new.rows ≡ old.rows
   pub columns : new.columns ≡ old.columns
   pub marked : (r : ℕ) → 0 < listed_bit listed r → tail_bit new r column ≡ 1

@@ -4,7 +4,7 @@ ghost use Rattle.std.specs.Int.Bits.{bit_xor};
 ghost use Rattle.rq_bytes.specs.BinaryOctetVec.{packed_bit};
 ghost use Rattle.rq_standard.specs.BitTableSteps.{bit_of};
 ghost use Rattle.rq_parts.specs.PackedBits.{word_count, HasZerosBetween, IsLastOne};
-ghost use Rattle.rq_matrix.specs.DenseTails.{with_word_added, tail_bit, IsZeroTail, SetsTailBit, MarksRows, AddsTailRow, PushesColumn};
+ghost use Rattle.rq_matrix.specs.DenseTails.{with_word_added, tail_bit, IsZeroTail, SetsTailBit, SetsTailOnes, AddsTailRow, PushesColumn};
 
 use crate::bit_row::BitRow;
 use rq_bytes::octet::Octet;
@@ -107,7 +107,7 @@ impl DenseTail {
     pub(super) fn set_ones(&mut self, rows: &[u32], column: usize)
         requires rows { All (λ row. row < self.old.rows) rows.now }
         requires column { column < self.old.columns }
-        ensures { MarksRows self.old rows.now column self.new }
+        ensures { SetsTailOnes self.old rows.now column self.new }
     {
         for row in rows {
             self.set(*row as usize, column, Octet::one());
