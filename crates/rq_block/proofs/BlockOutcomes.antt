@@ -87,12 +87,11 @@ module _ (row : TableRow) (ids : List ℕ) (bits : BitTable) (size precode_rows 
   pub equations_without_hdpc : intermediate_symbols row ≤ row.ldpc_symbols + length ids → AreEquationsWithoutHdpc row bits handed
   equations_without_hdpc enough = binary_equations row bits handed (row.ldpc_symbols + length ids) part.shape zeros_are (ap (λ (s : Slab). s.order) zeros) enough
 
-  symbol_rows : ℕ → ℕ → ℕ
+  abbrev symbol_rows : ℕ → ℕ → ℕ
   symbol_rows = rows_of (symbol_coefficient row) ids
 
   -- its rows are the first equations
   same_without : SameEntries (row.ldpc_symbols + length ids) (intermediate_symbols row) bits.bit (first_equations row row.ldpc_symbols ids)
-  unfolding symbol_rows
   same_without i k l m = elim (cases_lt i row.ldpc_symbols) [
     | inl above ↦
         part.ldpc i k above m
@@ -119,15 +118,14 @@ module _ (row : TableRow) (ids : List ℕ) (bits : BitTable) (size precode_rows 
 -- ---- of any of the equations
 
 module _ (row : TableRow) (precode_rows : ℕ) (ids : List ℕ) (few : precode_rows ≤ row.ldpc_symbols + row.hdpc_symbols) where
-  precode_count : ℕ
+  abbrev precode_count : ℕ
   precode_count = row.ldpc_symbols + row.hdpc_symbols
 
-  id_rows : ℕ → ℕ → ℕ
+  abbrev id_rows : ℕ → ℕ → ℕ
   id_rows = rows_of (symbol_coefficient row) ids
 
   -- the first equations are among all of them
   first_stand : RowsStandIn (intermediate_symbols row) (precode_rows + length ids) (first_equations row precode_rows ids) (equation_count row ids) (equations row ids)
-  unfolding precode_count id_rows
   first_stand i l = elim (cases_lt i precode_rows) [
     | inl above ↦ (i, (omega arith), λ k n. ap (λ (r : ℕ → ℕ). r k) (stacked_above precode_count (precode_equations row) id_rows i (omega arith) ∙ sym (stacked_above precode_rows (precode_equations row) id_rows i above)))
     | inr below ↦
@@ -148,11 +146,10 @@ module _ (row : TableRow) (precode_rows : ℕ) (ids : List ℕ) (few : precode_r
 -- ---- what is left over of the values
 
 module _ (height width : ℕ) (rows : ℕ → ℕ → ℕ) (operations : List Operation) (finds : FindsColumn octets height width rows operations) (handed slab : Slab) (are : AreSymbols octets handed.symbol_size height handed.values) (order : handed.order ≡ None) (made : slab ≡ after_all operations handed) where
-  left : List (List ℕ)
+  abbrev left : List (List ℕ)
   left = (run (symbols octets) operations (unordered handed.values)).values
 
   left_is : slab.values ≡ left
-  unfolding left
   left_is = ap (λ (g : Slab). g.values) made ∙ ap (λ (t : Store (List ℕ)). (run (symbols octets) operations t).values) (store-unordered handed order)
 
   order_is : slab.order ≡ Some finds.order
@@ -162,12 +159,10 @@ module _ (height width : ℕ) (rows : ℕ → ℕ → ℕ) (operations : List Op
   size_is = ap (λ (g : Slab). g.symbol_size) made
 
   count_is : length slab.values ≡ height
-  unfolding left
   count_is = ap length left_is ∙ (run_keeps_symbols octets handed.symbol_size height operations (unordered handed.values) are).count_is
 
   -- where a column of symbols solves the rows, all that isn't read is zeros
   pub leaves_zeros : (column : ℕ → List ℕ) → IsSymbolColumn octets handed.symbol_size width column → SolvesSymbols octets height width rows column (symbol_at handed.values) → IsZeroUnread slab
-  unfolding left
   leaves_zeros column is solves o set i unread =
       let same : o ≡ finds.order = same_Some o finds.order (sym set ∙ order_is) in
       ap (λ (xs : List (List ℕ)). symbol_at xs i) left_is
@@ -176,7 +171,6 @@ module _ (height width : ℕ) (rows : ℕ → ℕ → ℕ) (operations : List Op
 
   -- and where that is zeros, the column that is found solves the rows
   pub unread_solve : IsZeroUnread slab → ((k : ℕ) → symbol_in slab k ≡ found_by (symbols octets) operations handed.values k) → SolvesSymbols octets height width rows (symbol_in slab) (symbol_at handed.values)
-  unfolding left
   unread_solve zeros reads = subst (λ (column : ℕ → List ℕ). SolvesSymbols octets height width rows column (symbol_at handed.values)) (λ j k. sym (reads k) j)
       ((finds_symbols octets height width rows operations finds handed.symbol_size handed.values are).consistent (λ i unread.
       ap (λ (xs : List (List ℕ)). symbol_at xs i) (sym left_is) ∙ zeros finds.order order_is i (subst (λ n. IsUnread n finds.order i) (sym count_is) unread) ∙ ap (λ n. replicate {A = ℕ} n 0) size_is))

@@ -181,17 +181,15 @@ pub parts_none : (c : Configuration) (k : ℕ) (symbol : ℕ → Option (List �
 parts_none c k symbol block is = record { long = ap length is ∙ omega arith; each = λ e t below none. absurd (omega arith) }
 
 -- bytes of a symbol
-pub symbol_part : (start width : ℕ) (symbol : List ℕ) → List ℕ
+abbrev pub symbol_part : (start width : ℕ) (symbol : List ℕ) → List ℕ
 symbol_part start width symbol = take (start + width - start) (drop start symbol)
 
 length-symbol_part : (start width size : ℕ) (symbol : List ℕ) → start + width ≤ size → length symbol ≡ size → length (symbol_part start width symbol) ≡ width
-unfolding symbol_part
 length-symbol_part start width size symbol within long =
     let width_is : start + width - start ≡ width = omega arith in
     length-take-le (start + width - start) (drop start symbol) (omega (arith, length-drop start symbol)) ∙ width_is
 
 get_or-symbol_part : (start width : ℕ) (symbol : List ℕ) (i : ℕ) → i < width → get_or (symbol_part start width symbol) i 0 ≡ get_or symbol (start + i) 0
-unfolding symbol_part
 get_or-symbol_part start width symbol i lt = get_or-take (start + width - start) (drop start symbol) i 0 (omega arith) ∙ get_or-drop start symbol i 0
 
 -- a symbol that is there
@@ -230,7 +228,6 @@ parts_step c k o z symbol xs part there h =
 -- one sub-block more
 pub parts_more : (c : Configuration) (k o z : ℕ) (symbol : ℕ → Option (List ℕ)) (xs ys : List ℕ) → IsAligned c → Reaches c o → o < c.symbol_size → z ≡ sub_block_size c o → AreSymbols c k symbol → HasParts c k symbol xs o
     → ys ≡ xs ++ flat_map (λ e. take (o + z - o) (drop o (unwrap_or (symbol e) []))) (range_with_len 0 k) → HasParts c k symbol ys (o + z)
-unfolding symbol_part
 parts_more c k o z symbol xs ys aligned at below is there h grown =
     subst (λ l. HasParts c k symbol l (o + z)) (sym grown) (parts_step c k o z symbol xs (part_from c o z aligned at below is) there h)
 

@@ -30,30 +30,25 @@ is_listed = is_member eqb
 to_listed : (ids : List ℕ) (x : ℕ) → Contains ids x → is_listed ids x ≡ true
 to_listed ids x at_place = (is_member-Decides Decides-eqb ids x).1 at_place
 
-from_listed : (ids : List ℕ) (x : ℕ) → is_listed ids x ≡ true → Contains ids x
-from_listed ids x listed = (is_member-Decides Decides-eqb ids x).0 listed
-
 -- a list has its own members
 own_list : (ids : List ℕ) → IsListOf (is_listed ids) ids
 own_list ids = record {
   listed = λ j below. to_listed ids (at ids j) (Contains-get_or ids j 0 below);
-  place = λ x listed. let q = from_listed ids x listed in (q.0, q.1, sym (get_or_default_zero ids q.0 x q.1) ∙ q.2);
+  place = λ x listed. let q = (is_member-Decides Decides-eqb ids x).0 listed in (q.0, q.1, sym (get_or_default_zero ids q.0 x q.1) ∙ q.2);
 }
 
 -- each id is one of a map's or a new one
 module _ (row : TableRow) (k size : ℕ) (m : Payloads) (fits : k ≤ row.extended_symbols) (ordered : IsOrdered nat_cmp m) (new : List ℕ) (has : ℕ → Bool) (more : (e : ℕ) → has e ≡ true → (has_payload m e ≡ true) ⊎ Contains new e) where
-  all_ids : List ℕ
+  abbrev all_ids : List ℕ
   all_ids = known_list row k m.entries ++ map (internal_id row k) new
 
   was_known : (x : ℕ) → known_ids row k (has_payload m) x ≡ true → Contains all_ids x
-  unfolding all_ids
   was_known x known =
       let ids = known_list row k m.entries in
       let q = (known_listed row k size m fits ordered).place x known in
       Contains-append_left ids (map (internal_id row k) new) x (subst (Contains ids) q.2 (Contains-get_or ids q.0 0 q.1))
 
   is_new : (e : ℕ) → Contains new e → Contains all_ids (internal_id row k e)
-  unfolding all_ids
   is_new e q =
       let id : ℕ = internal_id row k e in
       Contains-append_right (known_list row k m.entries) (map (internal_id row k) new) id
@@ -65,7 +60,6 @@ module _ (row : TableRow) (k size : ℕ) (m : Payloads) (fits : k ≤ row.extend
 
   -- fewer than K' determine nothing
   few_with_new : (row.extended_symbols - k) + length m.entries + length new < row.extended_symbols → DetermineBlock row k has → ⊥
-  unfolding all_ids
   few_with_new few d =
       let long = length-append (known_list row k m.entries) (map (internal_id row k) new) in
       few_not_determining row all_ids (omega (arith, long, length-known_list row k m.entries, length-map new (internal_id row k)))

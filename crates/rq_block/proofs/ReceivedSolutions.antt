@@ -130,18 +130,16 @@ module _ (h : ReceivedBlock) (m : Payloads) (held : IsHeldIn h m) where
         ]
 
     -- the coefficients as elements: what is below 256 of them counts
-    rows : ℕ → ℕ → ℕ
+    abbrev rows : ℕ → ℕ → ℕ
     rows i k = octets.mul 1 (equations h.row (received_ids h m) i k)
 
     same_dot : (i : ℕ) (x : ℕ → ℕ) → dot octets (intermediate_symbols h.row) (rows i) x ≡ dot octets (intermediate_symbols h.row) (equations h.row (received_ids h m) i) x
-    unfolding rows
     same_dot i x =
         let r = equations h.row (received_ids h m) i in
         dot_mul_row octets (intermediate_symbols h.row) 1 r x ∙ octets.one_mul _ (dot_below_size octets (intermediate_symbols h.row) r x)
 
     -- where they are as many as the source symbols and determine the block, a column solves all that was received
     pub square_received : length m.entries ≡ h.source_symbols → ReceivedDetermine h → HasReceivedSolution h
-    unfolding rows
     square_received count d =
         let f : ℕ = h.row.ldpc_symbols + h.row.hdpc_symbols in
         let n : ℕ = intermediate_symbols h.row in

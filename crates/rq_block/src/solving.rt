@@ -1,5 +1,5 @@
 //! The intermediate symbols of a block.
-ghost use Rattle.std.specs.Prelude.{◌≡◌, ◌+◌, ◌^◌, ◌<◌, ◌≤◌, IfSome, IfOk, IfErr};
+ghost use Rattle.std.specs.Prelude.{◌≡◌, ◌^◌, ◌<◌, ◌≤◌, IfSome, IfOk, IfErr};
 ghost use Rattle.rq_standard.specs.TableRows.{intermediate_symbols};
 ghost use Rattle.rq_standard.specs.Equations.{equation_count};
 ghost use Rattle.rq_block.specs.BlockSolutions.{found_operations, FindsFrom, FindsListed, FindsWithoutHdpc, IsBlockOutcome, ShowsListed, SparesHdpc};

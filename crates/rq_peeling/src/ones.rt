@@ -6,7 +6,7 @@ ghost use Rattle.rq_peeling.specs.RowOnes.{ones_of, AreOnesOfRows, AddsOneColumn
 
 use rq_bytes::slices::part;
 use rq_matrix::matrix::BinaryMatrix;
-use rq_parts::memory::memory_alone;
+use rq_parts::memory::want_of_memory;
 use std::alloc::{AllocError, Global};
 use std::marker::Model;
 
@@ -114,7 +114,7 @@ fn push_ones<T: BinaryMatrix>(
     }
     let count = columns.len() - start;
     bits.query_non_zero_columns_into(row, lt_columns, dense)
-        .map_err(memory_alone)?;
+        .map_err(want_of_memory)?;
     push_columns(dense.as_slice(), columns)?;
     Ok(count as u16)
 }

@@ -11,7 +11,7 @@ use crate::columns::ColumnOrder;
 use crate::degrees::RowDegrees;
 use crate::system::System;
 use rq_parts::graph::ConnectedComponentGraph;
-use rq_parts::memory::memory_alone;
+use rq_parts::memory::want_of_memory;
 use std::alloc::{AllocError, Global};
 
 /// What is worked on while columns of a system get pivots: how many active columns each row has, the
@@ -35,7 +35,7 @@ impl<'a> Peeler<'a> {
     {
         let degrees = RowDegrees::new(alloc, system.degrees.clone()?)?;
         let columns = ColumnOrder::new(alloc, system.width, system.lt_columns)?;
-        let graph = ConnectedComponentGraph::new(alloc, system.lt_columns).map_err(memory_alone)?;
+        let graph = ConnectedComponentGraph::new(alloc, system.lt_columns).map_err(want_of_memory)?;
         Ok(Peeler {
             system,
             degrees,

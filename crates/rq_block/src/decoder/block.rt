@@ -1,5 +1,5 @@
 //! The decoder of one source block.
-ghost use Rattle.std.specs.Prelude.{◌≡◌, ℕ, ◌^◌, ◌<◌, ◌≤◌, true, All, length, Ok, Some, None, IfSome, IfOk, IfErr, OnOk, OnErr, ◌==◌, option_map, vec_items};
+ghost use Rattle.std.specs.Prelude.{◌≡◌, ℕ, ◌^◌, ◌<◌, ◌≤◌, true, All, length, Ok, Some, IfSome, IfOk, IfErr, OnOk, OnErr, option_map, vec_items};
 ghost use Rattle.std.specs.Option.{ForSome};
 ghost use Rattle.rq_bytes.specs.Refusals.{IsAnswer};
 ghost use Rattle.rq_standard.specs.Configuration.{IsAligned};

@@ -12,7 +12,7 @@ use crate::ids::internal_symbol_id;
 use rq_base::indices::Indices;
 use rq_bytes::octets;
 use rq_bytes::symbol_slab::SymbolSlab;
-use rq_parts::memory::memory_alone;
+use rq_parts::memory::want_of_memory;
 use rq_tables::systematic_constants::CheckedRow;
 use std::alloc::{AllocError, Global};
 
@@ -71,7 +71,7 @@ fn solves_id(row: &CheckedRow, column: &[u8], internal_symbol_id: u32) -> bool
 pub(crate) fn octet_symbols(alloc: Global, column: &[u8]) -> Result<SymbolSlab, AllocError>
     ensures { IfOk result (λ slab. slab ≡ slab_of 1 (map (λ octet. octet ∷ []) column.now)) }
 {
-    let mut symbols = SymbolSlab::with_zeros(alloc, column.len(), 1).map_err(memory_alone)?;
+    let mut symbols = SymbolSlab::with_zeros(alloc, column.len(), 1).map_err(want_of_memory)?;
     symbols.copy_block_from(0, column);
     Ok(symbols)
 }

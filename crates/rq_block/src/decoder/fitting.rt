@@ -11,7 +11,7 @@ use rq_bytes::octet::Octet;
 use rq_bytes::octets;
 use rq_bytes::row_multiples::double_and_add;
 use rq_bytes::symbol_slab::SymbolSlab;
-use rq_parts::memory::memory_alone;
+use rq_parts::memory::want_of_memory;
 use rq_tables::systematic_constants::CheckedRow;
 use std::alloc::{AllocError, Global};
 
@@ -70,7 +70,7 @@ fn first_sums(
     places.push(0)?;
     let sums = intermediate
         .gather(places.as_slice())
-        .map_err(memory_alone)?;
+        .map_err(want_of_memory)?;
     Ok(sums)
 }
 

@@ -133,8 +133,7 @@ impl SourceBlockEncoder {
     }
 
     /// The encoder of these bytes in as many symbols as a plan is for. The bytes may end before the
-    /// last symbol does: the rest are zeros (RFC 6330, 4.4.1.2). The one error is
-    /// [`Error::OutOfMemory`]. Not in the Rust crate.
+    /// last symbol does: the rest are zeros (RFC 6330, 4.4.1.2). Not in the Rust crate.
     pub fn of_block(
         alloc: Global,
         number: u8,

@@ -1,5 +1,5 @@
 //! Plans: what solves the equations of every block of one size.
-ghost use Rattle.std.specs.Prelude.{◌≡◌, ◌⊎◌, ◌<◌, ◌≤◌, length, None, Ok, IfOk, IfErr, OnOk};
+ghost use Rattle.std.specs.Prelude.{◌≡◌, ◌⊎◌, ◌<◌, ◌≤◌, length, Ok, IfOk, IfErr, OnOk};
 ghost use Rattle.rq_bytes.specs.SymbolSlab.{slab_of, symbol_in, symbols_in};
 ghost use Rattle.rq_operations.specs.RecordedOperations.{operations_of};
 ghost use Rattle.rq_standard.specs.Headline.{IsNonsingular, IsSingular, IsOnlyIntermediateColumn};
@@ -13,7 +13,7 @@ use crate::solving::solve_block;
 use rq_bytes::error::Error;
 use rq_bytes::symbol_slab::SymbolSlab;
 use rq_operations::recorded::RecordedOperations;
-use rq_parts::memory::memory_alone;
+use rq_parts::memory::want_of_memory;
 use rq_tables::systematic_constants::{CheckedRow, SystematicTable};
 use std::alloc::{AllocError, Global};
 
@@ -144,6 +144,6 @@ fn source_values(row: &CheckedRow, source: &SymbolSlab) -> Result<SymbolSlab, Al
 {
     let values = source
         .among_zeros(row.precode_rows(), row.intermediate_symbols())
-        .map_err(memory_alone)?;
+        .map_err(want_of_memory)?;
     Ok(values)
 }

@@ -4,7 +4,7 @@ ghost use Rattle.std.specs.Option.{ForSome};
 ghost use Rattle.rq_matrix.specs.SparseRows.{IsSparseRow, IsColumnIndex, AddsRowPairs, places_between};
 
 use rq_parts::arraymap::{ImmutableListMap, ImmutableListMapBuilder};
-use rq_parts::memory::memory_alone;
+use rq_parts::memory::want_of_memory;
 use rq_parts::sparse_vec::SparseBinaryVec;
 use std::alloc::AllocError;
 
@@ -22,7 +22,7 @@ pub(super) fn column_index(
     for row in 0..rows.len() {
         add_ones(&mut builder, &rows[row], row as u32)?;
     }
-    let index = builder.build().map_err(memory_alone)?;
+    let index = builder.build().map_err(want_of_memory)?;
     Ok(index)
 }
 
@@ -38,7 +38,7 @@ fn add_ones(
 {
     for i in 0..ones.len() {
         let (column, _) = ones.get_by_raw_index(i);
-        builder.add(column as u16, row).map_err(memory_alone)?;
+        builder.add(column as u16, row).map_err(want_of_memory)?;
     }
     Ok(())
 }

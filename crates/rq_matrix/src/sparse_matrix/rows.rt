@@ -5,7 +5,7 @@ ghost use Rattle.rq_parts.specs.BitPairs.{sparse_pairs};
 ghost use Rattle.rq_parts.specs.SparseBinaryVec.{IsListedSum};
 
 use rq_bytes::util::get_both_indices;
-use rq_parts::memory::memory_alone;
+use rq_parts::memory::want_of_memory;
 use rq_parts::sparse_vec::{INLINE_ONES, SparseBinaryVec};
 use std::alloc::{AllocError, Global};
 
@@ -15,7 +15,7 @@ pub(super) fn empty_rows(alloc: Global, count: usize) -> Result<Vec<SparseBinary
 {
     let mut rows = Vec::with_capacity(alloc, count)?;
     for _ in 0..count {
-        rows.push(SparseBinaryVec::with_capacity(alloc, INLINE_ONES).map_err(memory_alone)?)?;
+        rows.push(SparseBinaryVec::with_capacity(alloc, INLINE_ONES).map_err(want_of_memory)?)?;
     }
     Ok(rows)
 }
@@ -35,7 +35,7 @@ pub(super) fn add_row(
     ensures refused { OnErr result (rows.new ≡ rows.old) }
 {
     let (to, from) = get_both_indices(rows, dest, src);
-    to.add_assign(from).map_err(memory_alone)?;
+    to.add_assign(from).map_err(want_of_memory)?;
     Ok(())
 }
 
