@@ -48,15 +48,13 @@ nothing_found c items bytes is = record {
 
 -- one block more
 module _ (c : Configuration) (items : List ObjectBlock) (n : ℕ) (none : Bool) (bytes : List ℕ) (column : Option (List ℕ)) (so : DifferenceSoFar c items n none bytes) (shows : ShowsUnanswered (received_at c items n) (answer_at items n) column) where
-  with_one : ℕ → Option (List ℕ)
+  abbrev with_one : ℕ → Option (List ℕ)
   with_one b = cond (eqb b n) column (so.columns b)
 
   here : with_one n ≡ column
-  unfolding with_one
   here = ap (λ t. cond t column (so.columns n)) (eq-eqb n n refl)
 
   before : (b : ℕ) → b < n → with_one b ≡ so.columns b
-  unfolding with_one
   before b below = ap (λ t. cond t column (so.columns b)) (ne_eqb b n (λ e. omega (arith, e)))
 
   told_more : (t : Bool) (o : Option (List ℕ)) → o ≡ column → TellsFound t n so.columns → TellsFound (t && is_none o) (n + 1) with_one

@@ -24,6 +24,7 @@ StopsBy Left old p e new =
     ⊎ (((packet_refusal old.configuration p ≡ Ok tt) × (e ≡ OutOfMemory) × Left)
     ⊎ ((packet_refusal old.configuration p ≡ Ok tt) × (e ≡ Contradiction) × Contradicts old p new))
 
+-- what a packet did to an object's decoder, whether it is taken or not
 abbrev pub AddsOrStops : State → Packet → Result (Unit {0}) Error → State → Type 0
 AddsOrStops old p (Ok x) new = (packet_refusal old.configuration p ≡ Ok tt) × Adds old p new
 AddsOrStops old p (Err e) new = StopsBy (StopsEarly old p new) old p e new

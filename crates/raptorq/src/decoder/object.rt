@@ -407,8 +407,7 @@ fn check_packet(
     if packet.payload_id().source_block_number() >= config.source_blocks() {
         return Err(Error::UnknownBlock);
     }
-    check_size(config, packet)?;
-    Ok(())
+    check_size(config, packet)
 }
 
 // Sets the sparse threshold of each block.
