@@ -1,5 +1,6 @@
 //! `Peeled`: what the first phase leaves and no phase behind it changes (RFC 6330, section 5.4.2), and
-//! which row stands at a place (`row_at`).
+//! which row stands at a place (`row_at`). What the others change stands beside it: the list of the rows
+//! that have no pivot yet, and `RecordedRows` (of `rq_elimination`).
 ghost use Rattle.std.specs.Prelude.{◌≡◌, ◌+◌, ◌<◌, ◌≤◌, ◌++◌, length};
 ghost use Rattle.rq_algebra.specs.Systems.{at};
 
@@ -8,8 +9,8 @@ use rq_peeling::peeling::Peeling;
 
 /// The pivots of the first phase, and what it added to their rows: the ones of each row of bits as they
 /// were handed in, and for each row, those of the pivots first, the place in the list of operations
-/// where those begin by which it took other rows. They end where the next row's begin; last stands the
-/// end of all.
+/// where those begin by which `clear_rows` added others to it. They end where the next row's begin, and
+/// last stands the end of all of them. What HDPC rows took comes behind it.
 #[derive(Drop)]
 pub(super) struct Peeled {
     pub peeling: Peeling,

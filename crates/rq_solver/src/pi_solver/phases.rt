@@ -1,7 +1,7 @@
-//! `run_phases`, which goes through the phases in this order (RFC 6330, section 5.4.2): the first; the
-//! second, forward (`eliminate`); the third (`sparsify`); the second, back (`back_substitute`); the
-//! fourth (`clear_inactive`) with the fifth (`redo_additions`). The third and the fifth are done for
-//! single rows, and counted as the fourth's.
+//! `run_phases`, which goes through the phases in this order (RFC 6330, section 5.4.2): the first (`peel`
+//! of `rq_peeling`, then `first_phase`); the second, forward (`eliminate`); the third (`sparsify`); the
+//! second, back (`back_substitute`); the fourth (`clear_inactive`), and in it the fifth, by
+//! `redo_additions`. The third and the fifth are done for some rows only, and counted as the fourth's.
 ghost use Rattle.std.specs.Prelude.{◌≡◌, ℕ, ◌+◌, ◌*◌, ◌<◌, ◌≤◌, ◌++◌, length, map, IfNone, IfOk, OnOk};
 ghost use Rattle.rq_algebra.specs.Systems.{at};
 ghost use Rattle.rq_elimination.specs.OperationCounts.{additions};
@@ -49,7 +49,7 @@ pub(super) fn run_phases(alloc: Global, system: System) -> Result<PhaseOutcome, 
 
 /// The phases behind the first: where each ends, and for each column the row that has its pivot. `None`
 /// where a column is left without one. Rows are made sparse again before others are substituted back,
-/// so that the second phase stands in two parts round one of the fourth.
+/// so that the second phase stands in two parts round the third.
 fn later_phases(
     alloc: Global,
     peeled: &Peeled,

@@ -15,7 +15,7 @@ use std::alloc::AllocError;
 
 /// Gives each of the first `count` inactive columns a pivot: a row with 1 there, where the rows behind
 /// it have 0. Works on these rows alone. The list is put in the order of the pivots' columns. Where a
-/// column is left without a pivot the answer is false.
+/// column is left without a pivot the answer is false: those before it have theirs.
 pub(super) fn eliminate(
     recorded: &mut RecordedRows,
     rows: &mut [usize],

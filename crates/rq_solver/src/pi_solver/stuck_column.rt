@@ -1,6 +1,7 @@
 //! A null vector, which shows what equations leave open, and for which the RFC has no phase: where an
-//! inactive column is left without a pivot, the rows as the second phase left them (RFC 6330, section
-//! 5.4.2.3) are solved with zeros as values.
+//! inactive column is left without a pivot, the rows that are left, as the second phase left them (RFC
+//! 6330, section 5.4.2.3), and then the pivots' rows, as they were handed in, are solved with zeros as
+//! values.
 ghost use Rattle.std.specs.Prelude.{◌≡◌, ℕ, ◌<◌, ◌≤◌, All, length, IfOk};
 ghost use Rattle.rq_algebra.specs.Operations.{plain};
 ghost use Rattle.rq_algebra.specs.Parities.{sum_listed};

@@ -17,7 +17,8 @@ use std::alloc::AllocError;
 
 /// Adds to the pivots' rows, the first first, multiples of the rows with the inactive columns' pivots,
 /// each of which has 1 in its own inactive column and 0 in the others, so that they get 0 there. Those
-/// that were made sparse take the rows of earlier pivots again, which have only their own 1 left.
+/// that were made sparse take the rows of earlier pivots again, which have only their own 1 left. That
+/// is recorded alone: stored rows stay as they are.
 pub(in crate::pi_solver) fn clear_inactive(
     peeled: &Peeled,
     left: &[usize],

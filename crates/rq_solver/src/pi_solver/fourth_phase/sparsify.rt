@@ -1,5 +1,5 @@
-//! The third phase (RFC 6330, section 5.4.2.4), for single rows: those of pivots that took
-//! `sparsify_limit` rows at most are made sparse again, where that saves additions.
+//! The third phase (RFC 6330, section 5.4.2.4), for some rows only: those of pivots that took
+//! `Peeled::sparsify_limit` rows at most are made sparse again, where that saves additions.
 ghost use Rattle.std.specs.Prelude.{◌≡◌, ◌+◌, ◌-◌, ◌*◌, ◌<◌, ◌≤◌, length, IsTrue, IfOk, OnOk};
 ghost use Rattle.rq_algebra.specs.Systems.{at};
 ghost use Rattle.rq_elimination.specs.RecordedRows.{AddsAtMost};
