@@ -126,7 +126,7 @@ make_program_deb() {
         stage 644 "$work/$program.1.gz" "usr/share/man/man1/reamertan-$program.1.gz"
     done
     for script in "${SCRIPTS[@]}"; do
-        sed 's/:-rqcast}/:-reamertan-rqcast}/' "$top/examples/$script" >"$work/$script"
+        sed 's/:-rqcast}/:-reamertan-rqcast}/; s/RQCAST=rqcast\b/RQCAST=reamertan-rqcast/' "$top/examples/$script" >"$work/$script"
         stage 755 "$work/$script" "usr/share/doc/reamertan/examples/$script"
     done
     finish utils "$(needed_glibc "${programs[@]/#/$work/x86/}")" "sends files over links that lose data (RaptorQ, RFC 6330)" \
