@@ -36,8 +36,7 @@ pub fn announce<W: Write>(sender: &Sender, out: &mut W) -> io::Result<()> {
     }
     writeln!(out, "")?;
     let blocks = head.configuration.source_blocks();
-    let largest = head.configuration.largest_block();
-    writeln!(out, "blocks {blocks} of {largest}")?;
+    writeln!(out, "blocks {blocks} of {}", sender.largest_block())?;
     writeln!(out, "cells {}", sender.cells())
 }
 

@@ -106,6 +106,13 @@ impl Sender {
         self.head
     }
 
+    /// How many source symbols the largest block of its object has (RFC 6330, section 4.4.1.2).
+    pub fn largest_block(&self) -> u64
+        ensures { result ≡ largest_block (sending_of self.now).encoded.configuration }
+    {
+        self.encoder.get_config().largest_block()
+    }
+
     /// How many cells it sends.
     pub fn cells(&self) -> u64
         ensures value { result ≡ cell_count (sending_of self.now) }
