@@ -104,7 +104,7 @@ bit_tests : (x k : ℕ) → eqb (bit_and x (2 ^ k)) (2 ^ k) ≡ eqb (x / 2 ^ k %
 bit_tests x k = ap (λ y. eqb y (2 ^ k)) (and_pow x k) ∙ eqb_scaled (x / 2 ^ k % 2) (2 ^ k) (bit_at-lt x k) (pow_pos k)
 
 -- an octet in each lane that has the bit set that its mask has, and 0 in the others
-abbrev pub where_set : ℕ → ℕ → List ℕ → List ℕ → List ℕ
+abbrev where_set : ℕ → ℕ → List ℕ → List ℕ → List ℕ
 where_set n term masks v = sel_l (zip2 eqb (zip2 bit_and v masks) masks) (replicate n term) (replicate n 0)
 
 module _ (n term : ℕ) (masks v : List ℕ) (long_masks : length masks ≡ n) (long : length v ≡ n) where

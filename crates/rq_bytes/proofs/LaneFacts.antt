@@ -6,7 +6,8 @@ use Rattle.std.proofs.lemmas.Simd.{length-zip2, length-chunk, pick_l-range_with_
 use Rattle.std.specs.List.{range_with_len}
 use Rattle.std.specs.Int.Bits.{bit_xor}
 use lib.Lanes.{zip2, chunk, put_chunk}
-use Rattle.rq_bytes.proofs.ZipUpto.{zip_upto, length-zip_upto, zip_upto_all, step_one, step_store, zip2-map_right, zip2-left}
+use Rattle.rq_bytes.specs.Lanes.{made_upto}
+use Rattle.rq_bytes.proofs.ZipUpto.{length-zip_upto, zip_upto_all, step_one, step_store, zip2-map_right, zip2-left}
 
 chunk-range : (i n k a : ℕ) → i + n ≤ k → chunk i n (range_with_len a k) ≡ range_with_len (a + i) n
 chunk-range zero zero k a fits = refl
@@ -23,10 +24,6 @@ drop-put_chunk zero zero (x ∷ xs) (y ∷ ys) past = absurd (omega arith)
 drop-put_chunk zero (suc j) (x ∷ xs) (y ∷ ys) past = drop-put_chunk zero j xs ys (omega arith)
 drop-put_chunk (suc i) zero (x ∷ xs) ys past = absurd (omega arith)
 drop-put_chunk (suc i) (suc j) (x ∷ xs) ys past = drop-put_chunk i j xs ys (omega arith)
-
--- a row of which the first i octets are made
-abbrev pub made_upto : (ℕ → ℕ → ℕ) → ℕ → List ℕ → List ℕ
-made_upto f i xs = zip_upto f i xs (range_with_len 0 (length xs))
 
 module _ (f : ℕ → ℕ → ℕ) (now xs : List ℕ) (i : ℕ) (so_far : now ≡ made_upto f i xs) where
   pub same_length : length now ≡ length xs

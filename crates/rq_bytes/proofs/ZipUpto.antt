@@ -1,12 +1,7 @@
 -- A list of which the first i elements are made by f from them and those of another.
 use Rattle.std.proofs.Common.{◌≡◌, ℕ, zero, suc, ◌+◌, ◌<◌, ◌≤◌, List, [], ◌∷◌, length, get_or, set, take, map, refl, sym, ap, ◌∙◌, arith, add-one}
 use lib.Lanes.{zip2, chunk, put_chunk}
-
-abbrev pub zip_upto : {A B : Type 0} → (A → B → A) → ℕ → List A → List B → List A
-zip_upto f zero xs ys = xs
-zip_upto f (suc i) [] ys = []
-zip_upto f (suc i) (x ∷ xs) [] = x ∷ xs
-zip_upto f (suc i) (x ∷ xs) (y ∷ ys) = f x y ∷ zip_upto f i xs ys
+use Rattle.rq_bytes.specs.Lanes.{zip_upto}
 
 pub length-zip_upto : {A B : Type 0} (f : A → B → A) (i : ℕ) (xs : List A) (ys : List B) → length (zip_upto f i xs ys) ≡ length xs
 length-zip_upto f zero xs ys = refl

@@ -2,7 +2,7 @@
 ghost use Rattle.std.specs.Prelude.{◌≡◌, ℕ, ◌+◌, ◌*◌, ◌/◌, ◌<◌, ◌≤◌, length};
 ghost use Rattle.std.specs.List.{range_with_len};
 ghost use Rattle.std.specs.Simd.Lanes.{zip2};
-ghost use Rattle.rq_bytes.specs.Lanes.{made_from};
+ghost use Rattle.rq_bytes.specs.Lanes.{made_upto};
 
 use crate::products::LANES;
 use std::simd::prelude::*;
@@ -53,7 +53,7 @@ pub(crate) fn change_row<O: LaneOperation>(octets: &mut [u8], operation: &O)
 #[inline(always)]
 fn change_pairs<O: LaneOperation>(octets: &mut [u8], operation: &O)
     requires { length octets.old ≤ O.places operation.now }
-    ensures { octets.new ≡ made_from (O.made operation.now) 0 (64 * (length octets.old / 64)) octets.old }
+    ensures { octets.new ≡ made_upto (O.made operation.now) (64 * (length octets.old / 64)) octets.old }
 {
     for pair in 0..octets.len() / (2 * LANES) {
         // Both are made before the first is written, so that all reads go ahead of the writes.

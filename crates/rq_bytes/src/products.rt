@@ -104,14 +104,14 @@ pub(crate) fn bit_products(scalar: u8, word: u64) -> u8x32
         .select(u8x32::splat(scalar), u8x32::splat(0))
 }
 
-/// A word whose 32 lowest bits are those from a place on.
+/// A word whose 32 lowest bits are those from a place on. Its others may be anything.
 #[inline(always)]
 pub(crate) fn bits_from(words: &[u64], place: usize) -> u64
     requires { place + 32 ≤ 64 * length words.now }
     ensures { (i : ℕ) → i < 32 → bit_at result i ≡ packed_bit words.now (place + i) }
 {
     let (word, shift) = (place / 64, place % 64);
-    // Where they end in the same word, none of its bits gets below bit 32 a second time.
+    // Where they end in the same word it is joined again: at shift 0 with itself, else moved past bit 31.
     let last = words[word + (shift + 31) / 64];
     (words[word] >> shift) | (last << ((64 - shift) % 64))
 }

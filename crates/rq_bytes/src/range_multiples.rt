@@ -1,4 +1,5 @@
-//! Multiples of a range of one buffer, added to other ranges of it, and a range that is doubled first.
+//! Multiples of a range of one buffer, added to other ranges of it; and a range that is doubled and summed
+//! before it is added to them.
 ghost use Rattle.std.specs.Prelude.{◌≡◌, ◌+◌, ◌<◌, ◌≤◌, length, map, All};
 ghost use Rattle.rq_bytes.specs.Ranges.{range_of};
 ghost use Rattle.rq_bytes.specs.RangeSums.{with_row_added, with_multiples_added, with_doubled_sum, doubled_sum, by_one, IsRangeBeside, BeginsNotInside};
@@ -27,16 +28,16 @@ pub(crate) fn add_multiples(bytes: &mut [u8], src: usize, targets: &[Target], le
 {
     let pieces = len / LANES;
     for piece in 0..pieces {
-        add_pieces(bytes, src, targets, LANES * piece);
+        add_multiples_of_piece(bytes, src, targets, LANES * piece);
     }
     for at in LANES * pieces..len {
-        add_octets(bytes, src, targets, at);
+        add_multiples_of_octet(bytes, src, targets, at);
     }
 }
 
 // Adds the multiples of one piece, the octets from `at` on of each range.
 #[inline(always)]
-fn add_pieces(bytes: &mut [u8], src: usize, targets: &[Target], at: usize)
+fn add_multiples_of_piece(bytes: &mut [u8], src: usize, targets: &[Target], at: usize)
     requires src { src + at + 32 ≤ length bytes.old }
     requires targets { All (λ target. target.start + at + 32 ≤ length bytes.old) targets.now }
     ensures { bytes.new ≡ with_multiples_added bytes.old (range_of bytes.old (src + at) 32) at (map start_and_octet targets.now) }
@@ -49,7 +50,7 @@ fn add_pieces(bytes: &mut [u8], src: usize, targets: &[Target], at: usize)
 
 // Adds the multiples of one octet, the one at `at` of each range.
 #[inline(always)]
-fn add_octets(bytes: &mut [u8], src: usize, targets: &[Target], at: usize)
+fn add_multiples_of_octet(bytes: &mut [u8], src: usize, targets: &[Target], at: usize)
     requires src { src + at < length bytes.old }
     requires targets { All (λ target. target.start + at < length bytes.old) targets.now }
     ensures { bytes.new ≡ with_multiples_added bytes.old (range_of bytes.old (src + at) 1) at (map start_and_octet targets.now) }

@@ -1,5 +1,5 @@
 //! Sums of symbols, in one pass over their octets.
-ghost use Rattle.std.specs.Prelude.{◌≡◌, ◌*◌, ◌<◌, ◌≤◌, length, map, All};
+ghost use Rattle.std.specs.Prelude.{◌≡◌, ◌*◌, ◌≤◌, length, map, All};
 ghost use Rattle.rq_algebra.specs.Operations.{AddAssign, meant_at};
 ghost use Rattle.rq_bytes.specs.SymbolSlab.{after_all, HasPlace, Allows, with_symbols_added};
 

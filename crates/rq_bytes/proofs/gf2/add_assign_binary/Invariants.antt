@@ -1,7 +1,7 @@
 -- What the loops keep in `gf2::add_assign_binary`.
 use Rattle.std.proofs.Common.{◌≡◌}
 use Rattle.std.specs.Int.Bits.{bit_xor}
-use Rattle.rq_bytes.proofs.ZipUpto.{zip_upto}
+use Rattle.rq_bytes.specs.Lanes.{zip_upto}
 use Rattle.rq_bytes.proofs.gf2.add_assign_binary.Given as goal
 
 abbrev pub invariant-loop-i : goal.invariant-loop-i

@@ -1,7 +1,7 @@
 -- What the check leaves to show of `lanes::change_pairs`.
-use Rattle.std.proofs.Common.{◌+◌, ◌*◌, ◌/◌, length, refl, sym, ◌∙◌, arith}
+use Rattle.std.proofs.Common.{◌+◌, ◌*◌, refl, arith}
 use Rattle.std.proofs.lemmas.Simd.{length-chunk}
-use Rattle.rq_bytes.proofs.LaneFacts.{lanes_made, two_made}
+use Rattle.rq_bytes.proofs.LaneFacts.{two_made}
 use Rattle.rq_bytes.proofs.lanes.change_pairs.Goals as goal
 
 pub lanes-made-requires-clause-long : goal.lanes-made-requires-clause-long
@@ -12,9 +12,3 @@ lanes-made_second-requires-clause-long g c = length-chunk (64 * c.loop-pair.pair
 
 pub loop-pair-preserved : goal.loop-pair-preserved
 loop-pair-preserved g c = two_made (g.O.LaneOperation.made c.args.operation.now) c.loop-pair.octets c.args.octets.now _ 32 _ (64 * (c.loop-pair.pair + 1)) _ _ c.loop-pair.invariant c.lanes-made.ensures refl c.lanes-made_second.ensures (omega arith) (omega arith)
-
-pub returns : goal.returns
-returns g c =
-    let f = g.O.LaneOperation.made c.args.operation.now in
-    let xs = c.args.octets.now in
-    c.loop-pair.invariant ∙ sym (lanes_made f xs xs 0 refl (64 * (length xs / 64)) _ _ refl (omega arith) (omega arith))

@@ -1,6 +1,6 @@
 -- What the loop keeps in `lanes::change_pairs`.
 use Rattle.std.proofs.Common.{◌≡◌, ◌*◌}
-use Rattle.rq_bytes.proofs.LaneFacts.{made_upto}
+use Rattle.rq_bytes.specs.Lanes.{made_upto}
 use Rattle.rq_bytes.proofs.lanes.change_pairs.Given as goal
 
 abbrev pub invariant-loop-pair : goal.invariant-loop-pair

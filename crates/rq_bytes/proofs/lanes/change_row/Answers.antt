@@ -1,7 +1,8 @@
 -- What the check leaves to show of `lanes::change_row`.
-use Rattle.std.proofs.Common.{◌≡◌, ◌+◌, ◌-◌, ◌*◌, ◌/◌, length, refl, ap, ◌∙◌, arith}
+use Rattle.std.proofs.Common.{◌≡◌, ◌+◌, ◌-◌, ◌*◌, ◌/◌, length, ap, ◌∙◌, arith}
 use Rattle.std.proofs.lemmas.Simd.{length-chunk}
-use Rattle.rq_bytes.proofs.LaneFacts.{made_upto, one_made, lanes_made, all_made}
+use Rattle.rq_bytes.specs.Lanes.{made_upto}
+use Rattle.rq_bytes.proofs.LaneFacts.{one_made, lanes_made, all_made}
 use Rattle.rq_bytes.proofs.lanes.change_row.Goals as goal
 use Rattle.rq_bytes.proofs.lanes.change_row.Goals.{then-blocks-eq1, else-blocks-eq1}
 
@@ -15,7 +16,7 @@ loop-k-init g c =
     let now = c.change_pairs.new.octets in
     let n = 64 * (length xs / 64) in
     let whole = 32 * (length now / 32) in
-    let pairs : now ≡ made_upto f n xs = c.change_pairs.ensures ∙ lanes_made f xs xs 0 refl n n _ refl (omega arith) (omega arith) in
+    let pairs = c.change_pairs.ensures in
     elim c.if-blocks-eq1.branch [
       | then-blocks-eq1 w ↦
           let last : n ≡ 32 * (length now / 32 - 1) = omega arith in

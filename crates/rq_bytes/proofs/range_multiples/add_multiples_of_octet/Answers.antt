@@ -1,11 +1,11 @@
--- What the check leaves to show of `range_multiples::add_octets`.
+-- What the check leaves to show of `range_multiples::add_multiples_of_octet`.
 use Rattle.std.proofs.Common.{◌+◌, [], ◌∷◌, ◌≡◌, refl}
 use Rattle.std.proofs.Math.Seq.{drop-cons}
 use Rattle.rq_standard.specs.Rows.{row_multiple}
 use Rattle.rq_bytes.specs.Ranges.{range_of}
 use Rattle.rq_bytes.specs.Targets.{start_and_octet}
 use Rattle.rq_bytes.proofs.Spreads.{next_added}
-use Rattle.rq_bytes.proofs.range_multiples.add_octets.Goals as goal
+use Rattle.rq_bytes.proofs.range_multiples.add_multiples_of_octet.Goals as goal
 
 pub loop-target-preserved : goal.loop-target-preserved
 loop-target-preserved c =

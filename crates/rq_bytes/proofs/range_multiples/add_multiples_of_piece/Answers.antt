@@ -1,11 +1,11 @@
--- What the check leaves to show of `range_multiples::add_pieces`.
+-- What the check leaves to show of `range_multiples::add_multiples_of_piece`.
 use Rattle.std.proofs.Common.{◌+◌, ap, ◌∙◌}
 use Rattle.std.proofs.lemmas.Simd.{length-chunk}
 use Rattle.rq_standard.specs.Rows.{row_multiple}
 use Rattle.rq_bytes.specs.Ranges.{range_of}
 use Rattle.rq_bytes.specs.Targets.{start_and_octet}
 use Rattle.rq_bytes.proofs.Spreads.{next_added}
-use Rattle.rq_bytes.proofs.range_multiples.add_pieces.Goals as goal
+use Rattle.rq_bytes.proofs.range_multiples.add_multiples_of_piece.Goals as goal
 
 pub new-halves-requires : goal.new-halves-requires
 new-halves-requires c = length-chunk (c.args.src + c.args.at) 32 c.args.bytes.now c.requires.src
