@@ -13,7 +13,7 @@ use Rattle.rq_elimination.specs.RowSteps.{IsEchelon}
 use Rattle.rq_peeling.specs.RowOnes.{ones_of}
 use Rattle.rq_peeling.specs.SystemRows.{one_in}
 use Rattle.rq_peeling.proofs.Counting.{count_absent}
-use Rattle.rq_solver.specs.HomogeneousColumns.{inactive_dot, inactive_entry, HasZerosAtPivots, IsZeroColumn, SolvesBehind, SolvesLeftRows, SolvesPivotRows}
+use Rattle.rq_solver.specs.HomogeneousColumns.{inactive_dot, inactive_entry, HasZerosAtPivots, IsZeroColumn, SolvesLeftRows, SolvesPivotRows}
 use Rattle.rq_solver.specs.Peeled.{inactive_count}
 use Rattle.rq_solver.specs.PivotAdditions.{PeelsRows}
 use Rattle.rq_solver.specs.declared.pi_solver.peeled.Peeled.{Peeled}
@@ -24,6 +24,17 @@ use Rattle.rq_solver.proofs.PivotsTaken.{own_one}
 parity_once : (indices : List ℕ) (k : ℕ) → count_by (λ index. index == k) indices ≤ 1 → parity indices k ≡ count_by (λ index. index == k) indices
 unfolding parity
 parity_once indices k once = omega (arith, once)
+
+-- A column of which the inactive entries are found from the last on, as far as place `low`: 1 in the column without a pivot, zeros behind it and
+-- still before place `low`, and between them what solves the rows that are left.
+pub record SolvesBehind (p : Peeled) (left : List ℕ) (table : OctetTable) (free low : ℕ) (column : List ℕ) : Type 0 where
+  pub count : length column ≡ length p.peeling.places
+  pub elements : IsColumn octets (length p.peeling.places) (at column)
+  pub zeros : HasZerosAtPivots p.peeling 0 column
+  pub before : (f : ℕ) → f < low → inactive_entry p.peeling column f ≡ 0
+  pub one : inactive_entry p.peeling column free ≡ 1
+  pub behind : (f : ℕ) → free < f → f < inactive_count p.peeling → inactive_entry p.peeling column f ≡ 0
+  pub solved : (q : ℕ) → low ≤ q → q < free → inactive_dot p.peeling table column (at left q) ≡ 0
 
 module _ (e : Peeled) (peels : PeelsRows e.ones e.peeling) (others : List ℕ) (table : OctetTable) (old : List ℕ) (count : length old ≡ length e.peeling.places) where
   abbrev width : ℕ

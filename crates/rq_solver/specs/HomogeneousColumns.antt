@@ -1,6 +1,6 @@
 -- A column that solves rows with zeros as values, while an inactive column has no pivot.
 use Rattle.std.specs.Prelude.{◌≡◌, ◌≢◌, ℕ, ◌+◌, ◌<◌, ◌≤◌, List, length}
-use Rattle.rq_algebra.specs.Systems.{at, dot, IsColumn}
+use Rattle.rq_algebra.specs.Systems.{at, dot}
 use Rattle.rq_standard.specs.OctetField.{octets}
 use Rattle.rq_parts.specs.DenseOctetMatrix.{OctetTable, entry_of}
 use Rattle.rq_peeling.specs.Peeling.{Pivots}
@@ -30,17 +30,6 @@ pub record SolvesLeftRows (pivots : Pivots) (left : List ℕ) (table : OctetTabl
 -- a column has zeros at the pivots from the one numbered `start` on
 abbrev pub HasZerosAtPivots : Pivots → ℕ → List ℕ → Type 0
 HasZerosAtPivots pivots start column = (p : ℕ) → start ≤ p → p < length pivots.rows → at column (at pivots.order p) ≡ 0
-
--- A column of which the inactive entries are found from the last on, as far as place `low`: 1 in the column without a pivot, zeros behind it and
--- still before place `low`, and between them what solves the rows that are left.
-pub record SolvesBehind (p : Peeled) (left : List ℕ) (table : OctetTable) (free low : ℕ) (column : List ℕ) : Type 0 where
-  pub count : length column ≡ length p.peeling.places
-  pub elements : IsColumn octets (length p.peeling.places) (at column)
-  pub zeros : HasZerosAtPivots p.peeling 0 column
-  pub before : (f : ℕ) → f < low → inactive_entry p.peeling column f ≡ 0
-  pub one : inactive_entry p.peeling column free ≡ 1
-  pub behind : (f : ℕ) → free < f → f < inactive_count p.peeling → inactive_entry p.peeling column f ≡ 0
-  pub solved : (q : ℕ) → low ≤ q → q < free → inactive_dot p.peeling table column (at left q) ≡ 0
 
 -- a column solves the rows of the first pivots, as they were handed in
 abbrev pub SolvesPivotRows : Peeled → ℕ → List ℕ → Type 0

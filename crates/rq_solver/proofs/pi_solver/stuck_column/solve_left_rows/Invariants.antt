@@ -1,6 +1,6 @@
 -- What the loop keeps in `pi_solver::stuck_column::solve_left_rows`.
 use Rattle.std.proofs.Common.{◌-◌}
-use Rattle.rq_solver.specs.HomogeneousColumns.{SolvesBehind}
+use Rattle.rq_solver.proofs.SetColumns.{SolvesBehind}
 use Rattle.rq_solver.proofs.pi_solver.stuck_column.solve_left_rows.Given as goal
 
 abbrev pub invariant-loop-done : goal.invariant-loop-done
