@@ -1,8 +1,8 @@
 //! A further decoder that stands where another does.
-ghost use Rattle.std.specs.Prelude.{◌≡◌, ◌⊎◌, Some, None, IsSome, IfOk, IfErr, OnErr, OnOk};
+ghost use Rattle.std.specs.Prelude.{◌≡◌, ◌⊎◌, Some, None, IsSome, IfOk, IfErr, OnOk};
 ghost use Rattle.raptorq.specs.Decoder.{state_of, solving_of_blocks};
-ghost use Rattle.raptorq_c.specs.Handles.{coder_of, decoder_in, decoder_of};
-ghost use Rattle.raptorq_c.specs.Sharing.{solving_in, solving_of_handle, CopiesDecoder};
+ghost use Rattle.raptorq_c.specs.Handles.{coder_of, decoder_in};
+ghost use Rattle.raptorq_c.specs.Sharing.{solving_in, CopiesDecoder};
 
 use crate::call_end::{CallEnd, number};
 use crate::handle::Handle;

@@ -1,10 +1,10 @@
 //! Further handles on one encoder or plan, for other threads.
-ghost use Rattle.std.specs.Prelude.{◌≡◌, ◌⊎◌, true, false, Some, None, IfOk, IfErr, OnErr, OnOk};
+ghost use Rattle.std.specs.Prelude.{◌≡◌, ◌⊎◌, true, false, Some, None, IfOk, IfErr, OnOk};
 ghost use Rattle.std.specs.Arc.{arc_value};
 ghost use Rattle.raptorq.specs.Encoder.{encoded_of};
 ghost use Rattle.rq_block.specs.SourceBlockEncoder.{block_encoded_of};
 ghost use Rattle.rq_block.specs.SourceBlockEncodingPlan.{plan_of};
-ghost use Rattle.raptorq_c.specs.Handles.{block_encoder_in, block_encoder_of, coder_of, encoder_in, encoder_of, plan_in, plan_of_handle};
+ghost use Rattle.raptorq_c.specs.Handles.{block_encoder_in, coder_of, encoder_in, plan_in};
 ghost use Rattle.raptorq_c.specs.Sharing.{is_shared, Shares};
 
 use crate::call_end::{CallEnd, number};

@@ -1,5 +1,5 @@
 //! Which encoding symbol ids are sent.
-ghost use Rattle.std.specs.Prelude.{◌≡◌, ℕ, ◌+◌, ◌*◌, ◌^◌, ◌<◌, ◌≤◌};
+ghost use Rattle.std.specs.Prelude.{◌≡◌, ◌^◌, ◌<◌, ◌≤◌};
 ghost use Rattle.rq_cast.specs.Ids.{AreIds};
 
 use raptorq::base::ENCODING_SYMBOL_IDS;

@@ -17,9 +17,6 @@ use Rattle.rq_cells.proofs.Beginnings.{test_true}
 use Rattle.rq_cells.proofs.CellBytes.{length-cell_bytes, cell_at-cell_bytes, begins_with_head, none_behind_in_short}
 use Rattle.rq_cells.proofs.Scanning.{cell_at-headed, StandsBefore, open_is_short}
 
-found_first : {A : Type 0} (x : A) (xs : List A) → Contains (x ∷ xs) x
-found_first x xs = (0, omega arith, refl)
-
 found_later : {A : Type 0} (first : Option A) (xs : List A) (x : A) → Contains xs x → Contains (cons_option first xs) x
 found_later None xs x h = h
 found_later (Some y) xs x h = Contains-append_right (y ∷ []) xs x h
@@ -27,7 +24,7 @@ found_later (Some y) xs x h = Contains-append_right (y ∷ []) xs x h
 -- what is found where bytes begin is found wherever they stand
 found_anywhere : {A : Type 0} (f : List ℕ → Option A) (before bytes : List ℕ) (x : A) → 0 < length bytes → f bytes ≡ Some x → Contains (filter_map f (places (before ++ bytes))) x
 found_anywhere f [] [] x some is = absurd (omega (arith, some))
-found_anywhere f [] (b ∷ bytes) x some is = subst (λ y. Contains (cons_option y (filter_map f (places bytes))) x) (sym is) (found_first x (filter_map f (places bytes)))
+found_anywhere f [] (b ∷ bytes) x some is = subst (λ y. Contains (cons_option y (filter_map f (places bytes))) x) (sym is) (0, omega arith, refl)
 found_anywhere f (a ∷ before) bytes x some is =
     found_later (f (a ∷ before ++ bytes)) (filter_map f (places (before ++ bytes))) x (found_anywhere f before bytes x some is)
 

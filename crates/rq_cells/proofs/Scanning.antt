@@ -125,14 +125,7 @@ next_counted p bytes rest at h same =
 
 pub count_place : (p : List ℕ → Bool) (bytes : List ℕ) (at : ℕ) → at < length bytes
     → count_by p (places (drop at bytes)) ≡ cond (p (drop at bytes)) 1 0 + count_by p (places (drop (at + 1) bytes))
-count_place p bytes at h =
-    let first = get_or bytes at 0 in
-    let behind = drop (suc at) bytes in
-    let next : suc at ≡ at + 1 = omega arith in
-    let is : drop at bytes ≡ first ∷ behind = drop-cons bytes at 0 h in
-    ap (λ xs. count_by p (places xs)) is
-    ∙ sum_by-cons (λ xs. cond (p xs) 1 0) (first ∷ behind) (places behind)
-    ∙ (λ i. cond (p (sym is i)) 1 0 + count_by p (places (drop (next i) bytes)))
+count_place p bytes at h = simp append-nil at (next_counted p bytes [] at h (ap p (append-nil (drop at bytes))))
 
 -- ---- what a place is found to be
 

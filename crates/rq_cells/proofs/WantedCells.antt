@@ -259,6 +259,18 @@ module _ (greatest : ℕ) (name bytes : List ℕ) (i : ℕ) (heads heads' : Head
   few_more : (heads.damaged ≤ i) × (heads.others ≤ i) → (heads'.damaged ≤ i + 1) × (heads'.others ≤ i + 1)
   few_more few = (omega (arith, few.0, more_damaged, one_at_most d), omega (arith, few.1, more_others, one_at_most o))
 
+  -- behind a place that stays open nothing is told any more
+  searched_still : (p : ℕ × Heads) → SearchedTo greatest name bytes i heads (Some p) → SearchedTo greatest name bytes (i + 1) heads' (Some p)
+  searched_still p before = record {
+    none = none_more greatest name bytes i before.none here.none;
+    all = all_more before.all;
+    few = few_more before.few;
+    never = before.never;
+    before = before.before;
+    opened = (omega (arith, before.opened.0), before.opened.1, before.opened.2);
+    settled = before.settled;
+  }
+
   pub searched_more : (pending : Option (ℕ × Heads)) → u ≡ false → SearchedTo greatest name bytes i heads pending → SearchedTo greatest name bytes (i + 1) heads' pending
   searched_more None decided before = record {
     none = none_more greatest name bytes i before.none here.none;
@@ -283,15 +295,7 @@ module _ (greatest : ℕ) (name bytes : List ℕ) (i : ℕ) (heads heads' : Head
       never rest j (inr more) less =
           let same : i ≡ j = omega (arith, more, less) in
           subst (λ k. wanted_at greatest name (drop k bytes ++ rest) ≡ None) same ((stays_there greatest name (drop i bytes) rest (here.undecided_is ∙ decided)).wanted ∙ here.none)
-  searched_more (Some p) decided before = record {
-    none = none_more greatest name bytes i before.none here.none;
-    all = all_more before.all;
-    few = few_more before.few;
-    never = before.never;
-    before = before.before;
-    opened = (omega (arith, before.opened.0), before.opened.1, before.opened.2);
-    settled = before.settled;
-  }
+  searched_more (Some p) decided before = searched_still p before
 
   pub searched_open : (pending : Option (ℕ × Heads)) → u ≡ true → length (drop i bytes) < 65583
       → SearchedTo greatest name bytes i heads pending → SearchedTo greatest name bytes (i + 1) heads' (option_or pending (Some (i, heads)))
@@ -304,15 +308,7 @@ module _ (greatest : ℕ) (name bytes : List ℕ) (i : ℕ) (heads heads' : Head
     opened = (omega arith, omega (arith, short, length-drop i bytes), here.undecided_is ∙ is_open);
     settled = before.settled;
   }
-  searched_open (Some p) is_open short before = record {
-    none = none_more greatest name bytes i before.none here.none;
-    all = all_more before.all;
-    few = few_more before.few;
-    never = before.never;
-    before = before.before;
-    opened = (omega (arith, before.opened.0), before.opened.1, before.opened.2);
-    settled = before.settled;
-  }
+  searched_open (Some p) is_open short before = searched_still p before
 
 -- places at which no head begins, behind those before them
 pub headless_searched : (greatest : ℕ) (name bytes : List ℕ) (i n : ℕ) (heads : Heads) (pending : Option (ℕ × Heads))

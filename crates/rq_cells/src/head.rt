@@ -1,5 +1,5 @@
 //! The head of a cell.
-ghost use Rattle.std.specs.Prelude.{◌≡◌, ◌≤◌, Ok, take};
+ghost use Rattle.std.specs.Prelude.{◌≡◌, ◌≤◌, Ok};
 ghost use Rattle.rq_bytes.specs.Refusals.{IsAnswer};
 ghost use Rattle.rq_cells.specs.Cells.{name_of, check_of, head_bytes, head_at, cell_size};
 ghost use Rattle.rq_cells.specs.Found.{HoldNoHead};

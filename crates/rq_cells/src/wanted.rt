@@ -1,5 +1,5 @@
 //! The first cell that a receiver takes.
-ghost use Rattle.std.specs.Prelude.{◌≡◌, ◌+◌, ◌-◌, IfOk, IfErr, true};
+ghost use Rattle.std.specs.Prelude.{◌≡◌, IfOk, IfErr, true};
 ghost use Rattle.rq_standard.specs.TableRows.{greatest_size};
 ghost use Rattle.rq_cells.specs.Found.{has_head};
 ghost use Rattle.rq_cells.specs.Wanted.{is_wanted, IsCandidate, IsSearch};

@@ -1,7 +1,6 @@
 //! The rows of RFC 6330, section 5.6, that follow the built-in ones, and the table of all.
 #![tactic(auto)]
 
-ghost use Rattle.std.specs.Prelude.{Ok};
 ghost use Rattle.rq_bytes.specs.Refusals.{IsAnswer};
 ghost use Rattle.rq_tables.specs.SystematicTable.{wanted_table};
 

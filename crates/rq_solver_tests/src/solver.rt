@@ -1,5 +1,5 @@
 //! Tests of the solver.
-ghost use Rattle.std.specs.Prelude.{◌≡◌, ℕ, ◌+◌, ◌≤◌, ◌<◌, None, length, IfOk};
+ghost use Rattle.std.specs.Prelude.{◌≡◌, ℕ, ◌≤◌, ◌<◌, None, length, IfOk};
 ghost use Rattle.rq_standard.specs.TableRows.{greatest_size, intermediate_symbols, row_of};
 ghost use Rattle.rq_solver_tests.specs.Squares.{HasZeroRows, IsSquareOf};
 

@@ -1,5 +1,5 @@
 //! Octets, their tables, and the kernels on rows of them.
-ghost use Rattle.std.specs.Prelude.{◌≡◌, ◌+◌, ◌/◌, length, IfOk, vec_len};
+ghost use Rattle.std.specs.Prelude.{◌≡◌, length, IfOk, vec_len};
 
 use crate::compare::{holds, same};
 use raptorq::octet::{Octet, octet_mul_hi_bits, octet_mul_low_bits, octet_mul_table};

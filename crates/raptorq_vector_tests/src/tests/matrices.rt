@@ -3,7 +3,7 @@
 //! A script asked that crate for the matrices of blocks of 1 to 110 symbols, took their entries, row
 //! by row and one after another, into a digest that starts at 0 by
 //! `digest * 1099511628211 + entry + 1` modulo 2^64, and wrote the digests here.
-ghost use Rattle.std.specs.Prelude.{◌≡◌, ◌+◌, ◌≤◌, ◌<◌, IfOk, vec_len};
+ghost use Rattle.std.specs.Prelude.{◌≡◌, ◌≤◌, IfOk, vec_len};
 ghost use Rattle.rq_standard.specs.TableRows.{greatest_size};
 
 use crate::compare::holds;

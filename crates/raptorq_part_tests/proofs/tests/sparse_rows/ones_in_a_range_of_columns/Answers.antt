@@ -1,5 +1,5 @@
 -- What the check leaves to show of `tests::sparse_rows::ones_in_a_range_of_columns`.
-use Rattle.std.proofs.Common.{◌≡◌, ℕ, ap, ◌∙◌, arith}
+use Rattle.std.proofs.Common.{ap, ◌∙◌, arith}
 use Rattle.rq_parts.specs.SparseBinaryVec.{listed_bit}
 use Rattle.rq_parts.proofs.ListedBits.{ones_below_all}
 use Rattle.raptorq_part_tests.proofs.tests.sparse_rows.ones_in_a_range_of_columns.Goals as goal
