@@ -70,8 +70,8 @@ pub(crate) fn add_ranges<const C: usize>(
     requires starts { All (IsRangeBeside (length bytes.old) dest len) starts.now }
     ensures { bytes.new ≡ with_range bytes.old dest (sum_of_ranges bytes.old dest starts.now len) }
 {
-    let (front, rest) = bytes.split_at_mut(dest);
-    let (row, back) = rest.split_at_mut(len);
+    let (head, back) = bytes.split_at_mut(dest + len);
+    let (front, row) = head.split_at_mut(dest);
     add_rows_beside::<C>(row, front, back, starts);
 }
 
@@ -89,12 +89,15 @@ fn add_rows_beside<'a, const C: usize>(
     ensures { row.new ≡ with_ranges_added row.old (front.now ++ (row.old ++ back.now)) starts.now (length row.old) }
 {
     let len = row.len();
+    // A start behind the row is counted from `end` in one step, as that part was cut off, so that the
+    // compiler sees that both branches find one address, and makes no choice between them.
+    let end = front.len() + len;
     let mut rows = [front; ROWS];
     for i in 0..C {
         rows[i] = if starts[i] < front.len() {
             range(front, starts[i], len)
         } else {
-            range(back, starts[i] - front.len() - len, len)
+            range(back, starts[i] - end, len)
         };
     }
     add_rows(row, &rows[..C]);

@@ -27,7 +27,7 @@ loop-i-preserved g c =
                 ap (λ r. r.now) w.rows-is ∙ w.range.ensures ∙ sym (range_before front (row ++ back) start n fits)
             | else-starts-i w ↦
                 let fits : length front + n ≤ start = ⊎_elim (λ behind. behind) (λ before. omega arith) beside.1 in
-                ap (λ r. r.now) w.rows-is ∙ w.range-else-starts-i.ensures ∙ sym (range_behind front row back start (start - length front - n) n (omega arith))
+                ap (λ r. r.now) w.rows-is ∙ w.range-else-starts-i.ensures ∙ sym (range_behind front row back start (start - (length front + n)) n (omega arith))
           ])
           (omega (arith, c.loop-i.invariant.long)) (omega arith);
       long = length-set c.loop-i.rows i c.if-starts-i.rows ∙ c.loop-i.invariant.long;
