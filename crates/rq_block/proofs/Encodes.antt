@@ -3,8 +3,8 @@ use Rattle.std.proofs.Common.{◌≡◌, ℕ, ◌+◌, ◌-◌, ◌<◌, ◌≤�
 use Rattle.std.specs.List.{range_with_len}
 use Rattle.std.proofs.lemmas.Bool.{cases_lt, lt-ltb}
 use Rattle.std.proofs.lemmas.List.{get_or_past, length-replicate, map-append, get_or_default}
-use Rattle.std.proofs.lemmas.List.Elements.{All-get_or}
-use Rattle.std.proofs.lemmas.List.FromFn.{map-range_with_len_more}
+use Rattle.std.proofs.lemmas.List.Elements.{All-get_or, All-map}
+use Rattle.std.proofs.lemmas.List.FromFn.{get_or-map-range_with_len, length-map-range_with_len, map-range_with_len_more}
 use Rattle.rq_algebra.specs.Operations.{meant_at}
 use Rattle.rq_bytes.specs.SymbolSlab.{symbol_in}
 use Rattle.rq_standard.specs.Packet.{SymbolId, Packet}
@@ -14,7 +14,10 @@ use Rattle.rq_standard.specs.declared.row.TableRow.{TableRow}
 use Rattle.rq_standard.specs.TableRows.{IsChecked}
 use Rattle.rq_standard.specs.Equations.{zero_symbol, tuple_sum}
 use Rattle.rq_standard.proofs.Columns.{source_sum}
-use Rattle.rq_standard.proofs.StandingSteps.{AllByRecursion-append}
+use Rattle.rq_standard.specs.Cutting.{symbol_of_block}
+use Rattle.rq_standard.proofs.StandingSteps.{AllByRecursion-append, length-symbol_of_block}
+use Rattle.rq_block.specs.BlockLayout.{cut_by}
+use Rattle.rq_block.specs.declared.encoder.borrowed.BorrowedBlock.{BorrowedBlock}
 use Rattle.rq_block.specs.declared.encoder.block.SourceBlockEncoder.{SourceBlockEncoder}
 use Rattle.rq_block.specs.SourceBlockEncoder.{BlockEncoded, IsBlockPacket, AreBlockPackets}
 use Rattle.rq_block.proofs.ReceivedEquations.{internal_below}
@@ -47,6 +50,18 @@ pub encodes_source : (b : SourceBlockEncoder) (esi : ℕ) (payload : List ℕ) �
 encodes_source b esi payload below read =
     source_encodes b.row.numbers b.intermediate.symbol_size esi b.source.values (symbol_in b.intermediate) payload b.row.checked b.solved b.few b.sized below
     (read ∙ ap (λ (o : Option (List ℕ)). get_or b.source.values (meant_at o esi) []) b.unordered ∙ get_or_default b.source.values esi [] payload below)
+
+-- and so is the symbol of a block whose bytes are borrowed
+pub encodes_borrowed : (b : BorrowedBlock) (esi : ℕ) (payload : List ℕ) → esi < b.layout.source_symbols → payload ≡ symbol_of_block b.layout.config b.layout.source_symbols b.block.now esi
+    → IsEncodingSymbol b.row.numbers b.layout.config.symbol_size (cut_by b.layout b.block.now) esi payload
+encodes_borrowed b esi payload below read =
+    let c = b.layout.config in
+    let k = b.layout.source_symbols in
+    let f = symbol_of_block c k b.block.now in
+    let many = length-map-range_with_len f 0 k in
+    source_encodes b.row.numbers c.symbol_size esi (cut_by b.layout b.block.now) (symbol_in b.intermediate) payload b.row.checked b.solved (omega (arith, many, b.few))
+    (All-map (λ s. length s ≡ c.symbol_size) f (range_with_len 0 k) (λ i d inside. length-symbol_of_block c k b.block.now _)) (omega (arith, many))
+    (read ∙ sym (get_or-map-range_with_len f 0 k esi esi payload below (omega arith)))
 
 -- no packet yet
 pub block_packets-none : (b : BlockEncoded) (start : ℕ) (packets : List Packet) → packets ≡ [] → AreBlockPackets b start (start - start) packets

@@ -1,19 +1,27 @@
 -- A block, sub-block by sub-block.
-use Rattle.std.proofs.Common.{◌≡◌, ℕ, zero, suc, ◌+◌, ◌-◌, ◌*◌, ◌/◌, ◌<◌, ◌≤◌, min, max, List, [], ◌++◌, length, get_or, take, drop, map, replicate, inl, inr, cond, refl, sym, ap, ◌∙◌, subst, arith, append_assoc, length-append}
+use Rattle.std.proofs.Common.{◌≡◌, ℕ, zero, suc, ◌+◌, ◌-◌, ◌*◌, ◌/◌, ◌%◌, ◌<◌, ◌≤◌, min, max, List, [], ◌∷◌, ◌++◌, All, length, get_or, take, drop, map, replicate, inl, inr, cond, refl, sym, ap, ◌∙◌, subst, arith, append_assoc, length-append}
 use Rattle.std.specs.Prelude.{Result, Ok, Err, OnOk, is_ok, Option, Some, None, IsSomeAnd, unwrap_or}
 use Rattle.std.specs.Int.{div_ceil}
 use Rattle.std.specs.List.{flat_map, range_with_len}
 use Rattle.std.proofs.Math.Nat.{mul-le-mul_right}
-use Rattle.std.proofs.lemmas.Nat.{mul-le}
+use Rattle.std.proofs.lemmas.Nat.{div_below, div-add-mod', mod_below, mul-le}
 use Rattle.std.proofs.lemmas.Bool.{cases_lt, lt-ltb, le-ltb}
-use Rattle.std.proofs.lemmas.List.{get_or-take, get_or-drop, get_or-replicate, get_or_past, get_or_append_left, get_or-append_right, get_or-append-add, length-take-le, length-drop, length-replicate, take_all}
+use Rattle.std.proofs.lemmas.List.{ext_get_or, get_or-take, get_or-drop, get_or-replicate, get_or_past, get_or_append_left, get_or-append_right, get_or-append-add, length-take-le, length-drop, length-replicate, take_all}
 use Rattle.rq_block.proofs.NumberRanges.{flat_map-push}
-use Rattle.std.proofs.lemmas.List.FromFn.{fill_by_all, length-map-range_with_len, get_or-map-range_with_len}
+use Rattle.std.proofs.lemmas.List.FromFn.{fill_by_all, length-map-range_with_len, get_or-map-range_with_len, map-range_with_len_more}
+use Rattle.std.proofs.lemmas.List.Elements.{All-map}
+use Rattle.rq_algebra.specs.Symbols.{AreSymbols as AreOctetSymbols}
+use Rattle.rq_standard.specs.OctetField.{octets}
 use Rattle.rq_standard.specs.Configuration.{Configuration, IsAligned}
 use Rattle.rq_standard.specs.Cutting.{sub_block_count, sub_block_parts, larger_bytes, sub_block_size, sub_block_start, place_in_block, symbol_of_block}
+use Rattle.rq_block.specs.BlockLayout.{among_zeros, bytes_by, cut_by}
 use Rattle.rq_block.specs.SubBlocks.{AreSymbols, IsCutInto}
+use Rattle.rq_block.specs.declared.sub_blocks.BlockLayout.{BlockLayout}
 use Rattle.rq_standard.proofs.PlainCut.{map-range_is_take}
-use Rattle.rq_standard.proofs.Interleaved.{IsSubBlock, at_byte, next_start, place_in, place_low}
+use Rattle.rq_standard.proofs.Interleaved.{IsSubBlock, at_byte, get_or-symbol_of_block, next_start, place_in, place_low}
+use Rattle.rq_standard.proofs.StandingSteps.{length-symbol_of_block}
+use Rattle.rq_bytes.specs.Ranges.{cut}
+use Rattle.rq_bytes.proofs.Cuts.{cut-append, cut-join, cut-replicate, length-cut}
 
 -- ---- the size of a sub-block, from the parts of a partition
 
@@ -169,6 +177,103 @@ get_or-pieces f z (suc k) e i long below lt =
           let there : e * z + i ≡ length front + i = ap (λ n. n * z + i) is ∙ ap (λ n. n + i) (sym l) in
           ap (λ n. get_or (front ++ f k) n 0) there ∙ get_or-append-add front (f k) i 0 ∙ ap (λ n. get_or (f n) i 0) (sym is)
     ]
+
+-- The symbols of a block that is a single sub-block are the block's bytes, with zeros past its end.
+pub plain_block : (c : Configuration) (k : ℕ) (block : List ℕ) → IsAligned c → sub_block_size c 0 ≡ c.symbol_size
+    → map (λ i. get_or block (0 + i) 0) (range_with_len 0 (k * c.symbol_size)) ≡ flat_map (symbol_of_block c k block) (range_with_len 0 k)
+plain_block c k block aligned single =
+    let size = c.symbol_size in
+    let f = symbol_of_block c k block in
+    let byte = λ (i : ℕ). get_or block (0 + i) 0 in
+    let sized : (j : ℕ) → j < k → length (f j) ≡ size = λ j lt. length-symbol_of_block c k block j in
+    let long : length (map byte (range_with_len 0 (k * size))) ≡ k * size = length-map-range_with_len byte 0 (k * size) in
+    ext_get_or 0 (map byte (range_with_len 0 (k * size))) (flat_map f (range_with_len 0 k)) (long ∙ sym (length-pieces f size k sized))
+    (λ i below.
+    let within : i < k * size = omega (arith, long) in
+    let some : 0 < size = elim (cases_lt 0 size) [
+      | inl positive ↦ positive
+      | inr none ↦ let zero_size : size ≡ 0 = omega arith in absurd (omega (arith, within, ap (λ z. k * z) zero_size))
+    ] in
+    let e = i / size in
+    let t = i % size in
+    let is : i ≡ e * size + t = sym (div-add-mod' i size) in
+    let lt : t < size = mod_below i size some in
+    let part = part_from c 0 size aligned (reaches_none c aligned) some (sym single) in
+    let place : 0 + i ≡ place_in_block c k e t = omega (arith, is, place_in c k e 0 size t part (omega arith) (omega (arith, lt))) in
+    get_or-map-range_with_len byte 0 (k * size) i i 0 within (omega arith)
+    ∙ ap (λ n. get_or block n 0) place
+    ∙ sym (get_or-symbol_of_block c k block e t lt)
+    ∙ sym (get_or-pieces f size k e t sized (div_below i size k some within) lt)
+    ∙ ap (λ n. get_or (flat_map f (range_with_len 0 k)) n 0) (sym is))
+
+cut-pieces : (f : ℕ → List ℕ) (z k : ℕ) → ((e : ℕ) → e < k → length (f e) ≡ z) → cut k z (flat_map f (range_with_len 0 k)) ≡ map f (range_with_len 0 k)
+cut-pieces f z zero long = refl
+cut-pieces f z (suc k) long =
+    let one : suc k ≡ k + 1 = omega arith in
+    let front = flat_map f (range_with_len 0 k) in
+    let shorter : (j : ℕ) → j < k → length (f j) ≡ z = λ j h. long j (omega arith) in
+    ap (λ n. cut (suc k) z (flat_map f (range_with_len 0 n))) one
+    ∙ ap (cut (suc k) z) (flat_map-push f k)
+    ∙ cut-append k z front (f k) (length-pieces f z k shorter) (long k (omega arith))
+    ∙ ap (λ xs. xs ++ f k ∷ []) (cut-pieces f z k shorter)
+    ∙ sym (map-range_with_len_more f 0 k k (omega arith))
+    ∙ ap (λ n. map f (range_with_len 0 n)) (sym one)
+
+-- ---- the symbols of a block that is cut so
+
+sized_by : (layout : BlockLayout) (block : List ℕ) (e : ℕ) → e < layout.source_symbols → length (symbol_of_block layout.config layout.source_symbols block e) ≡ layout.config.symbol_size
+sized_by layout block e below = length-symbol_of_block layout.config layout.source_symbols block e
+
+pub length-bytes_by : (layout : BlockLayout) (block : List ℕ) → length (bytes_by layout block) ≡ layout.source_symbols * layout.config.symbol_size
+length-bytes_by layout block = length-pieces (symbol_of_block layout.config layout.source_symbols block) layout.config.symbol_size layout.source_symbols (sized_by layout block)
+
+pub cut-bytes_by : (layout : BlockLayout) (block : List ℕ) → cut layout.source_symbols layout.config.symbol_size (bytes_by layout block) ≡ cut_by layout block
+cut-bytes_by layout block = cut-pieces (symbol_of_block layout.config layout.source_symbols block) layout.config.symbol_size layout.source_symbols (sized_by layout block)
+
+-- they are symbols of octets
+pub symbols_by : (layout : BlockLayout) (block : List ℕ) → ((i : ℕ) → get_or block i 0 < 256) → AreOctetSymbols octets layout.config.symbol_size (length (cut_by layout block)) (cut_by layout block)
+unfolding symbol_of_block
+symbols_by layout block octet = record {
+  count_is = refl;
+  each = λ e lt.
+      let c = layout.config in
+      let k = layout.source_symbols in
+      let f = symbol_of_block c k block in
+      let is : f e ≡ get_or (map f (range_with_len 0 k)) e [] = sym (get_or-map-range_with_len f 0 k e e [] (omega (arith, lt, length-map-range_with_len f 0 k)) (omega arith)) in
+      record {
+        size_is = ap length (sym is) ∙ length-symbol_of_block c k block e;
+        elements = subst (All (λ x. x < 256)) is (All-map (λ x. x < 256) (λ t. get_or block (place_in_block c k e t) 0) (range_with_len 0 c.symbol_size) (λ i d inside. octet _));
+      };
+}
+
+-- ---- symbols among zeros
+
+pub zeros_around : (size start count n : ℕ) (bytes filled : List ℕ) → length bytes ≡ n * size → start + n ≤ count
+    → filled ≡ replicate (start * size) 0 ++ (bytes ++ replicate ((count - start - n) * size) 0) → cut count size filled ≡ among_zeros size start count (cut n size bytes)
+zeros_around size start count n bytes filled long fits is =
+    let rest = count - start - n in
+    let zeros = replicate (rest * size) 0 in
+    let all : count ≡ start + (n + rest) = omega arith in
+    let first = cut-join start (n + rest) size (replicate (start * size) 0) (bytes ++ zeros) (length-replicate {A = ℕ} (start * size) 0) in
+    ap (λ k. cut k size filled) all
+    ∙ rw (is, first, cut-replicate {X = ℕ} start size 0, cut-join n rest size bytes zeros long, cut-replicate {X = ℕ} rest size 0, length-cut n size bytes) refl
+
+-- the buffer, filled in three steps
+pub filled_around : (size start count n all : ℕ) (bytes one two three : List ℕ) → length bytes ≡ n * size → start + n ≤ count → all ≡ length two
+    → one ≡ take (start * size) [] ++ replicate (start * size - 0) 0 → two ≡ one ++ bytes → three ≡ take (count * size) two ++ replicate (count * size - all) 0
+    → three ≡ replicate (start * size) 0 ++ (bytes ++ replicate ((count - start - n) * size) 0)
+filled_around size start count n all bytes one two three long fits length_two first second third =
+    let zeros = replicate (start * size) 0 in
+    let rest = count - start - n in
+    let first_is : one ≡ zeros = first ∙ ap (λ xs. xs ++ replicate (start * size - 0) 0) (take_all (start * size) [] (omega arith)) ∙ ap (λ k. replicate k 0) (let same : start * size - 0 ≡ start * size = omega arith in same) in
+    let two_is : two ≡ zeros ++ bytes = second ∙ ap (λ xs. xs ++ bytes) first_is in
+    let long_two : length two ≡ start * size + n * size = ap length two_is ∙ length-append zeros bytes ∙ omega (arith, length-replicate {A = ℕ} (start * size) 0, long) in
+    let split : count ≡ start + (n + rest) = omega arith in
+    let sizes : count * size ≡ start * size + n * size + rest * size = ap (λ k. k * size) split ∙ omega arith in
+    third
+    ∙ ap (λ xs. xs ++ replicate (count * size - all) 0) (take_all (count * size) two (omega (arith, long_two, sizes)) ∙ two_is)
+    ∙ ap (λ k. (zeros ++ bytes) ++ replicate k 0) (let left : count * size - all ≡ rest * size = omega (arith, length_two, long_two, sizes) in left)
+    ∙ append_assoc zeros bytes (replicate (rest * size) 0)
 
 -- ---- a block from its symbols
 

@@ -1,5 +1,7 @@
 -- How a source block is cut.
-use Rattle.std.specs.Prelude.{ℕ, List, Option}
+use Rattle.std.specs.Prelude.{ℕ, ◌-◌, ◌++◌, List, Option, length, replicate}
+use Rattle.std.specs.List.{flat_map, range_with_len}
+use Rattle.rq_standard.specs.Cutting.{symbol_of_block}
 use Rattle.rq_standard.specs.Joining.{symbols_of_block}
 use Rattle.rq_block.specs.declared.sub_blocks.BlockLayout.{BlockLayout}
 use Rattle.rq_block.specs.SubBlocks.{parts_of_symbols}
@@ -8,6 +10,14 @@ use Rattle.rq_block.specs.SubBlocks.{parts_of_symbols}
 abbrev pub cut_by : BlockLayout → List ℕ → List (List ℕ)
 cut_by layout = symbols_of_block layout.config layout.source_symbols
 
+-- these symbols, one after another
+abbrev pub bytes_by : BlockLayout → List ℕ → List ℕ
+bytes_by layout block = flat_map (symbol_of_block layout.config layout.source_symbols block) (range_with_len 0 layout.source_symbols)
+
 -- of each of its symbols the bytes of a width from one on
 abbrev pub parts_by : BlockLayout → (ℕ → Option (List ℕ)) → ℕ → ℕ → List ℕ
 parts_by layout symbol = parts_of_symbols symbol layout.source_symbols
+
+-- `count` symbols: these from `start` on, and zeros in all other places
+abbrev pub among_zeros : ℕ → ℕ → ℕ → List (List ℕ) → List (List ℕ)
+among_zeros size start count values = replicate start (replicate size 0) ++ (values ++ replicate (count - start - length values) (replicate size 0))

@@ -3,6 +3,7 @@ pub mod AppendedBlock
 pub mod BlockData
 pub mod BlockLayout
 pub mod BlockSolutions
+pub mod BorrowedBlock
 pub mod CacheLends
 pub mod Decoding
 pub mod Difference

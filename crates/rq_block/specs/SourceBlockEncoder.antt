@@ -21,10 +21,6 @@ block_encoded_of b = record { number = b.number; row = b.row.numbers; size = b.i
 abbrev pub slabs_of : SourceBlockEncoder → Slab × Slab
 slabs_of b = (b.source, b.intermediate)
 
--- what is encoded of a block of that number and row, which has these source symbols
-abbrev pub block_encoded : ℕ → TableRow → Slab → BlockEncoded
-block_encoded number row source = record { number = number; row = row; size = source.symbol_size; source = source.values }
-
 -- a packet of the block
 pub record IsBlockPacket (b : BlockEncoded) (p : Packet) : Type 0 where
   pub number : p.id.block ≡ b.number

@@ -1,9 +1,11 @@
 //! The encoder of a block: its bytes in, packets out.
 mod block;
+mod borrowed;
 mod cache;
 mod plan;
 
 pub use block::SourceBlockEncoder;
+pub use borrowed::BorrowedBlock;
 pub use cache::SourceBlockEncodingPlanCache;
 pub use plan::SourceBlockEncodingPlan;
 

@@ -1,6 +1,7 @@
 //! One source block (RFC 6330, sections 5.3 and 5.4): plans, its encoder and its decoder.
 #![tactic(auto)]
 
+mod buffer;
 pub mod decoder;
 mod enc;
 pub mod encoder;

@@ -1,12 +1,14 @@
 //! How the bytes of a source block and of its symbols lie in one another (RFC 6330, 4.4.1.2).
-ghost use Rattle.std.specs.Prelude.{◌≡◌, ◌+◌, ◌*◌, ◌^◌, ◌<◌, ◌≤◌, [], ◌++◌, length, map, slice_index, IfOk, OnOk, vec_len};
+ghost use Rattle.std.specs.Prelude.{◌≡◌, ◌+◌, ◌*◌, ◌^◌, ◌<◌, ◌≤◌, [], ◌++◌, length, map, slice_index, IfOk, OnOk, OnErr, vec_len};
 ghost use Rattle.std.specs.List.{range_with_len};
 ghost use Rattle.rq_bytes.specs.SymbolSlab.{slab_of};
 ghost use Rattle.rq_standard.specs.Configuration.{IsAligned};
 ghost use Rattle.rq_standard.specs.Cutting.{sub_block_size, symbol_of_block};
+ghost use Rattle.rq_block.specs.AppendedBlock.{KeepsFront};
 ghost use Rattle.rq_block.specs.SourceSymbols.{source_symbol};
 ghost use Rattle.rq_block.specs.SubBlocks.{AreSymbols, IsCutInto};
 
+use crate::buffer::symbol_buffer;
 use crate::decoder::source_symbols::SourceSymbols;
 use rq_base::base::{ObjectTransmissionInformation, partition};
 use rq_bytes::symbol_slab::SymbolSlab;
@@ -39,7 +41,8 @@ fn append_padded(
 ) -> Result<(), AllocError>
     requires place { place + width < 2 ^ 64 }
     requires room { vec_len symbol.old + width < 2 ^ 64 }
-    ensures { OnOk result (symbol.new.items ≡ symbol.old.items ++ map (λ i. slice_index block.now (place + i)) (range_with_len 0 width)) }
+    ensures padded { OnOk result (symbol.new.items ≡ symbol.old.items ++ map (λ i. slice_index block.now (place + i)) (range_with_len 0 width)) }
+    ensures begun { OnErr result (KeepsFront symbol.old.items symbol.new.items) }
 {
     let start = place.min(block.len());
     let end = (place + width).min(block.len());
@@ -65,7 +68,7 @@ pub(crate) struct BlockLayout {
 }
 
 impl BlockLayout {
-    ghost use Rattle.rq_block.specs.BlockLayout.{cut_by, parts_by};
+    ghost use Rattle.rq_block.specs.BlockLayout.{among_zeros, bytes_by, cut_by, parts_by};
 
     /// The symbols of a block, which may end before its last symbol does.
     pub(crate) fn symbols_of_block(
@@ -79,21 +82,54 @@ impl BlockLayout {
         let size = usize::from(self.config.symbol_size());
         let count = self.source_symbols as usize;
         let mut bytes = Vec::with_capacity(alloc, count * size)?;
-        for e in 0..self.source_symbols {
-            self.append_source_symbol(&mut bytes, block, e)?;
-        }
+        self.append_symbols(&mut bytes, block)?;
         Ok(SymbolSlab::from_bytes(bytes, count, size))
     }
 
-    // Appends symbol `e` of a block. The block may end before its last symbol does: the rest are zeros.
-    fn append_source_symbol(
+    /// The symbols of a block from place `start` on, and zeros in all others of `count` places.
+    pub(crate) fn symbols_among_zeros(
+        &self,
+        alloc: Global,
+        block: &[u8],
+        start: usize,
+        count: usize,
+    ) -> Result<SymbolSlab, AllocError>
+        requires fits { start + self.now.source_symbols ≤ count }
+        requires few { count < 2 ^ 32 }
+        ensures { IfOk result (λ slab. slab ≡ slab_of self.now.config.symbol_size (among_zeros self.now.config.symbol_size start count (cut_by self.now block.now))) }
+    {
+        let size = usize::from(self.config.symbol_size());
+        let mut bytes = symbol_buffer(alloc, count, self.source_symbols, size)?;
+        bytes.resize(start * size, 0)?;
+        self.append_symbols(&mut bytes, block)?;
+        bytes.resize(count * size, 0)?;
+        Ok(SymbolSlab::from_bytes(bytes, count, size))
+    }
+
+    // Appends all symbols of a block, which may end before its last symbol does.
+    fn append_symbols(&self, bytes: &mut Vec<u8>, block: &[u8]) -> Result<(), AllocError>
+        ensures { OnOk result (bytes.new.items ≡ bytes.old.items ++ bytes_by self.now block.now) }
+    {
+        let size = usize::from(self.config.symbol_size());
+        if sub_block_size(&self.config, 0) == size {
+            // In a single sub-block they stand one after another.
+            return append_padded(bytes, block, 0, self.source_symbols as usize * size);
+        }
+        for e in 0..self.source_symbols {
+            self.append_source_symbol(bytes, block, e)?;
+        }
+        Ok(())
+    }
+
+    /// Appends symbol `e` of a block. The block may end before its last symbol does: the rest are zeros.
+    pub(crate) fn append_source_symbol(
         &self,
         bytes: &mut Vec<u8>,
         block: &[u8],
         e: u32,
     ) -> Result<(), AllocError>
-        requires room { vec_len bytes.old + self.now.config.symbol_size < 2 ^ 64 }
-        ensures { OnOk result (bytes.new.items ≡ bytes.old.items ++ symbol_of_block self.now.config self.now.source_symbols block.now e) }
+        ensures symbol { OnOk result (bytes.new.items ≡ bytes.old.items ++ symbol_of_block self.now.config self.now.source_symbols block.now e) }
+        ensures begun { OnErr result (KeepsFront bytes.old.items bytes.new.items) }
     {
         let size = usize::from(self.config.symbol_size());
         let mut start = 0;

@@ -1,7 +1,7 @@
 -- A slab's buffer and the symbols that callers see.
-use Rattle.std.proofs.Common.{length-set, ◌&&◌, ◌≡◌, ◌⊎◌, inl, inr, ⊎_elim, Global, ℕ, ◌+◌, ◌-◌, ◌*◌, ◌^◌, ◌<◌, ◌≤◌, List, [], ◌∷◌, ◌++◌, Vec, length, take, drop, replicate, append_assoc, set, get_or, All, Option, None, Some, refl, sym, ap, ◌∙◌, arith, subst, add-one}
+use Rattle.std.proofs.Common.{length-set, ◌&&◌, ◌≡◌, ◌⊎◌, inl, inr, ⊎_elim, Global, ℕ, ◌+◌, ◌*◌, ◌^◌, ◌<◌, ◌≤◌, List, [], ◌∷◌, ◌++◌, Vec, length, drop, replicate, set, get_or, All, Option, None, Some, refl, sym, ap, ◌∙◌, arith, subst, add-one}
 use Rattle.std.specs.Prelude.{◌==◌}
-use Rattle.std.proofs.lemmas.List.{length-append, length-replicate, length-map, get_or-map, get_or_read, take_all}
+use Rattle.std.proofs.lemmas.List.{length-replicate, length-map, get_or-map, get_or_read}
 use Rattle.std.specs.List.{swap}
 use Rattle.std.proofs.Math.Nat.{mul-le-mul_right}
 use Rattle.rq_algebra.specs.Operations.{Operation, AddAssign, MulAssign, Fma, Reorder, step, values_in, meant_at, order_after, IsPlace, IsOrder}
@@ -11,13 +11,13 @@ use Rattle.rq_standard.specs.OctetField.{octets}
 use Rattle.rq_bytes.specs.Ranges.{range_of, with_range, ranges_exchanged, cut, joined_pieces}
 use Rattle.rq_bytes.proofs.Pieces as Pieces
 use Rattle.rq_bytes.proofs.Pieces.{HoldsPieces, piece_at, length-piece, piece_written, written_is, refilled_is}
-use Rattle.rq_bytes.specs.SymbolSlab.{Slab, among_zeros, after, symbols_in, same_slab, HasPlace}
+use Rattle.rq_bytes.specs.SymbolSlab.{Slab, after, symbols_in, same_slab, HasPlace}
 use Rattle.rq_bytes.specs.SlabLends.{with_octets_from}
 use Rattle.rq_bytes.specs.contracts.symbol_slab.SymbolSlab.{the_view, the_invariant}
 use Rattle.rq_bytes.specs.declared.symbol_slab.SymbolSlab.TheInside.{Inside}
 use Rattle.std.specs.Option.{option_map, option_eq, ForSome}
 use Rattle.std.specs.Cmp.Lexicographic.{pointwise}
-use Rattle.rq_bytes.proofs.Cuts.{cut-join, cut-replicate, refilled, cut-append, joined-cut, length-cut, cut-with_ranges, pieces_apart}
+use Rattle.rq_bytes.proofs.Cuts.{refilled, cut-append, joined-cut, length-cut, cut-with_ranges, pieces_apart}
 
 -- what callers see of the buffer `bytes` of `count` symbols of `size` octets
 abbrev pub seen : ℕ → ℕ → Option (List ℕ) → List ℕ → Slab
@@ -204,35 +204,6 @@ order-after (AddAssign dest src) slab = refl
 order-after (MulAssign dest scalar) slab = refl
 order-after (Fma dest src scalar) slab = refl
 order-after (Reorder order) slab = refl
-
--- ---- symbols among zeros
-
-pub zeros_around : (size start count n : ℕ) (bytes filled : List ℕ) → length bytes ≡ n * size → start + n ≤ count
-    → filled ≡ replicate (start * size) 0 ++ (bytes ++ replicate ((count - start - n) * size) 0) → cut count size filled ≡ among_zeros size start count (cut n size bytes)
-zeros_around size start count n bytes filled long fits is =
-    let rest = count - start - n in
-    let zeros = replicate (rest * size) 0 in
-    let all : count ≡ start + (n + rest) = omega arith in
-    let first = cut-join start (n + rest) size (replicate (start * size) 0) (bytes ++ zeros) (length-replicate {A = ℕ} (start * size) 0) in
-    ap (λ k. cut k size filled) all
-    ∙ rw (is, first, cut-replicate {X = ℕ} start size 0, cut-join n rest size bytes zeros long, cut-replicate {X = ℕ} rest size 0, length-cut n size bytes) refl
-
--- the buffer, filled in three steps
-pub filled_around : (size start count n all : ℕ) (bytes one two three : List ℕ) → length bytes ≡ n * size → start + n ≤ count → all ≡ length two
-    → one ≡ take (start * size) [] ++ replicate (start * size - 0) 0 → two ≡ one ++ bytes → three ≡ take (count * size) two ++ replicate (count * size - all) 0
-    → three ≡ replicate (start * size) 0 ++ (bytes ++ replicate ((count - start - n) * size) 0)
-filled_around size start count n all bytes one two three long fits length_two first second third =
-    let zeros = replicate (start * size) 0 in
-    let rest = count - start - n in
-    let first_is : one ≡ zeros = first ∙ ap (λ xs. xs ++ replicate (start * size - 0) 0) (take_all (start * size) [] (omega arith)) ∙ ap (λ k. replicate k 0) (let same : start * size - 0 ≡ start * size = omega arith in same) in
-    let two_is : two ≡ zeros ++ bytes = second ∙ ap (λ xs. xs ++ bytes) first_is in
-    let long_two : length two ≡ start * size + n * size = ap length two_is ∙ length-append zeros bytes ∙ omega (arith, length-replicate {A = ℕ} (start * size) 0, long) in
-    let split : count ≡ start + (n + rest) = omega arith in
-    let sizes : count * size ≡ start * size + n * size + rest * size = ap (λ k. k * size) split ∙ omega arith in
-    third
-    ∙ ap (λ xs. xs ++ replicate (count * size - all) 0) (take_all (count * size) two (omega (arith, long_two, sizes)) ∙ two_is)
-    ∙ ap (λ k. (zeros ++ bytes) ++ replicate k 0) (let left : count * size - all ≡ rest * size = omega (arith, length_two, long_two, sizes) in left)
-    ∙ append_assoc zeros bytes (replicate (rest * size) 0)
 
 -- a symbol ends within its slab's buffer
 pub symbol_within : (inside : Inside) (i a : ℕ) → the_invariant inside → meant_at (the_view inside).order i < length (the_view inside).values → a ≡ meant_at (the_view inside).order i * (the_view inside).symbol_size → a + inside.symbol_size ≤ length inside.data.items

@@ -1,5 +1,5 @@
 -- What callers see of a slab.
-use Rattle.std.specs.Prelude.{◌≡◌, ℕ, ◌-◌, ◌<◌, ◌++◌, Bool, true, false, List, Contains, fold, length, replicate, slice_index_or, Option, None, ◌==◌}
+use Rattle.std.specs.Prelude.{◌≡◌, ℕ, ◌<◌, Bool, true, false, List, Contains, fold, length, replicate, slice_index_or, Option, None, ◌==◌}
 use Rattle.std.specs.Cmp.Lexicographic.{pointwise}
 use Rattle.std.specs.Option.{option_eq, ForSome}
 use Rattle.std.specs.Ordering.{eq_of_both, on}
@@ -22,10 +22,6 @@ store_of slab = record { values = slab.values; order = slab.order }
 -- with no order set
 abbrev pub slab_of : ℕ → List (List ℕ) → Slab
 slab_of size values = record { values = values; symbol_size = size; order = None }
-
--- `count` symbols: these from `start` on, and zeros in all other places
-abbrev pub among_zeros : ℕ → ℕ → ℕ → List (List ℕ) → List (List ℕ)
-among_zeros size start count values = replicate start (replicate size 0) ++ (values ++ replicate (count - start - length values) (replicate size 0))
 
 -- a slab after an operation
 abbrev pub after : Operation → Slab → Slab

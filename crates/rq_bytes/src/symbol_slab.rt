@@ -1,5 +1,5 @@
 //! Symbols of one size in one buffer.
-ghost use Rattle.std.specs.Prelude.{◌≡◌, ◌↔◌, ◌+◌, ◌*◌, ◌/◌, ◌^◌, ◌<◌, ◌≤◌, [], ◌∷◌, ◌++◌, length, map, replicate, true, All, Ok, None, IfOk, OnOk, IfErr, OnErr};
+ghost use Rattle.std.specs.Prelude.{◌≡◌, ◌↔◌, ◌+◌, ◌*◌, ◌/◌, ◌^◌, ◌<◌, ◌≤◌, [], ◌∷◌, ◌++◌, length, map, replicate, true, All, Ok, None, IfOk, OnOk, OnErr};
 ghost use Rattle.std.specs.List.{swap};
 ghost use Rattle.std.proofs.Common.{rules};
 ghost use Rattle.std.specs.Cmp.Rules.{comparing};
@@ -8,9 +8,8 @@ ghost use Rattle.rq_algebra.specs.Symbols.{AreSymbols};
 ghost use Rattle.rq_standard.specs.OctetField.{octets};
 ghost use Rattle.std.specs.Borrow.{sem};
 ghost use Rattle.rq_bytes.specs.Ranges.{cut, joined_pieces, whole_symbols, with_range};
-ghost use Rattle.rq_bytes.specs.declared.error.Error.TheVariants.{OutOfMemory};
 ghost use Rattle.rq_bytes.specs.Refusals.{IsAnswer};
-ghost use Rattle.rq_bytes.specs.SymbolSlab.{slab_of, among_zeros, after, HasPlace, Allows, symbol_in, symbols_in, same_slab, IsZeroUnread, IsZeroUnmarked};
+ghost use Rattle.rq_bytes.specs.SymbolSlab.{slab_of, after, HasPlace, Allows, symbol_in, symbols_in, same_slab, IsZeroUnread, IsZeroUnmarked};
 
 mod doublings;
 mod multiples;
@@ -100,29 +99,6 @@ impl SymbolSlab {
             count,
             order: None,
         }
-    }
-
-    /// A slab of `count` symbols that has these from `start` on, and zeros in all other places.
-    /// Where an order is set, it isn't taken over.
-    pub fn among_zeros(&self, start: usize, count: usize) -> Result<Self, Error>
-        requires fits { start + length self.now.values ≤ count }
-        requires room { (count + length self.now.values) * self.now.symbol_size < 2 ^ 64 }
-        ensures { IsAnswer (λ slab. slab) result (Ok (slab_of self.now.symbol_size (among_zeros self.now.symbol_size start count self.now.values))) }
-    {
-        let size = self.symbol_size;
-        // More than is filled: an allocator that takes this buffer from the system and is handed it
-        // back then keeps as much for the next block, whose pages it needs not ask for anew.
-        let room = count * size + self.data.len();
-        let mut data = Vec::with_capacity(*self.data.allocator(), room)?;
-        data.resize(start * size, 0)?;
-        data.extend_from_slice(self.data.as_slice())?;
-        data.resize(count * size, 0)?;
-        Ok(SymbolSlab {
-            data,
-            symbol_size: size,
-            count,
-            order: None,
-        })
     }
 
     /// The symbols at the defined places, as they are read.
@@ -215,24 +191,20 @@ impl SymbolSlab {
     }
 
     /// Makes room for `count` further symbols, so that `push_zeros` asks for no memory before they are
-    /// there. The one error is `OutOfMemory`. Not in the Rust crate.
-    pub fn reserve(&mut self, count: usize) -> Result<(), Error>
+    /// there. Not in the Rust crate.
+    pub fn reserve(&mut self, count: usize) -> Result<(), AllocError>
         requires { count * self.old.symbol_size < 2 ^ 64 }
-        ensures same { self.new ≡ self.old }
-        ensures err { IfErr result (λ e. e ≡ OutOfMemory) }
+        ensures { self.new ≡ self.old }
     {
-        self.data.reserve(count * self.symbol_size)?;
-        Ok(())
+        self.data.reserve(count * self.symbol_size)
     }
 
     /// Adds a symbol of zeros behind the others. An order that is set stays as it is, and so doesn't
-    /// read the new symbol. The one error is `OutOfMemory`, and then the slab is as it was. Not in the
-    /// Rust crate.
-    pub fn push_zeros(&mut self) -> Result<(), Error>
+    /// read the new symbol. Where there is no memory the slab is as it was. Not in the Rust crate.
+    pub fn push_zeros(&mut self) -> Result<(), AllocError>
         requires { length self.old.values + 1 < 2 ^ 64 }
         ensures ok { OnOk result (self.new ≡ record self.old { values = self.old.values ++ replicate self.old.symbol_size 0 ∷ [] }) }
         ensures refused { OnErr result (self.new ≡ self.old) }
-        ensures err { IfErr result (λ e. e ≡ OutOfMemory) }
     {
         self.data.resize(self.data.len() + self.symbol_size, 0)?;
         self.count += 1;

@@ -5,13 +5,14 @@ ghost use Rattle.rq_standard.specs.Configuration.{IsAccepted, largest_block};
 ghost use Rattle.rq_standard.specs.Cutting.{block_symbols};
 ghost use Rattle.rq_standard.specs.Headline.{HasNonsingularRows, IsNonsingular, block_row};
 ghost use Rattle.rq_standard.specs.TableRows.{greatest_size, row_of};
-ghost use Rattle.rq_block.specs.BlockData.{IsPlanFor};
+ghost use Rattle.rq_block.specs.BlockData.{block_by_plan, IsPlanFor};
+ghost use Rattle.rq_block.specs.BorrowedBlock.{borrowed_of};
 ghost use Rattle.rq_block.specs.SourceBlockEncoder.{block_encoded_of};
 ghost use Rattle.rq_block.specs.SourceBlockEncodingPlan.{plan_of};
 
 use crate::blocks::block_symbols;
 use rq_base::base::ObjectTransmissionInformation;
-use rq_block::encoder::{SourceBlockEncoder, SourceBlockEncodingPlan};
+use rq_block::encoder::{BorrowedBlock, SourceBlockEncoder, SourceBlockEncodingPlan};
 use rq_bytes::error::Error;
 use rq_tables::systematic_constants::SystematicTable;
 use std::alloc::Global;
@@ -61,7 +62,43 @@ impl<'a> BlockwiseEncoder<'a> {
     pub(super) fn next_encoder(&mut self, number: u8) -> Result<SourceBlockEncoder, Error>
         requires { number < self.old.config.now.source_blocks }
         ensures encoded { IfOk result (λ encoder. CutsBlock number self.old (block_encoded_of encoder) self.new) }
-        ensures symbols { IfOk result (λ encoder. length (block_encoded_of encoder).source ≡ block_symbols self.old.config.now number) }
+        ensures nonsingular { OnOk result (IsNonsingular (block_row self.old.table.now self.old.config.now number)) }
+        ensures table { self.new.table ≡ self.old.table }
+        ensures config { self.new.config ≡ self.old.config }
+        ensures refused { IfErr result (RefusesRows self.old.table.now self.old.config.now) }
+    {
+        let block = self.next_block(number)?;
+        let encoder = SourceBlockEncoder::of_block(
+            self.alloc,
+            number,
+            self.config,
+            block,
+            &self.plan,
+        )?;
+        Ok(encoder)
+    }
+
+    /// Encodes the block with this number, which comes next, without a copy of its symbols.
+    pub(super) fn next_borrowed(&mut self, number: u8) -> Result<BorrowedBlock<'a>, Error>
+        requires { number < self.old.config.now.source_blocks }
+        ensures encoded { IfOk result (λ block. CutsBlock number self.old (borrowed_of block) self.new) }
+        ensures symbols { IfOk result (λ block. length (borrowed_of block).source ≡ block_symbols self.old.config.now number) }
+        ensures nonsingular { OnOk result (IsNonsingular (block_row self.old.table.now self.old.config.now number)) }
+        ensures table { self.new.table ≡ self.old.table }
+        ensures config { self.new.config ≡ self.old.config }
+        ensures refused { IfErr result (RefusesRows self.old.table.now self.old.config.now) }
+    {
+        let block = self.next_block(number)?;
+        let borrowed = BorrowedBlock::new(self.alloc, number, self.config, block, &self.plan)?;
+        Ok(borrowed)
+    }
+
+    // Cuts the bytes of the block with this number, which comes next, off what is left of the object,
+    // and makes its plan.
+    fn next_block(&mut self, number: u8) -> Result<&'a [u8], Error>
+        requires { number < self.old.config.now.source_blocks }
+        ensures cut { IfOk result (λ block. CutsBlock number self.old (block_by_plan (plan_of self.new.plan) self.old.config.now number block.now) self.new) }
+        ensures count { OnOk result ((plan_of self.new.plan).count ≡ block_symbols self.old.config.now number) }
         ensures nonsingular { OnOk result (IsNonsingular (block_row self.old.table.now self.old.config.now number)) }
         ensures table { self.new.table ≡ self.old.table }
         ensures config { self.new.config ≡ self.old.config }
@@ -73,14 +110,7 @@ impl<'a> BlockwiseEncoder<'a> {
         let whole = count as usize * size;
         let (block, behind) = self.rest.split_at(whole.min(self.rest.len()));
         self.rest = behind;
-        let encoder = SourceBlockEncoder::of_block(
-            self.alloc,
-            number,
-            self.config,
-            block,
-            &self.plan,
-        )?;
-        Ok(encoder)
+        Ok(block)
     }
 
     /// Whether no row of the object's blocks is singular.

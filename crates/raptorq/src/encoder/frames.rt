@@ -17,7 +17,7 @@ use std::alloc::Global;
 /// Appends the packets of an object to bytes, each its payload id of 4 bytes and its symbol: those
 /// that [`Encoder::get_encoded_packets`](crate::encoder::Encoder::get_encoded_packets) makes, in
 /// their order (RFC 6330, 4.4.2 and 5.3). It works on one block after another, so that beside the
-/// object and the bytes there are the symbols of one block alone. Not in the Rust crate.
+/// object and the bytes there are the intermediate symbols of one block alone. Not in the Rust crate.
 ///
 /// Refuses what [`Encoder::new`](crate::encoder::Encoder::new) refuses, and then [`Error::EsiTooLarge`]
 /// where a block would need encoding symbol ids above 2^24 - 1. The bytes are as before then.
@@ -69,7 +69,7 @@ fn append_blocks(
 {
     let count = blocks.config.source_blocks();
     for number in 0..count {
-        let block = blocks.next_encoder(number)?;
+        let block = blocks.next_borrowed(number)?;
         block.append_packets(block.source_symbol_count() + repair, bytes)?;
     }
     Ok(())

@@ -1,8 +1,8 @@
 //! Symbols in one buffer where memory is refused.
 use crate::compare::holds;
-use raptorq::error::Error;
 use raptorq::symbol_slab::SymbolSlab;
 use rq_memory_kit::Shortage;
+use std::alloc::AllocError;
 use std::process::Abort;
 use std::test::Fail;
 
@@ -19,7 +19,7 @@ fn a_reserved_symbol(rt: HostRuntime) -> Result<(), Fail> {
     let is_whole = shortage.is_whole();
     drop(shortage);
     holds!(rt; is_whole);
-    holds!(rt; refused == Err(Error::OutOfMemory));
+    holds!(rt; refused == Err(AllocError));
     holds!(rt; pushed == Ok(()));
     Ok(())
 }

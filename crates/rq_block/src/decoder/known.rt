@@ -8,6 +8,7 @@ ghost use Rattle.rq_standard.specs.IdLists.{IsListOf};
 ghost use Rattle.rq_block.specs.Known.{known_list, values_after};
 ghost use Rattle.rq_block.specs.Missing.{payload_of, has_payload};
 
+use crate::buffer::symbol_buffer;
 use crate::ids::{internal_symbol_id, padding_ids};
 use rq_bytes::symbol_slab::SymbolSlab;
 use rq_tables::systematic_constants::CheckedRow;
@@ -52,10 +53,7 @@ pub(crate) fn known_symbol_values(
     ensures { IfOk result (λ values. values ≡ slab_of size (values_after zeros size received.now.entries)) }
 {
     let count = zeros + received.len();
-    // An allocator that is handed this buffer back keeps as much for the next block, once this one
-    // is answered.
-    let room = (count + source_symbols as usize) * size;
-    let mut bytes = Vec::with_capacity(alloc, room)?;
+    let mut bytes = symbol_buffer(alloc, count, source_symbols, size)?;
     bytes.resize(zeros * size, 0)?;
     for payload in received.values() {
         bytes.extend_from_slice(payload.as_slice())?;

@@ -44,9 +44,8 @@ pub struct SourceBlockEncoder {
 }
 
 impl SourceBlockEncoder {
-    ghost use Rattle.rq_block.specs.AppendedBlock.{AppendsBlock, AppendsSymbol, KeepsFront};
     ghost use Rattle.rq_base.specs.RefusedInput.{new_id};
-    ghost use Rattle.rq_block.specs.SourceBlockEncoder.{block_encoded, block_encoded_of, IsBlockPacket, AreBlockPackets};
+    ghost use Rattle.rq_block.specs.SourceBlockEncoder.{block_encoded_of, IsBlockPacket, AreBlockPackets};
     ghost use Rattle.rq_block.specs.BlockData.{block_of, block_by_plan, IsPlanFor, RefusesBlock, RefusesPlanned};
     ghost use Rattle.rq_block.specs.SourceBlockEncodingPlanCache.{after_use};
     ghost use Rattle.rq_block.specs.SourceBlockEncodingPlan.{plan_of};
@@ -150,7 +149,14 @@ impl SourceBlockEncoder {
             source_symbols: u32::from(plan.source_symbol_count()),
         };
         let source = layout.symbols_of_block(alloc, block)?;
-        SourceBlockEncoder::of_source(alloc, number, source, plan)
+        let intermediate = plan.intermediate_symbols(alloc, &layout, block)?;
+        Ok(SourceBlockEncoder {
+            number,
+            row: plan.row(),
+            source,
+            intermediate,
+            alloc,
+        })
     }
 
     /// The packets of the source symbols, in their order (RFC 6330, section 4.4.2).
@@ -185,30 +191,6 @@ impl SourceBlockEncoder {
         self.packets(start as u32, end as u32)
     }
 
-    /// The encoder of a block with these source symbols, by a plan of its row.
-    pub(crate) fn of_source(
-        alloc: Global,
-        number: u8,
-        source: SymbolSlab,
-        plan: &SourceBlockEncodingPlan,
-    ) -> Result<SourceBlockEncoder, AllocError>
-        requires unordered { source.order ≡ None }
-        requires small { source.symbol_size < 65536 }
-        requires few { length source.values ≤ (plan_of plan.now).row.extended_symbols }
-        requires sized { All (λ symbol. length symbol ≡ source.symbol_size) source.values }
-        ensures { IfOk result (λ b. block_encoded_of b ≡ block_encoded number (plan_of plan.now).row source) }
-    {
-        let row = plan.row();
-        let intermediate = plan.apply(&source)?;
-        Ok(SourceBlockEncoder {
-            number,
-            row,
-            source,
-            intermediate,
-            alloc,
-        })
-    }
-
     /// The number of source symbols (K). Not in the Rust crate.
     pub fn source_symbol_count(&self) -> u32
         ensures { result ≡ length (block_encoded_of self.now).source }
@@ -226,37 +208,6 @@ impl SourceBlockEncoder {
     {
         let id = PayloadId::new(self.number, encoding_symbol_id)?;
         Ok(EncodingPacket::new(id, self.payload(encoding_symbol_id)?))
-    }
-
-    /// Appends the packets with the encoding symbol ids before `end` to bytes, each its payload id of 4
-    /// bytes and its symbol. The one error is [`Error::OutOfMemory`]: some may be appended then. Not in
-    /// the Rust crate.
-    pub fn append_packets(&self, end: u32, bytes: &mut Vec<u8>) -> Result<(), Error>
-        requires { end ≤ 2 ^ 24 }
-        ensures packets { OnOk result (AppendsBlock (block_encoded_of self.now) end bytes.old.items bytes.new.items) }
-        ensures begun { OnErr result (KeepsFront bytes.old.items bytes.new.items) }
-        ensures memory { IfErr result (λ e. e ≡ Error.OutOfMemory) }
-    {
-        for esi in 0..end {
-            bytes.extend_from_slice(&PayloadId::new(self.number, esi)?.serialize())?;
-            self.append_symbol(esi, bytes)?;
-        }
-        Ok(())
-    }
-
-    // Appends the payload of an encoding symbol id to bytes.
-    fn append_symbol(&self, esi: u32, bytes: &mut Vec<u8>) -> Result<(), AllocError>
-        requires { esi < 2 ^ 24 }
-        ensures symbol { OnOk result (AppendsSymbol (block_encoded_of self.now) esi bytes.old.items bytes.new.items) }
-        ensures kept { OnErr result (bytes.new.items ≡ bytes.old.items) }
-    {
-        if esi < self.source_symbol_count() {
-            bytes.extend_from_slice(self.source.get(esi as usize))?;
-            return Ok(());
-        }
-        let symbol = self.payload(esi)?;
-        bytes.extend_from_slice(symbol.as_slice())?;
-        Ok(())
     }
 
     // The payload of an encoding symbol id: a source symbol, or a sum of intermediate symbols.

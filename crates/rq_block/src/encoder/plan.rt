@@ -5,15 +5,16 @@ ghost use Rattle.rq_operations.specs.RecordedOperations.{operations_of};
 ghost use Rattle.rq_standard.specs.Headline.{IsNonsingular, IsSingular, IsOnlyIntermediateColumn};
 ghost use Rattle.rq_standard.specs.TableRows.{row_of, intermediate_symbols};
 ghost use Rattle.rq_block.specs.Allowed.{AreAllowedOver, AreAllowedOver-prop};
+ghost use Rattle.rq_block.specs.BlockLayout.{cut_by};
 ghost use Rattle.rq_block.specs.Planned.{IsPlanOf, source_values};
 
 use crate::encoder::SPARSE_MATRIX_THRESHOLD;
 use crate::ids::padding_ids;
 use crate::solving::solve_block;
+use crate::sub_blocks::BlockLayout;
 use rq_bytes::error::Error;
 use rq_bytes::symbol_slab::SymbolSlab;
 use rq_operations::recorded::RecordedOperations;
-use rq_parts::memory::want_of_memory;
 use rq_tables::systematic_constants::{CheckedRow, SystematicTable};
 use std::alloc::{AllocError, Global};
 
@@ -105,17 +106,19 @@ impl SourceBlockEncodingPlan {
         self.row
     }
 
-    /// The intermediate symbols of a block with these source symbols.
-    pub(crate) fn apply(&self, source: &SymbolSlab) -> Result<SymbolSlab, AllocError>
-        requires small { source.now.symbol_size < 65536 }
-        requires few { length source.now.values ≤ (plan_of self.now).row.extended_symbols }
-        ensures size { IfOk result (λ slab. slab.symbol_size ≡ source.now.symbol_size) }
+    /// The intermediate symbols of a block that is cut so, by a plan of its row.
+    pub(crate) fn intermediate_symbols(
+        &self,
+        alloc: Global,
+        layout: &BlockLayout,
+        block: &[u8],
+    ) -> Result<SymbolSlab, AllocError>
+        requires few { layout.now.source_symbols ≤ (plan_of self.now).row.extended_symbols }
+        ensures size { IfOk result (λ slab. slab.symbol_size ≡ layout.now.config.symbol_size) }
         ensures enough { IfOk result (λ slab. intermediate_symbols (plan_of self.now).row ≤ length (symbols_in slab)) }
-        ensures column { IfOk result (λ slab. IsOnlyIntermediateColumn (plan_of self.now).row source.now.symbol_size source.now.values (symbol_in slab)) }
+        ensures column { IfOk result (λ slab. IsOnlyIntermediateColumn (plan_of self.now).row layout.now.config.symbol_size (cut_by layout.now block.now) (symbol_in slab)) }
     {
-        // For the proof: the contract of `symbol_size` says that each symbol has that size.
-        let _size = source.symbol_size();
-        let mut symbols = source_values(&self.row, source)?;
+        let mut symbols = source_values(alloc, &self.row, layout, block)?;
         self.operations.replay(&mut symbols)?;
         Ok(symbols)
     }
@@ -137,13 +140,14 @@ impl Clone for SourceBlockEncodingPlan {
 
 // The values of the equations that determine a block's intermediate symbols: its source symbols, and
 // zeros for all others.
-fn source_values(row: &CheckedRow, source: &SymbolSlab) -> Result<SymbolSlab, AllocError>
-    requires small { source.now.symbol_size < 65536 }
-    requires few { length source.now.values ≤ row.now.numbers.extended_symbols }
-    ensures { IfOk result (λ slab. slab ≡ slab_of source.now.symbol_size (source_values row.now.numbers source.now.symbol_size source.now.values)) }
+fn source_values(
+    alloc: Global,
+    row: &CheckedRow,
+    layout: &BlockLayout,
+    block: &[u8],
+) -> Result<SymbolSlab, AllocError>
+    requires { layout.now.source_symbols ≤ row.now.numbers.extended_symbols }
+    ensures { IfOk result (λ slab. slab ≡ slab_of layout.now.config.symbol_size (source_values row.now.numbers layout.now.config.symbol_size (cut_by layout.now block.now))) }
 {
-    let values = source
-        .among_zeros(row.precode_rows(), row.intermediate_symbols())
-        .map_err(want_of_memory)?;
-    Ok(values)
+    layout.symbols_among_zeros(alloc, block, row.precode_rows(), row.intermediate_symbols())
 }

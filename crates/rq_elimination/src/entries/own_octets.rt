@@ -12,7 +12,6 @@ use rq_bytes::octets::{add_bit_multiples, are_octets};
 use rq_bytes::row_multiples::{add_row_multiple, multiply_row};
 use rq_bytes::symbol_slab::SymbolSlab;
 use rq_parts::bit_rows::BitRows;
-use rq_parts::memory::want_of_memory;
 use rq_parts::octet_matrix::DenseOctetMatrix;
 use std::alloc::{AllocError, Global};
 use std::marker::Model;
@@ -225,9 +224,9 @@ fn push_bits(rows: &mut SymbolSlab, bits: &[u64]) -> Result<(), AllocError>
 {
     let place = rows.len();
     if place == 0 {
-        rows.reserve(FIRST_ROWS).map_err(want_of_memory)?;
+        rows.reserve(FIRST_ROWS)?;
     }
-    rows.push_zeros().map_err(want_of_memory)?;
+    rows.push_zeros()?;
     add_bit_multiples(rows.get_mut(place), bits, 1);
     Ok(())
 }

@@ -2,8 +2,8 @@ use Rattle.std.proofs.Common.{◌+◌, take, replicate, ap, ◌∙◌, ◌-◌, 
 use Rattle.rq_block.proofs.Interleaving.{padded_more, grown_ok}
 use Rattle.rq_block.proofs.sub_blocks.append_padded.Goals as goal
 
-pub returns : goal.returns
-returns c =
+pub returns-clause-padded : goal.returns-clause-padded
+returns-clause-padded c =
     let ys = c.extend_from_slice.new.self in
     let whole = c.len.result + c.args.width in
     grown_ok c.resize.result ys.items c.resize.new.self.items _ _ c.resize.ensures.items

@@ -1,14 +1,15 @@
-use Rattle.std.proofs.Common.{◌≡◌, ◌<◌, ◌+◌, length, ap, ◌∙◌, arith}
+use Rattle.std.proofs.Common.{◌≡◌, ◌<◌, ◌≤◌, ◌+◌, ◌^◌, length, ap, ◌∙◌, arith}
 use borrow.Author.Count.{below_more}
 use Rattle.std.proofs.lemmas.Result.{err_from_is_err_and}
 use Rattle.rq_standard.specs.Headline.{block_row, IsNonsingular}
 use Rattle.rq_standard.proofs.BlockCuts.{first_is_largest}
 use Rattle.rq_standard.specs.Cutting.{block_symbols}
-use Rattle.rq_block.specs.SourceBlockEncoder.{block_encoded_of}
+use Rattle.rq_block.specs.BorrowedBlock.{borrowed_of}
 use Rattle.rq_block.proofs.AppendedPackets.{extends_more}
 use Rattle.raptorq.proofs.AppendedBlocks.{so_far-all, so_far-extends, so_far-more}
 use Rattle.raptorq.proofs.EncodedBlocks.{enough_ids}
 use Rattle.raptorq.proofs.encoder.frames.append_blocks.Goals as goal
+use Rattle.raptorq.proofs.encoder.frames.append_blocks.Goals.{After-source_symbol_count}
 
 pub returns-in_err-block-clause-begun : goal.returns-in_err-block-clause-begun
 returns-in_err-block-clause-begun c =
@@ -16,13 +17,20 @@ returns-in_err-block-clause-begun c =
     let p = err_from_is_err_and c.from_residual.result c.from_residual.ensures.1 in
     rw p.1 (so_far-extends c.args.blocks c.loop-number.blocks c.args.repair c.loop-number.number c.args.bytes.now.items c.loop-number.bytes.items v.appends)
 
+module _ (c : After-source_symbol_count) where
+  ends : c.source_symbol_count.result + c.args.repair ≤ 2 ^ 24
+  ends =
+      let config = c.args.blocks.config.now in
+      let n = c.loop-number.number in
+      let within : n < config.source_blocks = omega (arith, c.loop-number-test.true, c.source_blocks-count.ensures) in
+      let symbols : length (borrowed_of c.in_ok-block.block).source ≡ block_symbols config n = c.in_ok-block.ensures.symbols ∙ (λ i. block_symbols (c.loop-number.invariant.config i).now n) in
+      omega (arith, c.source_symbol_count.ensures, symbols, first_is_largest config n within, enough_ids config c.args.repair c.requires)
+
+pub overflow_add-source_symbol_count : goal.overflow_add-source_symbol_count
+overflow_add-source_symbol_count c = record { fits = omega (arith, ends c) }
+
 pub append_packets-requires : goal.append_packets-requires
-append_packets-requires c =
-    let config = c.args.blocks.config.now in
-    let n = c.loop-number.number in
-    let within : n < config.source_blocks = omega (arith, c.loop-number-test.true, c.source_blocks-count.ensures) in
-    let symbols : length (block_encoded_of c.in_ok-block.block).source ≡ block_symbols config n = c.in_ok-block.ensures.symbols ∙ (λ i. block_symbols (c.loop-number.invariant.config i).now n) in
-    omega (arith, c.source_symbol_count.ensures, symbols, first_is_largest config n within, enough_ids config c.args.repair c.requires)
+append_packets-requires c = ends (goal.at.append_packets-requires c).After-source_symbol_count
 
 pub returns-in_err-append_packets-clause-begun : goal.returns-in_err-append_packets-clause-begun
 returns-in_err-append_packets-clause-begun c =
@@ -37,13 +45,13 @@ loop-number-preserved c =
     let v = c.loop-number.invariant in
     let start = c.args.blocks in
     let n = c.loop-number.number in
-    let b = block_encoded_of c.in_ok-block.block in
-    let next = c.next_encoder.ensures in
+    let b = borrowed_of c.in_ok-block.block in
+    let next = c.next_borrowed.ensures in
     let within : n < start.config.now.source_blocks = omega (arith, c.loop-number-test.true, c.source_blocks-count.ensures) in
     record {
       table = next.table ∙ v.table;
       config = next.config ∙ v.config;
-      appends = so_far-more start c.loop-number.blocks c.next_encoder.new.self c.args.repair n (c.source_symbol_count.result + c.args.repair) b c.args.bytes.now.items c.loop-number.bytes.items c.append_packets.new.bytes.items
+      appends = so_far-more start c.loop-number.blocks c.next_borrowed.new.self c.args.repair n (c.source_symbol_count.result + c.args.repair) b c.args.bytes.now.items c.loop-number.bytes.items c.append_packets.new.bytes.items
           v.table v.config within (ap (λ m. m + c.args.repair) c.source_symbol_count.ensures) v.appends c.in_ok-block.ensures.encoded c.in_ok-append_packets.ensures.packets;
       nonsingular = below_more (λ k. IsNonsingular (block_row start.table.now start.config.now k)) n v.nonsingular (rw (v.table, v.config) at c.in_ok-block.ensures.nonsingular);
     }

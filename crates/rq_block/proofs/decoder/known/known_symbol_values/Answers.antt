@@ -1,7 +1,6 @@
-use Rattle.std.proofs.Common.{ℕ, [], ◌∷◌, ◌++◌, ◌+◌, ◌-◌, ◌*◌, ◌^◌, ◌≡◌, ◌≤◌, map, replicate, take, sym, ap, ◌∙◌, subst, arith}
+use Rattle.std.proofs.Common.{ℕ, [], ◌∷◌, ◌++◌, ◌+◌, ◌-◌, ◌*◌, ◌^◌, ◌≡◌, ◌≤◌, length, map, replicate, take, sym, ap, ◌∙◌, subst, arith}
 use Rattle.std.specs.BTreeMap.{values}
 use Rattle.std.specs.Map.Iter.{deref}
-use Rattle.std.proofs.Math.Nat.{mul-le-mul}
 use Rattle.std.proofs.lemmas.List.{map-append, take_all}
 use Rattle.std.proofs.lemmas.Map.Entries.{length-values_of}
 use Rattle.rq_bytes.specs.SymbolSlab.{slab_of}
@@ -9,25 +8,23 @@ use Rattle.rq_block.proofs.ReceivedEntries.{AppendsSoFar, appends_none, appends_
 use Rattle.rq_block.proofs.Listing.{few_entries}
 use Rattle.rq_block.proofs.decoder.known.known_symbol_values.Goals as goal
 
-pub overflow_mul-room : goal.overflow_mul-room
-overflow_mul-room c =
+pub symbol_buffer-requires-clause-few : goal.symbol_buffer-requires-clause-few
+symbol_buffer-requires-clause-few c =
     let count : c.len.result ≤ 2 ^ 24 = omega (arith, c.len.ensures.len, few_entries c.args.received.now (2 ^ 24) c.len.ensures.ordered c.requires.few) in
-    let n = c.args.zeros + c.len.result + c.args.source_symbols in
-    let few : n ≤ 2 ^ 26 = omega (arith, count, c.requires.few_symbols) in
-    let product : n * c.args.size ≤ 2 ^ 26 * 65535 = mul-le-mul few (let small : c.args.size ≤ 65535 = omega (arith, c.requires.small) in small) in
-    record { fits = omega (arith, product) }
+    omega (arith, count, c.requires.few_symbols)
 
 pub loop-payload-init : goal.loop-payload-init
 loop-payload-init c =
     let zeros : ℕ = c.args.zeros in
     let n = zeros * c.args.size in
-    let empty = c.in_ok-bytes.ensures.items in
+    let empty = c.in_ok-bytes.ensures in
+    let none : c.in_ok-bytes.bytes.len ≡ 0 = c.in_ok-bytes.bytes.ok.0 ∙ ap length empty in
     appends_none zeros c.args.size (values c.args.received.now) c.into_iter-payload-iterator.result c.resize.new.self.items
     (c.into_iter-payload-iterator.ensures.into_iter_gives ∙ c.values-payload-items.ensures.rest)
     (c.in_ok-resize.ensures.items
     ∙ ap (λ xs. take n xs ++ replicate (n - c.in_ok-bytes.bytes.len) 0) empty
     ∙ ap (λ xs. xs ++ replicate (n - c.in_ok-bytes.bytes.len) 0) (take_all n [] (omega arith))
-    ∙ ap (λ m. replicate m 0) (let e : n - c.in_ok-bytes.bytes.len ≡ n = omega (arith, c.in_ok-bytes.ensures.len) in e))
+    ∙ ap (λ m. replicate m 0) (let e : n - c.in_ok-bytes.bytes.len ≡ n = omega (arith, none) in e))
 
 pub loop-payload-preserved : goal.loop-payload-preserved
 loop-payload-preserved c =

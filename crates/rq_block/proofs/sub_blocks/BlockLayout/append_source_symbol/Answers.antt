@@ -1,8 +1,5 @@
-use Rattle.std.proofs.Common.{◌≡◌, ◌+◌, ◌*◌, ◌<◌, ◌≤◌, ◌++◌, append-nil, append_assoc, length, map, get_or, refl, sym, ap, ◌∙◌, arith}
-use Rattle.std.proofs.lemmas.List.{length-append}
+use Rattle.std.proofs.Common.{◌≡◌, ◌+◌, ◌*◌, ◌<◌, ◌≤◌, ◌++◌, append-nil, append_assoc, map, get_or, refl, sym, ap, ◌∙◌, arith}
 use Rattle.std.specs.List.{range_with_len}
-use Rattle.std.specs.Vec.{vec_len}
-use Rattle.std.proofs.lemmas.List.FromFn.{length-map-range_with_len}
 use Rattle.rq_standard.specs.Cutting.{place_in_block, symbol_of_block}
 use Rattle.rq_block.proofs.Interleaving.{reaches_none, reaches_more, symbol_more, place_fits, width_within}
 use Rattle.rq_block.proofs.sub_blocks.BlockLayout.append_source_symbol.Goals as goal
@@ -30,13 +27,8 @@ append_padded-requires-clause-place c = omega (arith, fits (goal.at.append_padde
 
 pub append_padded-requires-clause-room : goal.append_padded-requires-clause-room
 append_padded-requires-clause-room c =
-    let k = c.args.self.now.config in
     let w = within (goal.at.append_padded-requires-clause-room c).After-sub_block_size-width in
-    let old = c.args.bytes.now in
-    let part = map (λ t. get_or c.args.block.now (place_in_block k c.args.self.now.source_symbols c.args.e t) 0) (range_with_len 0 c.loop-start.start) in
-    let long : vec_len c.loop-start.bytes ≡ vec_len old + c.loop-start.start =
-    c.loop-start.bytes.ok.0 ∙ ap length c.loop-start.invariant.so_far ∙ length-append old.items part ∙ omega (arith, old.ok.0, length-map-range_with_len (λ t. get_or c.args.block.now (place_in_block k c.args.self.now.source_symbols c.args.e t) 0) 0 c.loop-start.start) in
-    omega (arith, long, w.1, c.from-size.ensures, c.symbol_size.ensures, c.requires.room)
+    omega (arith, c.loop-start.bytes.ok.1, c.loop-start.bytes.small, w.1, c.from-size.ensures, c.symbol_size.type_inv)
 
 pub overflow_add-start : goal.overflow_add-start
 overflow_add-start c = omega (arith, (within (goal.at.overflow_add-start c).After-sub_block_size-width).1)
@@ -56,15 +48,15 @@ loop-start-preserved c =
           let old = c.args.bytes.now.items in
           let parts = map (λ t. get_or c.args.block.now (place_in_block k c.args.self.now.source_symbols c.args.e t) 0) (range_with_len 0 c.loop-start.start) in
           let part = map (λ i. get_or c.args.block.now (place + i) 0) (range_with_len 0 c.sub_block_size-width.result) in
-          c.in_ok-append_padded.ensures
+          c.in_ok-append_padded.ensures.padded
           ∙ ap (λ l. l ++ part) c.loop-start.invariant.so_far
           ∙ append_assoc old parts part
           ∙ ap (λ l. old ++ l) (symbol_more k c.args.self.now.source_symbols c.args.e c.loop-start.start c.sub_block_size-width.result place c.args.block.now parts (parts ++ part) c.args.self.now.aligned at below c.sub_block_size-width.ensures refl refl refl);
     }
 
-pub returns : goal.returns
+pub returns-clause-symbol : goal.returns-clause-symbol
 unfolding symbol_of_block
-returns c =
+returns-clause-symbol c =
     let k = c.args.self.now.config in
     let all : c.loop-start.start ≡ k.symbol_size = omega (arith, c.loop-start-test.false, c.loop-start.invariant.at.within, c.from-size.ensures, c.symbol_size.ensures) in
     c.loop-start.invariant.so_far ∙ ap (λ n. c.args.bytes.now.items ++ map (λ t. get_or c.args.block.now (place_in_block k c.args.self.now.source_symbols c.args.e t) 0) (range_with_len 0 n)) all

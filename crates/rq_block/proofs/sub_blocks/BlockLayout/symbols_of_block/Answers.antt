@@ -1,29 +1,28 @@
-use Rattle.std.proofs.Common.{◌≡◌, ◌+◌, ◌++◌, ◌∷◌, [], List, ℕ, length, sym, ap, ◌∙◌, add-one, arith}
-use Rattle.std.proofs.lemmas.List.{length-append}
-use Rattle.std.proofs.lemmas.List.FromFn.{map-range_with_len_more}
+use Rattle.std.proofs.Common.{◌≡◌, ◌*◌, ◌++◌, length, ap, sym, ◌∙◌}
 use Rattle.rq_bytes.specs.Ranges.{cut}
-use Rattle.rq_bytes.proofs.Cuts.{cut-append}
-use Rattle.rq_standard.specs.Cutting.{symbol_of_block}
-use Rattle.rq_standard.proofs.StandingSteps.{length-symbol_of_block}
+use Rattle.rq_bytes.specs.SymbolSlab.{slab_of}
+use Rattle.rq_block.specs.BlockLayout.{bytes_by}
+use Rattle.rq_block.proofs.Interleaving.{cut-bytes_by, length-bytes_by}
 use Rattle.rq_block.proofs.sub_blocks.BlockLayout.symbols_of_block.Goals as goal
+use Rattle.rq_block.proofs.sub_blocks.BlockLayout.symbols_of_block.Goals.{In_ok-append_symbols}
 
-pub loop-e-preserved : goal.loop-e-preserved
-loop-e-preserved c =
-    let config = c.args.self.now.config in
-    let f = symbol_of_block config c.args.self.now.source_symbols c.args.block.now in
-    let e = c.loop-e.e in
-    let size = c.from-size.result in
-    let old = c.loop-e.bytes in
-    let one = f e in
-    let long : length one ≡ size = length-symbol_of_block config c.args.self.now.source_symbols c.args.block.now e ∙ sym (c.from-size.ensures ∙ c.symbol_size.ensures) in
-    record {
-      symbols =
-          ap (cut (e + 1) size) c.in_ok-append_source_symbol.ensures
-          ∙ ap (λ k. cut k size (old.items ++ one)) (add-one e)
-          ∙ cut-append e size old.items one (sym old.ok.0 ∙ c.loop-e.invariant.long) long
-          ∙ ap (λ (xs : List (List ℕ)). xs ++ one ∷ []) c.loop-e.invariant.symbols
-          ∙ sym (map-range_with_len_more f 0 e e (omega arith));
-      long =
-          let new = c.append_source_symbol.new.bytes in
-          new.ok.0 ∙ ap length c.in_ok-append_source_symbol.ensures ∙ length-append old.items one ∙ omega (arith, old.ok.0, long, c.loop-e.invariant.long);
-    }
+module _ (c : In_ok-append_symbols) where
+  size_is : c.from-size.result ≡ c.args.self.now.config.symbol_size
+  size_is = c.from-size.ensures ∙ c.symbol_size.ensures
+
+  appended : c.append_symbols.new.bytes.items ≡ bytes_by c.args.self.now c.args.block.now
+  appended = c.in_ok-append_symbols.ensures ∙ ap (λ xs. xs ++ bytes_by c.args.self.now c.args.block.now) c.in_ok-bytes.ensures.items
+
+pub from_bytes-requires : goal.from_bytes-requires
+from_bytes-requires c =
+    let layout = c.args.self.now in
+    ap length (appended c) ∙ length-bytes_by layout c.args.block.now ∙ ap (λ n. layout.source_symbols * n) (sym (size_is c))
+
+pub returns-clause-symbols : goal.returns-clause-symbols
+returns-clause-symbols c =
+    let layout = c.args.self.now in
+    let at = (goal.at.returns-clause-symbols c).In_ok-append_symbols in
+    c.from_bytes.ensures
+    ∙ ap (λ n. slab_of n (cut layout.source_symbols n c.append_symbols.new.bytes.items)) (size_is at)
+    ∙ ap (λ xs. slab_of layout.config.symbol_size (cut layout.source_symbols layout.config.symbol_size xs)) (appended at)
+    ∙ ap (slab_of layout.config.symbol_size) (cut-bytes_by layout c.args.block.now)

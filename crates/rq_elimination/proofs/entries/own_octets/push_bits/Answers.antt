@@ -2,21 +2,20 @@
 use Rattle.std.proofs.Common.{◌≡◌, ap, ◌∙◌}
 use Rattle.std.specs.Prelude.{◌++◌, ◌∷◌, [], replicate}
 use Rattle.rq_bytes.specs.SymbolSlab.{Slab}
-use Rattle.rq_parts.proofs.MemoryAlone.{on_ok_past}
 use Rattle.rq_elimination.proofs.OwnRows.{appended}
 use Rattle.rq_elimination.proofs.entries.own_octets.push_bits.Goals as goal
-use Rattle.rq_elimination.proofs.entries.own_octets.push_bits.Goals.{then-place-eq0+in_ok-map_err, else-place-eq0}
+use Rattle.rq_elimination.proofs.entries.own_octets.push_bits.Goals.{then-place-eq0+in_ok-reserve, else-place-eq0}
 
 pub returns-clause-ok : goal.returns-clause-ok
 returns-clause-ok c =
     let old = c.args.rows.now in
     let kept : ◌≡◌ {A = Slab} c.if-place-eq0.rows old =
     elim c.if-place-eq0.branch [
-      | then-place-eq0+in_ok-map_err w ↦ w.rows-is ∙ w.reserve.ensures.same
+      | then-place-eq0+in_ok-reserve w ↦ w.rows-is ∙ w.reserve.ensures
       | else-place-eq0 w ↦ w.rows-is
     ]
     in
-    let zeros = on_ok_past c.push_zeros.result c.in_ok-map_err-2.ensures.variant c.push_zeros.ensures.ok ∙ ap (λ (s : Slab). record s { values = s.values ++ replicate s.symbol_size 0 ∷ [] }) kept in
+    let zeros = c.in_ok-push_zeros.ensures.ok ∙ ap (λ (s : Slab). record s { values = s.values ++ replicate s.symbol_size 0 ∷ [] }) kept in
     let ws = c.add_bit_multiples.new.octets in
     let long = c.add_bit_multiples.auto.octets ∙ c.get_mut.ensures.len in
     c.get_mut.ensures.whole_symbol ws long
