@@ -1,5 +1,5 @@
-//! Multiples of a range of one buffer, added to other ranges of it; and a range that is doubled and summed
-//! before it is added to them.
+//! Multiples of a range of one buffer, added to other ranges of it; and a range that is doubled, takes
+//! another one, and is then added to others.
 ghost use Rattle.std.specs.Prelude.{◌≡◌, ◌+◌, ◌<◌, ◌≤◌, length, map, All};
 ghost use Rattle.rq_bytes.specs.Ranges.{range_of};
 ghost use Rattle.rq_bytes.specs.RangeSums.{with_row_added, with_multiples_added, with_doubled_sum, doubled_sum, by_one, IsRangeBeside, BeginsNotInside};

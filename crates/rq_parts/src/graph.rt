@@ -1,5 +1,5 @@
 //! Graphs whose nodes are numbers.
-ghost use Rattle.std.specs.Prelude.{◌≡◌, ℕ, ◌+◌, ◌*◌, ◌^◌, ◌<◌, ◌↔◌, ◌++◌, ◌∷◌, [], true, false, IsTrue, length, map, Contains, Ok, IfOk, OnOk, IfErr, slice_index, ◌-◌};
+ghost use Rattle.std.specs.Prelude.{◌≡◌, ℕ, ◌*◌, ◌^◌, ◌<◌, ◌↔◌, ◌++◌, ◌∷◌, [], true, false, IsTrue, length, map, Contains, Ok, IfOk, OnOk, IfErr, slice_index, ◌-◌};
 ghost use Rattle.std.specs.Iterator.{YieldsFirst, item_count};
 ghost use Rattle.std.specs.List.Sorted.{IsPermutation, IsStrictlyIncreasing, IsNonDecreasingBy};
 ghost use Rattle.rq_bytes.specs.Refusals.{IsAnswer};
