@@ -7,10 +7,10 @@ use Rattle.rq_standard.specs.BitTable.{BitTable}
 use Rattle.rq_standard.specs.BitTableSteps.{SwapsPlaces, SetsBit, SetsBoundary, AddsRowFrom, ArePlacesOfOnes, AreBitsOf, bit_of}
 use Rattle.rq_parts.specs.SparseBinaryVec.{listed_bit, SetsListed, IsListedSum}
 use Rattle.rq_matrix.specs.DenseTails.{Tail, tail_bit, SetsTailBit, AddsTailRow, PushesColumn, SetsTailOnes}
-use Rattle.rq_matrix.specs.Orders.{Order, IsPlacedOrder, ExchangesPlaces}
+use Rattle.rq_matrix.specs.Orders.{Order, IsPlacedOrder}
 use Rattle.rq_matrix.specs.SparseBinaryMatrix.{sparse_bit}
 use Rattle.rq_matrix.specs.SparseTables.{bit-before, bit-from}
-use Rattle.rq_matrix.proofs.OrderLaws.{order_apart}
+use Rattle.rq_matrix.proofs.OrderLaws.{order_apart, ExchangesPlaces}
 
 -- what callers see of a sparse matrix
 abbrev pub table : ℕ → ℕ → ℕ → Bool → List (List ℕ) → Order → Order → Tail → BitTable

@@ -23,7 +23,7 @@ module _ (m : SparseBinaryMatrix) (i row : ℕ) (ones places : List ℕ) (stored
   pub ones_known : All (λ one. one < length places) ones
   ones_known =
       let below = subst (All (λ one. one < length m.column_order.order)) (sym read) (m.sparse row [] within).below in
-      subst (λ n. All (λ one. one < n) ones) (sym (ap length are ∙ m.columns_in_order.count)) below
+      subst (λ n. All (λ one. one < n) ones) (sym (ap length are ∙ m.columns_in_order.place_count)) below
 
   pub pairs_are : (start end : ℕ) → end ≤ m.boundary → AreOnesOf (sparse_bit m.width m.boundary m.rows.items m.row_order m.column_order m.tail i) start end (sparse_pairs ones places start end)
   pairs_are start end before =

@@ -1,7 +1,7 @@
 -- Rows or columns in an order.
-use Rattle.std.specs.Prelude.{◌≡◌, ◌≢◌, ℕ, ◌<◌, List, length, slice_index, refl}
+use Rattle.std.specs.Prelude.{◌≡◌, ℕ, ◌<◌, List, length, refl}
 use Rattle.std.specs.Coded.{Coded, code_by, coded×, coded_list}
-use Rattle.std.specs.List.{range_with_len}
+use Rattle.rq_algebra.specs.Systems.{at}
 
 -- what stands at each place of an order, and the place of each
 pub record Placed (N : Type 0) : Type 0 where
@@ -16,19 +16,13 @@ placed_code {N} code =
 abbrev pub Order : Type 0
 Order = Placed ℕ
 
--- each of the first numbers stands at one place
-pub record IsPlacedOrder (o : Order) : Type 0 where
-  pub count : length o.places ≡ length o.order
-  pub ordered : (j : ℕ) → j < length o.order → (slice_index o.order j < length o.order) × (slice_index o.places (slice_index o.order j) ≡ j)
-  pub placed : (k : ℕ) → k < length o.order → (slice_index o.places k < length o.order) × (slice_index o.order (slice_index o.places k) ≡ k)
+-- the numbers below `count` in an order, and the place of each number in it
+pub record IsOrderOf (count : ℕ) (order places : List ℕ) : Type 0 where
+  pub order_count : length order ≡ count
+  pub place_count : length places ≡ count
+  pub ordered : (j : ℕ) → j < count → (at order j < count) × (at places (at order j) ≡ j)
+  pub placed : (k : ℕ) → k < count → (at places k < count) × (at order (at places k) ≡ k)
 
--- the numbers below `count`, each at its own place
-abbrev pub first_order : ℕ → Order
-first_order count = record { order = range_with_len 0 count; places = range_with_len 0 count }
-
--- what stands at places i and j is exchanged
-pub record ExchangesPlaces (i j : ℕ) (old new : Order) : Type 0 where
-  pub count : length new.order ≡ length old.order
-  pub first : slice_index new.order i ≡ slice_index old.order j
-  pub second : slice_index new.order j ≡ slice_index old.order i
-  pub elsewhere : (k : ℕ) → k ≢ i → k ≢ j → slice_index new.order k ≡ slice_index old.order k
+-- an order of as many of the first numbers as it has places
+abbrev pub IsPlacedOrder : Order → Type 0
+IsPlacedOrder o = IsOrderOf (length o.order) o.order o.places

@@ -1,62 +1,14 @@
 -- Columns in an order of which two are exchanged, and what becomes of the active ones.
-use Rattle.std.proofs.Common.{◌≡◌, ◌≢◌, ℕ, ◌+◌, ◌-◌, ◌<◌, ◌≤◌, List, length, set, refl, sym, ap, ◌∙◌, subst, zero-add, arith, inl, inr}
+use Rattle.std.proofs.Common.{◌≡◌, ◌≢◌, ℕ, ◌+◌, ◌-◌, ◌<◌, ◌≤◌, List, length, set, refl, sym, ap, ◌∙◌, subst, arith, inl, inr}
 use Rattle.std.proofs.lemmas.Bool.{cases_eq}
-use Rattle.std.proofs.lemmas.List.{get_or-set_other, length-set}
-use Rattle.std.proofs.lemmas.Grind.{get_or-set_at}
-use Rattle.std.proofs.lemmas.List.FromFn.{length-range_with_len, get_or-range_with_len}
-use Rattle.std.specs.List.{range_with_len}
-use Rattle.rq_algebra.specs.Arrangements.{exchange}
+use Rattle.std.proofs.lemmas.List.{length-set}
+use Rattle.std.proofs.lemmas.List.FromFn.{length-range_with_len}
 use Rattle.rq_algebra.specs.Systems.{at}
-use Rattle.rq_algebra.proofs.Places.{exchange_left, exchange_right, exchange_other, exchange_below, exchange_twice}
-use Rattle.rq_peeling.specs.ColumnState.{IsOrderOf, ColumnState, IsColumnState, IsActive, first_columns, ExchangesColumns, EndsActive}
+use Rattle.rq_algebra.proofs.Places.{exchange_left, exchange_right, exchange_other}
+use Rattle.rq_matrix.proofs.OrderLaws.{first_is_order, order_exchanged, places_exchanged, order_kept}
+use Rattle.rq_peeling.specs.ColumnState.{ColumnState, IsColumnState, IsActive, first_columns, ExchangesColumns, EndsActive}
 
 -- ---- an exchange
-
-module _ (width : ℕ) (order places : List ℕ) (is : IsOrderOf width order places) (p q : ℕ) (in_p : p < width) (in_q : q < width) where
-  pub order_exchanged : (j : ℕ) → j < width → at (set (set order p (at order q)) q (at order p)) j ≡ at order (exchange p q j)
-  order_exchanged j l =
-      elim (cases_eq j q) [
-        | inl e ↦ get_or-set_at (set order p (at order q)) q j (at order p) 0 e (omega (arith, is.order_count, length-set order p (at order q))) ∙ ap (at order) (sym (exchange_right p q j e))
-        | inr d ↦
-            get_or-set_other (set order p (at order q)) q j (at order p) 0 d
-            ∙ elim (cases_eq j p) [
-              | inl e ↦ get_or-set_at order p j (at order q) 0 e (omega (arith, is.order_count)) ∙ ap (at order) (sym (exchange_left p q j e))
-              | inr f ↦ get_or-set_other order p j (at order q) 0 f ∙ ap (at order) (sym (exchange_other p q j f d))
-            ]
-      ]
-
-  pub places_exchanged : (k : ℕ) → k < width → at (set (set places (at order p) q) (at order q) p) k ≡ exchange p q (at places k)
-  places_exchanged k l =
-      let first = at order p in
-      let second = at order q in
-      elim (cases_eq k second) [
-        | inl e ↦
-            get_or-set_at (set places first q) second k p 0 e (omega (arith, is.place_count, length-set places first q, (is.ordered q in_q).0))
-            ∙ sym (exchange_right p q (at places k) (ap (at places) e ∙ (is.ordered q in_q).1))
-        | inr d ↦
-            get_or-set_other (set places first q) second k p 0 d
-            ∙ elim (cases_eq k first) [
-              | inl e ↦ get_or-set_at places first k q 0 e (omega (arith, is.place_count, (is.ordered p in_p).0)) ∙ sym (exchange_left p q (at places k) (ap (at places) e ∙ (is.ordered p in_p).1))
-              | inr f ↦
-                  get_or-set_other places first k q 0 f
-                  ∙ sym (exchange_other p q (at places k) (λ e. f (sym (is.placed k l).1 ∙ ap (at order) e)) (λ e. d (sym (is.placed k l).1 ∙ ap (at order) e)))
-            ]
-      ]
-
-  pub order_kept : IsOrderOf width (set (set order p (at order q)) q (at order p)) (set (set places (at order p) q) (at order q) p)
-  order_kept =
-      let to = exchange p q in
-      let below = exchange_below p q width in_p in_q in
-      record {
-        order_count = length-set (set order p (at order q)) q (at order p) ∙ length-set order p (at order q) ∙ is.order_count;
-        place_count = length-set (set places (at order p) q) (at order q) p ∙ length-set places (at order p) q ∙ is.place_count;
-        ordered = λ j l.
-            let there = is.ordered (to j) (below j l) in
-            (rw (order_exchanged j l) there.0, rw (order_exchanged j l) (places_exchanged (at order (to j)) there.0 ∙ ap to there.1 ∙ exchange_twice p q j));
-        placed = λ k l.
-            let there = is.placed k l in
-            (rw (places_exchanged k l) (below (at places k) there.0), rw (places_exchanged k l) (order_exchanged (to (at places k)) (below (at places k) there.0) ∙ ap (at order) (exchange_twice p q (at places k)) ∙ there.1));
-      }
 
 module _ (old : ColumnState) (state : IsColumnState old) (p q first second : ℕ) (in_p : p < length old.order) (in_q : q < length old.order) (is_first : first ≡ at old.order p) (is_second : second ≡ at old.order q) where
   same_length : length (set (set old.order p second) q first) ≡ length old.order
@@ -72,7 +24,7 @@ module _ (old : ColumnState) (state : IsColumnState old) (p q first second : ℕ
   pub exchanges : ExchangesColumns p q old (record old { order = set (set old.order p second) q first; places = set (set old.places first q) second p })
   exchanges = record {
     width = same_length;
-    order = rw (is_first, is_second) (order_exchanged (length old.order) old.order old.places state.columns p q in_p in_q);
+    order = λ j l. rw (is_first, is_second) (order_exchanged (length old.order) old.order old.places state.columns p q in_p in_q j);
     places = rw (is_first, is_second) (places_exchanged (length old.order) old.order old.places state.columns p q in_p in_q);
     pivots = refl;
     end = refl;
@@ -153,15 +105,7 @@ module _ (inside old : ColumnState) (same : inside ≡ old) (are : IsColumnState
 
 -- ---- columns in their own order
 
-own_place : (width k : ℕ) → k < width → at (range_with_len 0 width) k ≡ k
-own_place width k l = get_or-range_with_len 0 width k 0 l ∙ zero-add k
-
-pub in_own_order : (width : ℕ) → IsOrderOf width (range_with_len 0 width) (range_with_len 0 width)
-in_own_order width =
-    let placed : (k : ℕ) → k < width → (at (range_with_len 0 width) k < width) × (at (range_with_len 0 width) (at (range_with_len 0 width) k) ≡ k) = (λ k l. let is = own_place width k l in (rw is l, ap (at (range_with_len 0 width)) is ∙ is)) in
-    record { order_count = length-range_with_len 0 width; place_count = length-range_with_len 0 width; ordered = placed; placed = placed }
-
 pub first_state : (width end : ℕ) → end ≤ width → IsColumnState (first_columns width end)
 first_state width end l =
     let all = length-range_with_len 0 width in
-    record { columns = rw all (in_own_order width); few = omega arith; within = rw all l }
+    record { columns = first_is_order width; few = omega arith; within = rw all l }

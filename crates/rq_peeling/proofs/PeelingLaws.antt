@@ -7,7 +7,8 @@ use Rattle.std.proofs.lemmas.List.Elements.{All-contains, Contains-append_cases,
 use Rattle.std.proofs.Math.ListN.{get_or-append}
 use Rattle.rq_algebra.specs.Systems.{at}
 use Rattle.rq_peeling.specs.SystemRows.{AreRowsOfBits}
-use Rattle.rq_peeling.specs.ColumnState.{ColumnState, EndsActive, EndsThese, HasNoActive, InactivatesRow, IsActive, TakesRow, IsOrderOf, first_columns}
+use Rattle.rq_matrix.specs.Orders.{IsOrderOf}
+use Rattle.rq_peeling.specs.ColumnState.{ColumnState, EndsActive, EndsThese, HasNoActive, InactivatesRow, IsActive, TakesRow, first_columns}
 use Rattle.rq_peeling.specs.Peeling.{IsPeeled}
 use Rattle.rq_peeling.specs.RowOnes.{ones_of}
 use Rattle.rq_peeling.specs.Chosen.{IsPeeledSo}

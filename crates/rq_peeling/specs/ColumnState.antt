@@ -3,13 +3,7 @@ use Rattle.std.specs.Prelude.{◌≡◌, ℕ, ◌+◌, ◌<◌, ◌≤◌, List,
 use Rattle.std.specs.List.{range_with_len}
 use Rattle.rq_algebra.specs.Arrangements.{exchange}
 use Rattle.rq_algebra.specs.Systems.{at}
-
--- the columns in an order, and the place of each column in it
-pub record IsOrderOf (width : ℕ) (order places : List ℕ) : Type 0 where
-  pub order_count : length order ≡ width
-  pub place_count : length places ≡ width
-  pub ordered : (j : ℕ) → j < width → (at order j < width) × (at places (at order j) ≡ j)
-  pub placed : (k : ℕ) → k < width → (at places k < width) × (at order (at places k) ≡ k)
+use Rattle.rq_matrix.specs.Orders.{IsOrderOf}
 
 -- columns in an order, and the place of each: first those that have pivots, from place `end` on those that are inactive, and between them the active ones
 pub record ColumnState : Type 0 where

@@ -2,7 +2,7 @@
 use Rattle.std.specs.Prelude.{ℕ, ◌<◌, ◌≤◌, List, Contains, length}
 use Rattle.rq_algebra.specs.Arrangements.{ArePlaces}
 use Rattle.rq_algebra.specs.Systems.{at}
-use Rattle.rq_peeling.specs.ColumnState.{IsOrderOf}
+use Rattle.rq_matrix.specs.Orders.{IsOrderOf}
 use Rattle.rq_peeling.specs.RowOnes.{ones_of}
 
 -- The rows that have pivots, in the order in which they were chosen; the columns in an order, those with pivots first and in the same

@@ -1,7 +1,8 @@
 //! The columns in an order: those with pivots, the active ones and the inactive ones, which are I,
 //! V and U of RFC 6330 (section 5.4.2.2).
 ghost use Rattle.std.specs.Prelude.{◌≡◌, ◌+◌, ◌<◌, ◌≤◌, ◌↔◌, length, IsTrue, IfOk};
-ghost use Rattle.rq_peeling.specs.ColumnState.{IsOrderOf, IsActive, first_columns, ExchangesColumns, EndsActive};
+ghost use Rattle.rq_matrix.specs.Orders.{IsOrderOf};
+ghost use Rattle.rq_peeling.specs.ColumnState.{IsActive, first_columns, ExchangesColumns, EndsActive};
 ghost use Rattle.rq_algebra.specs.Systems.{at};
 
 use std::alloc::{AllocError, Global};

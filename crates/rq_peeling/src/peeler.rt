@@ -3,7 +3,8 @@
 ghost use Rattle.std.specs.Prelude.{◌≡◌, false, ◌<◌, ◌≤◌, [], length, slice_index_or, All, Contains, IsTrue, IfSome, IfNone, OnOk, IfOk};
 ghost use Rattle.rq_algebra.specs.Systems.{at};
 ghost use Rattle.rq_peeling.specs.RowDegrees.{AllHaveNone, CountsActive, HasLeastDegree, KeepsDegrees, LowersRows, TakesColumnsLeft, TakesFewest, active_ones};
-ghost use Rattle.rq_peeling.specs.ColumnState.{IsOrderOf, IsActive, HasNoActive, TakesRow, InactivatesRow};
+ghost use Rattle.rq_matrix.specs.Orders.{IsOrderOf};
+ghost use Rattle.rq_peeling.specs.ColumnState.{IsActive, HasNoActive, TakesRow, InactivatesRow};
 ghost use Rattle.rq_peeling.specs.RowOnes.{ones_of};
 ghost use Rattle.rq_peeling.specs.Chosen.{HasChosen, IsPeeledSo};
 

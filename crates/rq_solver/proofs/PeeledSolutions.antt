@@ -25,7 +25,7 @@ use Rattle.rq_solver.specs.LeftRows.{ListsRows}
 use Rattle.rq_solver.specs.Peeled.{inactive_count, IsUnderWay}
 use Rattle.rq_solver.specs.PivotAdditions.{IsCleared}
 use Rattle.rq_solver.specs.SecondPhase.{AreUnits, SubstitutesBack}
-use Rattle.rq_peeling.specs.ColumnState.{IsOrderOf}
+use Rattle.rq_matrix.specs.Orders.{IsOrderOf}
 use Rattle.rq_elimination.specs.RecordedRows.{ChangesRows}
 use Rattle.rq_elimination.specs.declared.recorded.RecordedRows.{RecordedRows}
 use Rattle.rq_elimination.specs.RowSteps.{AreStepsBelow, IsEchelon, IsStuck, IsStepAmong, rows_after}

@@ -12,7 +12,7 @@ use Rattle.rq_algebra.proofs.Sums.{add_again, add_zero}
 use Rattle.rq_standard.specs.OctetField.{octets}
 use Rattle.rq_peeling.specs.SystemRows.{AreRowsOfBits, one_in}
 use Rattle.rq_solver.specs.PivotAdditions.{IsCleared, IsSumOf, TakesPivotsBy, PeelsRows}
-use Rattle.rq_peeling.specs.ColumnState.{IsOrderOf}
+use Rattle.rq_matrix.specs.Orders.{IsOrderOf}
 use Rattle.rq_peeling.specs.Peeling.{IsPeeled, Pivots}
 use Rattle.rq_peeling.specs.RowOnes.{ones_of}
 use Rattle.rq_elimination.specs.RowSteps.{sum_step, rows_after}

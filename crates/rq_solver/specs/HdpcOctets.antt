@@ -5,7 +5,7 @@ use Rattle.rq_algebra.specs.Operations.{Operation}
 use Rattle.rq_standard.specs.OctetField.{octets}
 use Rattle.rq_parts.specs.DenseOctetMatrix.{OctetTable, entry_of}
 use Rattle.rq_solver.specs.PivotAdditions.{IsCleared, PivotsHaveZeros}
-use Rattle.rq_peeling.specs.ColumnState.{IsOrderOf}
+use Rattle.rq_matrix.specs.Orders.{IsOrderOf}
 use Rattle.rq_peeling.specs.Peeling.{Pivots}
 use Rattle.rq_elimination.specs.RecordedRows.{Performs}
 use Rattle.rq_elimination.specs.declared.recorded.RecordedRows.{RecordedRows}

@@ -1,7 +1,7 @@
 -- What the check leaves to show of `peeling::peel`.
 use Rattle.std.proofs.Common.{◌≤◌}
 use Rattle.rq_peeling.specs.Chosen.{IsPeeledSo}
-use Rattle.rq_peeling.specs.ColumnState.{IsOrderOf}
+use Rattle.rq_matrix.specs.Orders.{IsOrderOf}
 use Rattle.rq_peeling.proofs.PeelingLaws.{peeled_all}
 use Rattle.rq_peeling.proofs.peeling.peel.Goals as goal
 

@@ -6,7 +6,7 @@ ghost use Rattle.rq_elimination.specs.RecordedRows.{AddsAtMost};
 ghost use Rattle.rq_solver.specs.HdpcOctets.{hdpc_bound, AreOctetsIn, AreReadable, ClearsOctets, ClearsOwnColumn, ClearsPivotColumn, CombinesFrom};
 ghost use Rattle.rq_solver.specs.HdpcOctets.{CombinesTables, HasNoPivot, HasZeros, IsFirstAlone, StandsBeside, SumsRows};
 ghost use Rattle.rq_elimination.specs.HdpcRows.{octet_in};
-ghost use Rattle.rq_peeling.specs.ColumnState.{IsOrderOf};
+ghost use Rattle.rq_matrix.specs.Orders.{IsOrderOf};
 
 use rq_bytes::octet::Octet;
 use rq_elimination::entries::{next_in_vectors, nonzero_after_first};

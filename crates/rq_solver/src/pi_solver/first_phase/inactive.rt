@@ -3,7 +3,7 @@
 ghost use Rattle.std.specs.Prelude.{◌≡◌, ◌<◌, ◌≤◌, ◌+◌, ℕ, All, length, IfOk, OnOk};
 ghost use Rattle.rq_parts.specs.DenseOctetMatrix.{entry_of, HasOctets};
 ghost use Rattle.rq_solver.specs.InactiveColumns.{AreFilled, FillsColumn, FillsHdpcRow, HasInactive};
-ghost use Rattle.rq_peeling.specs.ColumnState.{IsOrderOf};
+ghost use Rattle.rq_matrix.specs.Orders.{IsOrderOf};
 ghost use Rattle.rq_peeling.specs.Peeling.{IsPeeled};
 ghost use Rattle.rq_peeling.specs.System.{rows_of_system};
 

@@ -20,7 +20,9 @@ module _ (c : After-places_between-arg-1) where
       subst (λ n. ArePlacesOfOnes bit 0 n c.get-stored.result.now) (sym old.ordered) (subst (ArePlacesOfOnes bit 0 (length old.rows.items)) (sym c.get-stored.ensures) each)
 
 pub places_between-requires : goal.places_between-requires
-places_between-requires c = λ k d l. let below = ((listed c).within k d l).1 in omega (arith, below, ap length c.places.ensures, c.args.self.now.rows_in_order.count)
+places_between-requires c = λ k d l.
+    let below = ((listed c).within k d l).1 in
+    omega (arith, below, ap length c.places.ensures, c.args.self.now.rows_in_order.place_count)
 
 pub returns-in_ok-places_between-clause-ok : goal.returns-in_ok-places_between-clause-ok
 returns-in_ok-places_between-clause-ok c =

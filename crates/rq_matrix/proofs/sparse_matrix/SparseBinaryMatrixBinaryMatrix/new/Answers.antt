@@ -4,10 +4,10 @@ use Rattle.std.proofs.lemmas.Bool.{cases_lt}
 use Rattle.std.proofs.lemmas.List.{length-replicate}
 use Rattle.std.proofs.lemmas.List.FromFn.{length-range_with_len}
 use Rattle.rq_parts.specs.SparseBinaryVec.{listed_bit}
-use Rattle.rq_matrix.specs.Orders.{Order, IsPlacedOrder, first_order}
+use Rattle.rq_matrix.specs.Orders.{Order, IsPlacedOrder}
 use Rattle.rq_matrix.specs.SparseRows.{IsSparseRow}
 use Rattle.rq_matrix.specs.SparseTables.{bit-before, bit-from}
-use Rattle.rq_matrix.proofs.OrderLaws.{first_is_order, first_made, first_numbers}
+use Rattle.rq_matrix.proofs.OrderLaws.{first_order, first_is_order, first_made, first_numbers}
 use Rattle.rq_matrix.proofs.SparseRowLaws.{empty_rows_are, no_ones}
 use Rattle.rq_matrix.proofs.sparse_matrix.SparseBinaryMatrixBinaryMatrix.new.Goals as goal
 use Rattle.rq_matrix.proofs.sparse_matrix.SparseBinaryMatrixBinaryMatrix.new.Goals.{In_ok-new-3}
