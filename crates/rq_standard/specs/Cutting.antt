@@ -1,5 +1,5 @@
 -- How an object is cut into source blocks, sub-blocks and symbols (RFC 6330, 4.4.1), by formulas of places.
-use Rattle.std.specs.Prelude.{ℕ, zero, suc, ◌+◌, ◌-◌, ◌*◌, ◌/◌, min, List, map, take, drop, slice_index, if◌then◌else◌, nat_lt}
+use Rattle.std.specs.Prelude.{ℕ, zero, suc, ◌+◌, ◌-◌, ◌*◌, ◌/◌, min, List, map, slice_index, if◌then◌else◌, nat_lt}
 use Rattle.std.specs.List.{range_with_len}
 use Rattle.rq_standard.specs.Partition.{Parts, parts_of}
 use Rattle.rq_standard.specs.Configuration.{Configuration, total_symbols}
@@ -62,10 +62,6 @@ block_bytes c object b = map (λ i. slice_index object (symbols_before c b * c.s
 -- symbol e of a block of k symbols
 unfoldable pub symbol_of_block : Configuration → ℕ → List ℕ → ℕ → List ℕ
 symbol_of_block c k block e = map (λ t. slice_index block (place_in_block c k e t)) (range_with_len 0 c.symbol_size)
-
--- symbol e of symbols that stand one after another
-unfoldable pub plain_symbol : ℕ → List ℕ → ℕ → List ℕ
-plain_symbol size symbols e = take size (drop (e * size) symbols)
 
 -- source symbol e of block b of an object
 abbrev pub source_symbol : Configuration → List ℕ → ℕ → ℕ → List ℕ
