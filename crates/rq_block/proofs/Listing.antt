@@ -13,7 +13,7 @@ use Rattle.std.proofs.lemmas.Map.Entries.{btree_map_get_place}
 use Rattle.std.proofs.lemmas.Map.Views.{length-le_from_below}
 use Rattle.rq_standard.specs.declared.row.TableRow.{TableRow}
 use Rattle.rq_standard.specs.Equations.{zero_symbol, internal_id}
-use Rattle.rq_block.specs.Known.{known_list, known_values}
+use Rattle.rq_block.specs.Known.{known_list, values_after}
 use Rattle.rq_block.specs.Missing.{Payloads, payload_of, has_payload}
 
 -- ---- entries
@@ -48,6 +48,10 @@ few_entries m n ordered few =
 
 pub length-known_list : (row : TableRow) (k : ℕ) (done : List (ℕ × Vec ℕ Global)) → length (known_list row k done) ≡ row.extended_symbols - k + length done
 length-known_list row k done = length-append (range_with_len k (row.extended_symbols - k)) (map (λ e. internal_id row k e.0) done) ∙ omega (arith, length-range_with_len k (row.extended_symbols - k), length-map done (λ e. internal_id row k e.0))
+
+-- zeros for `precode_rows` of the LDPC and HDPC equations and for the padding, and the payloads
+abbrev pub known_values : TableRow → ℕ → ℕ → ℕ → List (ℕ × Vec ℕ Global) → List (List ℕ)
+known_values row k precode_rows size entries = values_after (precode_rows + (row.extended_symbols - k)) size entries
 
 -- a value for each of the first equations and each id
 pub length-known_values : (row : TableRow) (k precode_rows size : ℕ) (done : List (ℕ × Vec ℕ Global)) → length (known_values row k precode_rows size done) ≡ precode_rows + length (known_list row k done)

@@ -1,5 +1,5 @@
 -- The equations that the decoder of a block knows, as a list of internal symbol ids with a value for each equation.
-use Rattle.std.specs.Prelude.{◌≡◌, ℕ, ◌+◌, ◌-◌, ◌<◌, ◌≤◌, Bool, List, ◌++◌, length, map, replicate, Option, Some, MatchOption, unwrap_or}
+use Rattle.std.specs.Prelude.{◌≡◌, ℕ, ◌-◌, ◌<◌, ◌≤◌, Bool, List, ◌++◌, length, map, replicate, Option, Some, MatchOption, unwrap_or}
 use Rattle.std.specs.List.{range_with_len}
 use Rattle.std.specs.declared.vec.Vec.{Vec}
 use Rattle.std.specs.declared.alloc.Global.{Global}
@@ -24,10 +24,6 @@ known_list row k entries = range_with_len k (row.extended_symbols - k) ++ map (�
 -- zeros, and behind them the payloads
 abbrev pub values_after : ℕ → ℕ → List (ℕ × Vec ℕ Global) → List (List ℕ)
 values_after zeros size entries = replicate zeros (zero_symbol size) ++ map (λ e. e.1.items) entries
-
--- zeros for `precode_rows` of the LDPC and HDPC equations and for the padding, and the payloads
-abbrev pub known_values : TableRow → ℕ → ℕ → ℕ → List (ℕ × Vec ℕ Global) → List (List ℕ)
-known_values row k precode_rows size entries = values_after (precode_rows + (row.extended_symbols - k)) size entries
 
 -- the operations make the intermediate symbols from the values of what was received
 abbrev pub FindsFromKnown : ReceivedBlock → Payloads → BlockOperations → Type 0
