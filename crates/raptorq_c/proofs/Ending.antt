@@ -1,11 +1,15 @@
 -- What a number says of how a call ended.
-use Rattle.std.proofs.Common.{◌≡◌, ◌≢◌, ◌⊎◌, inl, inr, ℕ, ◌<◌, List, [], ◌∷◌, get_or, Ok, Err, Result, refl, sym, ap, ◌∙◌, arith, lit<}
+use Rattle.std.proofs.Common.{◌≡◌, ◌≢◌, ◌⊎◌, inl, inr, ℕ, ◌<◌, ◌≤◌, List, [], ◌∷◌, get_or, Ok, Err, Result, refl, sym, ap, ◌∙◌, arith, lit<}
 use Rattle.std.specs.Prelude.{OnErr}
 use Rattle.rq_bytes.specs.declared.error.Error.{Error}
 use Rattle.rq_bytes.specs.declared.error.Error.TheVariants.{TransferTooLong, AlignmentZero, Misaligned, TooManySymbols, SymbolSizeZero, SourceBlocksZero, BlockOverTable, WrongDataLength, Singular, PlanMismatch, EsiTooLarge, PacketTooShort, WrongPayloadSize, UnknownBlock, PacketSizeZero, TransferLengthZero, MemoryRequirementTooSmall, TooManyBlocks, RowRefused, AlreadyExecuted, OutOfMemory, Contradiction, HeaderTooShort}
 use Rattle.rq_bytes.specs.Error.{code_of}
 use Rattle.raptorq_c.specs.declared.call_end.CallEnd.{CallEnd}
-use Rattle.raptorq_c.specs.Numbers.{IsOfCalls, number_of, refusal_number, Fills}
+use Rattle.raptorq_c.specs.Numbers.{number_of, refusal_number, Fills}
+
+-- The numbers of the library for C, for what the codec doesn't refuse. The codec's refusals have those below, and may have those above.
+abbrev pub IsOfCalls : ℕ → Type 0
+IsOfCalls number = (24 ≤ number) × (number < 32)
 
 below_calls : (number : ℕ) → number < 24 → IsOfCalls number → ⊥
 below_calls number below is = omega (arith, below, is.0)

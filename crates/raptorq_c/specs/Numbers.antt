@@ -1,13 +1,9 @@
 -- The numbers that calls answer, and what they say of a buffer.
-use Rattle.std.specs.Prelude.{◌≡◌, ◌≢◌, ◌⊎◌, ℕ, ◌<◌, ◌≤◌, Result, Ok, Err}
+use Rattle.std.specs.Prelude.{◌≡◌, ◌≢◌, ◌⊎◌, ℕ, Result, Ok, Err}
 use Rattle.rq_bytes.specs.declared.error.Error.{Error}
 use Rattle.rq_bytes.specs.Error.{code_of}
 use Rattle.raptorq_c.specs.declared.call_end.CallEnd.{CallEnd}
 use Rattle.raptorq_c.specs.declared.call_end.CallEnd.TheVariants.{Refused, WrongBuffer, Incomplete, NoCoder}
-
--- The numbers of the library for C, for what the codec doesn't refuse. The codec's refusals have those below, and may have those above.
-abbrev pub IsOfCalls : ℕ → Type 0
-IsOfCalls number = (24 ≤ number) × (number < 32)
 
 -- 0 where a call is done, the number of what the codec refuses, or one of the library for C
 abbrev pub number_of : Result (Unit {0}) CallEnd → ℕ
