@@ -31,15 +31,6 @@ module _ (dest src scalar : ℕ) (m : ℕ → ℕ → ℕ) where
   sum_step-elsewhere i k apart =
       if_either (λ (step : Operation). rows_after octets (step ∷ []) m i k ≡ m i k) scalar 1 (AddAssign dest src) (Fma dest src scalar) (λ e. changed_other m dest _ i k apart) (λ d. changed_other m dest _ i k apart)
 
--- after other steps
-module _ (dest src scalar : ℕ) (m : ℕ → ℕ → ℕ) (steps : List Operation) where
-  pub sum_after-here : (k : ℕ) → rows_after octets steps m src k < 256
-      → rows_after octets (steps ++ sum_step dest src scalar ∷ []) m dest k ≡ octets.add (rows_after octets steps m dest k) (octets.mul scalar (rows_after octets steps m src k))
-  sum_after-here k small = rows_after-next octets steps (sum_step dest src scalar ∷ []) m dest k ∙ sum_step-here dest src scalar (rows_after octets steps m) k small
-
-  pub sum_after-elsewhere : (i k : ℕ) → i ≢ dest → rows_after octets (steps ++ sum_step dest src scalar ∷ []) m i k ≡ rows_after octets steps m i k
-  sum_after-elsewhere i k apart = rows_after-next octets steps (sum_step dest src scalar ∷ []) m i k ∙ sum_step-elsewhere dest src scalar (rows_after octets steps m) i k apart
-
 pub sum_among : (dest src scalar : ℕ) (rows : List ℕ) → Contains rows dest → Contains rows src → src ≢ dest → IsStepAmong octets rows (sum_step dest src scalar)
 sum_among dest src scalar rows has_dest has_src apart = if_either (IsStepAmong octets rows) scalar 1 (AddAssign dest src) (Fma dest src scalar) (λ e. (has_dest, has_src, apart)) (λ d. (has_dest, has_src, apart))
 
@@ -118,33 +109,49 @@ performs_none rows = record {
   entries = λ i k l m. sym (rows_after-none octets (entry_of rows.table) i k);
 }
 
+-- what steps leave in either case, done to the rows or recorded alone
+pub record Logs (steps : List Operation) (old new : RecordedRows) : Type 0 where
+  pub recorded : new.operations ≡ old.operations ++ steps
+  pub among : AreStepsBelow octets (length old.table.rows) steps
+  pub width : new.table.width ≡ old.table.width
+  pub height : length new.table.rows ≡ length old.table.rows
+
+pub logs_performed : {steps : List Operation} {old new : RecordedRows} → Performs steps old new → Logs steps old new
+logs_performed done = record { recorded = done.recorded; among = done.among; width = done.width; height = done.height }
+
+pub logs_recorded : {steps : List Operation} {old new : RecordedRows} → Records steps old new → Logs steps old new
+logs_recorded done =
+    record { recorded = done.recorded; among = done.among; width = ap (λ t. t.width) done.table; height = ap (λ (t : OctetTable). length t.rows) done.table }
+
 module _ (steps more : List Operation) (first second third : RecordedRows) where
-  recorded_more : second.operations ≡ first.operations ++ steps → third.operations ≡ second.operations ++ more → third.operations ≡ first.operations ++ (steps ++ more)
-  recorded_more done next = next ∙ ap (λ (l : List Operation). l ++ more) done ∙ append_assoc first.operations steps more
-
-  among_more : (height : ℕ) → height ≡ length first.table.rows → AreStepsBelow octets (length first.table.rows) steps → AreStepsBelow octets height more → AreStepsBelow octets (length first.table.rows) (steps ++ more)
-  among_more height same done next = All-append (IsStepAmong octets (range_with_len 0 (length first.table.rows))) steps more done (rw same at next)
-
-  pub performs_more : Performs steps first second → Performs more second third → Performs (steps ++ more) first third
-  performs_more done next = record {
-    recorded = recorded_more done.recorded next.recorded;
-    among = among_more (length second.table.rows) done.height done.among next.among;
+  pub logs_more : Logs steps first second → Logs more second third → Logs (steps ++ more) first third
+  logs_more done next = record {
+    recorded = next.recorded ∙ ap (λ (l : List Operation). l ++ more) done.recorded ∙ append_assoc first.operations steps more;
+    among = All-append (IsStepAmong octets (range_with_len 0 (length first.table.rows))) steps more done.among (rw done.height at next.among);
     width = next.width ∙ done.width;
     height = next.height ∙ done.height;
-    entries = λ i k l m.
-        let height = length first.table.rows in
-        next.entries i k (rw done.height l) (rw done.width m)
-        ∙ rows_after-column octets (range_with_len 0 height) more (entry_of second.table) (rows_after octets steps (entry_of first.table)) k k (rw done.height at next.among)
-        (λ r c. done.entries r k (below_height height r c) m) i (Contains-range height i l)
-        ∙ sym (rows_after-next octets steps more (entry_of first.table) i k);
   }
 
+  pub performs_more : Performs steps first second → Performs more second third → Performs (steps ++ more) first third
+  performs_more done next =
+      let logs = logs_more (logs_performed done) (logs_performed next) in
+      let rows : List ℕ = range_with_len 0 (length first.table.rows) in
+      record {
+        recorded = logs.recorded;
+        among = logs.among;
+        width = logs.width;
+        height = logs.height;
+        entries = λ i k l m.
+            next.entries i k (rw done.height l) (rw done.width m)
+            ∙ rows_after-column octets rows more (entry_of second.table) (rows_after octets steps (entry_of first.table)) k k (rw done.height at next.among)
+            (λ r c. done.entries r k (below_height (length first.table.rows) r c) m) i (Contains-range (length first.table.rows) i l)
+            ∙ sym (rows_after-next octets steps more (entry_of first.table) i k);
+      }
+
   pub records_more : Records steps first second → Records more second third → Records (steps ++ more) first third
-  records_more done next = record {
-    recorded = recorded_more done.recorded next.recorded;
-    among = among_more (length second.table.rows) (ap (λ (t : OctetTable). length t.rows) done.table) done.among next.among;
-    table = next.table ∙ done.table;
-  }
+  records_more done next =
+      let logs = logs_more (logs_recorded done) (logs_recorded next) in
+      record { recorded = logs.recorded; among = logs.among; table = next.table ∙ done.table }
 
 pub records_none : (rows : RecordedRows) → Records [] rows rows
 records_none rows = record {
@@ -207,7 +214,7 @@ changes_keep rows steps within m k zeros r = elim (find_place (length rows) (at 
   | inl q ↦
       let listed : Contains rows r = subst (Contains rows) q.2 (Contains-get_or rows q.0 0 q.1) in
       rows_after-zero octets rows steps m k within zeros r listed ∙ sym (zeros r listed)
-  | inr free ↦ rows_after-apart octets rows steps m r k within (λ c. free c.0 c.1 (get_or_default rows c.0 0 r c.1 ∙ c.2))
+  | inr free ↦ rows_after-apart octets rows steps m within r k (λ c. free c.0 c.1 (get_or_default rows c.0 0 r c.1 ∙ c.2))
 ]
 
 -- ---- a table that shows columns of rows goes on showing them

@@ -1,5 +1,5 @@
 -- What recorded steps make of one column of rows, whatever the others are.
-use Rattle.std.proofs.Common.{◌≡◌, ◌≢◌, ℕ, ◌+◌, ◌<◌, List, [], ◌∷◌, ◌++◌, All, Contains, length, refl, sym, ap, ◌∙◌, subst, arith, inl, inr}
+use Rattle.std.proofs.Common.{◌≡◌, ◌≢◌, ℕ, ◌+◌, ◌<◌, List, [], ◌∷◌, ◌++◌, All, Contains, get_or, length, refl, sym, ap, ◌∙◌, subst, arith, inl, inr}
 use Rattle.std.specs.List.{range_with_len}
 use Rattle.std.proofs.lemmas.Bool.{cases_eq}
 use Rattle.std.proofs.lemmas.List.Elements.{All-head, All-tail, All-contains, All-from_get_or, Contains-get_or}
@@ -9,7 +9,7 @@ use Rattle.rq_algebra.specs.Operations.{Operation, AddAssign, MulAssign, Fma, Re
 use Rattle.rq_algebra.specs.Changes.{with_at}
 use Rattle.rq_algebra.proofs.ChangeLaws.{with_at_same, with_at_other}
 use Rattle.rq_algebra.proofs.Sums.{mul_zero}
-use Rattle.rq_elimination.specs.RowSteps.{row_step, rows_after, IsStepAmong}
+use Rattle.rq_elimination.specs.RowSteps.{row_step, rows_after, IsStepAmong, IsStepTo}
 
 -- an entry of the row that was changed, and of another one
 pub changed_here : (a : ℕ → ℕ → ℕ) (dest : ℕ) (f : ℕ → ℕ) (i k : ℕ) → i ≡ dest → with_at a dest f i k ≡ f k
@@ -22,10 +22,32 @@ pub rows_after-none : (F : Field) (a : ℕ → ℕ → ℕ) (i k : ℕ) → rows
 unfolding rows_after
 rows_after-none F a i k = refl
 
-pub rows_after-next : (F : Field) (first second : List Operation) (a : ℕ → ℕ → ℕ) (i k : ℕ) → rows_after F (first ++ second) a i k ≡ rows_after F second (rows_after F first a) i k
+pub rows_after-turn : (F : Field) (first more : List Operation) (a : ℕ → ℕ → ℕ) → rows_after F (first ++ more) a ≡ rows_after F more (rows_after F first a)
 unfolding rows_after
-rows_after-next F [] second a i k = refl
-rows_after-next F (step ∷ first) second a i k = unfold rows_after in rows_after-next F first second (row_step F step a) i k
+rows_after-turn F [] more a = refl
+rows_after-turn F (step ∷ first) more a = unfold rows_after in rows_after-turn F first more (row_step F step a)
+
+pub rows_after-next : (F : Field) (first second : List Operation) (a : ℕ → ℕ → ℕ) (i k : ℕ) → rows_after F (first ++ second) a i k ≡ rows_after F second (rows_after F first a) i k
+rows_after-next F first second a i k = ap (λ (b : ℕ → ℕ → ℕ). b i k) (rows_after-turn F first second a)
+
+-- rows but those of which P holds are as they were
+abbrev pub StaysBut : (ℕ → Type 0) → (ℕ → ℕ → ℕ) → (ℕ → ℕ → ℕ) → Type 0
+StaysBut P m now = (r k : ℕ) → (P r → ⊥) → now r k ≡ m r k
+
+module _ (F : Field) (P : ℕ → Type 0) where
+  step_elsewhere : (step : Operation) (m : ℕ → ℕ → ℕ) → IsStepTo P step → StaysBut P m (row_step F step m)
+  unfolding row_step
+  step_elsewhere (AddAssign dest src) m is r k out = changed_other m dest _ r k (λ e. out (subst P (sym e) is))
+  step_elsewhere (MulAssign dest scalar) m is r k out = changed_other m dest _ r k (λ e. out (subst P (sym e) is))
+  step_elsewhere (Fma dest src scalar) m is r k out = changed_other m dest _ r k (λ e. out (subst P (sym e) is))
+  step_elsewhere (Reorder order) m is r k out = refl
+
+  pub steps_elsewhere : (steps : List Operation) (m : ℕ → ℕ → ℕ) → All (IsStepTo P) steps → StaysBut P m (rows_after F steps m)
+  unfolding rows_after
+  steps_elsewhere [] m all r k out = refl
+  steps_elsewhere (step ∷ steps) m all r k out =
+      unfold rows_after in steps_elsewhere steps (row_step F step m) (All-tail (IsStepTo P) step steps all) r k out
+      ∙ step_elsewhere step m (All-head (IsStepTo P) step steps all) r k out
 
 -- sums and multiples of rows that are alike are alike
 pub record IsLinearRelation (F : Field) (Alike : (ℕ → ℕ) → (ℕ → ℕ) → Type 0) : Type 0 where
@@ -66,19 +88,15 @@ module _ (F : Field) (rows : List ℕ) where
   pub rows_after-zero : (steps : List Operation) (a : ℕ → ℕ → ℕ) (k : ℕ) → All (IsStepAmong F rows) steps → ((i : ℕ) → Contains rows i → a i k ≡ 0) → (i : ℕ) → Contains rows i → rows_after F steps a i k ≡ 0
   rows_after-zero steps a k among zeros = rows_after-alike (λ f g. f k ≡ 0) (record { sums = λ f g h j e d. cc (e, d, F.zero_add 0); multiples = λ scalar f g e. cc (e, mul_zero F scalar) }) steps a a among zeros
 
-  -- rows that are not listed stay
-  step_apart : (step : Operation) (a : ℕ → ℕ → ℕ) (i k : ℕ) → IsStepAmong F rows step → (Contains rows i → ⊥) → row_step F step a i k ≡ a i k
-  unfolding row_step
-  step_apart (AddAssign dest src) a i k is out = changed_other a dest _ i k (λ e. out (subst (Contains rows) (sym e) is.0))
-  step_apart (MulAssign dest scalar) a i k is out = changed_other a dest _ i k (λ e. out (subst (Contains rows) (sym e) is.0))
-  step_apart (Fma dest src scalar) a i k is out = changed_other a dest _ i k (λ e. out (subst (Contains rows) (sym e) is.0))
-  step_apart (Reorder order) a i k is out = refl
+  among_to : (step : Operation) → IsStepAmong F rows step → IsStepTo (Contains rows) step
+  among_to (AddAssign dest src) is = is.0
+  among_to (MulAssign dest scalar) is = is.0
+  among_to (Fma dest src scalar) is = is.0
+  among_to (Reorder order) is = is
 
-  pub rows_after-apart : (steps : List Operation) (a : ℕ → ℕ → ℕ) (i k : ℕ) → All (IsStepAmong F rows) steps → (Contains rows i → ⊥) → rows_after F steps a i k ≡ a i k
-  unfolding rows_after
-  rows_after-apart [] a i k among out = refl
-  rows_after-apart (step ∷ steps) a i k among out =
-      unfold rows_after in rows_after-apart steps (row_step F step a) i k (All-tail (IsStepAmong F rows) step steps among) out ∙ step_apart step a i k (All-head (IsStepAmong F rows) step steps among) out
+  -- rows that are not listed stay
+  pub rows_after-apart : (steps : List Operation) (a : ℕ → ℕ → ℕ) → All (IsStepAmong F rows) steps → StaysBut (Contains rows) a (rows_after F steps a)
+  rows_after-apart steps a among = steps_elsewhere F (Contains rows) steps a (λ k d l. among_to (get_or steps k d) (among k d l))
 
 -- all rows below a height
 pub below_height : (height r : ℕ) → Contains (range_with_len 0 height) r → r < height

@@ -43,6 +43,13 @@ IsStepAmong F rows (MulAssign dest scalar) = Contains rows dest × (scalar < F.s
 IsStepAmong F rows (Fma dest src scalar) = Contains rows dest × Contains rows src × (src ≢ dest)
 IsStepAmong F rows (Reorder order) = ⊥
 
+-- a step that changes a row of which this holds
+abbrev pub IsStepTo : (ℕ → Type 0) → Operation → Type 0
+IsStepTo P (AddAssign dest src) = P dest
+IsStepTo P (MulAssign dest scalar) = P dest
+IsStepTo P (Fma dest src scalar) = P dest
+IsStepTo P (Reorder order) = ⊥
+
 -- steps among all rows below a height
 abbrev pub AreStepsBelow : Field → ℕ → List Operation → Type 0
 AreStepsBelow F height steps = All (IsStepAmong F (range_with_len 0 height)) steps

@@ -10,7 +10,6 @@ use Rattle.rq_algebra.specs.Operations.{Operation}
 use Rattle.rq_algebra.specs.Systems.{at}
 use Rattle.rq_elimination.specs.OperationCounts.{additions, triangle}
 use Rattle.rq_elimination.specs.PhaseCounts.{AreInOrder}
-use Rattle.rq_elimination.specs.RecordedRows.{Performs, Records}
 use Rattle.rq_elimination.specs.RowSteps.{AreRows}
 use Rattle.rq_elimination.specs.declared.counts.PhaseEnds.{PhaseEnds}
 use Rattle.rq_elimination.specs.declared.recorded.RecordedRows.{RecordedRows}
@@ -20,21 +19,19 @@ use Rattle.rq_solver.specs.Phases.{AddsLater, FindsOrder, LacksPivots, RunsLater
 use Rattle.rq_solver.specs.declared.pi_solver.peeled.Peeled.{Peeled}
 use Rattle.rq_solver.proofs.CountLaws.{inactive_bound}
 use Rattle.rq_solver.proofs.PeeledSolutions.{homogeneous_of_peeled, finds_by_peeled}
-use Rattle.rq_solver.proofs.TakenAgain.{pivots_performed, pivots_recorded}
+use Rattle.rq_elimination.proofs.Performing.{Logs}
+use Rattle.rq_solver.proofs.TakenAgain.{pivots_stay}
 
 -- ---- rows stay under way while phases record more
 
-module _ (p : Peeled) (left : List ℕ) (old new : RecordedRows) (under : IsUnderWay p left old) (steps : List Operation) where
-  pub still_performed : Performs steps old new → IsUnderWay p left new
-  still_performed done = record { pivots = pivots_performed p old new under.pivots steps done; listed = rw done.height under.listed; apart = under.apart }
-
-  pub still_recorded : Records steps old new → IsUnderWay p left new
-  still_recorded done = record { pivots = pivots_recorded p old new under.pivots steps done; listed = rw done.table under.listed; apart = under.apart }
+pub still_under_way : {p : Peeled} {left : List ℕ} {old new : RecordedRows} {steps : List Operation} → IsUnderWay p left old → Logs steps old new
+    → IsUnderWay p left new
+still_under_way under logs = record { pivots = pivots_stay under.pivots logs; listed = rw logs.height under.listed; apart = under.apart }
 
 -- those that are left stand in another order
-pub still_reordered : (p : Peeled) (before after : List ℕ) (state : RecordedRows) → IsUnderWay p before state → IsPermutation before after
+pub still_reordered : {p : Peeled} (before after : List ℕ) {state : RecordedRows} → IsUnderWay p before state → IsPermutation before after
     → AreRows after state.table → IsUnderWay p after state
-still_reordered p before after state under permuted are = record {
+still_reordered before after under permuted are = record {
   pivots = under.pivots;
   listed = are;
   apart = λ q f l n e.
@@ -86,7 +83,7 @@ ends_in_order p before after old new ends None lacks =
 ends_in_order p before after old new ends (Some order) found =
     rw found.stretches (record {
       first = front_fits found.forward.operations old.operations found.changes.steps found.changes.performs.recorded;
-      forward = front_fits found.sparse.operations found.forward.operations found.sparsifies.steps found.sparsifies.performs.recorded;
-      sparsifying = front_fits found.back.operations found.sparse.operations found.reduces.steps found.reduces.records.recorded;
-      back = front_fits new.operations found.back.operations found.finishes.steps found.finishes.records.recorded;
+      forward = front_fits found.sparse.operations found.forward.operations found.sparsifies.steps found.sparsifies.done.recorded;
+      sparsifying = front_fits found.back.operations found.sparse.operations found.reduces.steps found.reduces.done.recorded;
+      back = front_fits new.operations found.back.operations found.finishes.steps found.finishes.done.recorded;
     })

@@ -1,8 +1,8 @@
 -- What the elimination over peeled rows has found when it ends.
-use Rattle.std.proofs.Common.{◌≡◌, ◌≢◌, ◌⊎◌, ℕ, suc, ◌+◌, ◌-◌, ◌<◌, ◌≤◌, ◌==◌, if◌then◌else◌, Bool, List, [], ◌∷◌, ◌++◌, All, Contains, map, length, append_assoc, refl, sym, ap, ◌∙◌, arith, inl, inr}
+use Rattle.std.proofs.Common.{◌≡◌, ◌≢◌, ◌⊎◌, ℕ, suc, ◌+◌, ◌-◌, ◌<◌, ◌≤◌, ◌==◌, if◌then◌else◌, Bool, false, List, [], ◌∷◌, ◌++◌, Contains, get_or, map, length, refl, sym, ap, ◌∙◌, arith, inl, inr}
 use Rattle.std.specs.List.{range_with_len}
 use Rattle.std.specs.List.Sorted.{IsPermutation}
-use Rattle.std.proofs.lemmas.Bool.{cases_eq, cases_lt}
+use Rattle.std.proofs.lemmas.Bool.{both_ways, cases_eq, cases_lt}
 use Rattle.std.proofs.lemmas.List.{get_or-append-add, get_or-map, get_or_append_left, get_or_default, length-map}
 use Rattle.std.proofs.lemmas.List.Elements.{All-append, Contains-get_or}
 use Rattle.std.proofs.lemmas.List.Sorted.{Contains-permutation, IsPermutation-sym}
@@ -20,7 +20,7 @@ use Rattle.rq_algebra.proofs.Sums.{dot_same, dot_split, dot_zero, zero_mul}
 use Rattle.rq_standard.specs.OctetField.{octets}
 use Rattle.rq_parts.specs.DenseOctetMatrix.{entry_of}
 use Rattle.rq_solver.specs.FirstPhase.{HasPeeledPivots}
-use Rattle.rq_solver.specs.FourthPhase.{FinishesAllPivots, IsFinished, Sparsifies}
+use Rattle.rq_solver.specs.FourthPhase.{FinishesAllPivots, HasMark, HasNoMark, IsFinished, Sparsifies}
 use Rattle.rq_solver.specs.LeftRows.{ListsRows}
 use Rattle.rq_solver.specs.Peeled.{inactive_count, IsUnderWay}
 use Rattle.rq_solver.specs.PivotAdditions.{IsCleared}
@@ -29,13 +29,14 @@ use Rattle.rq_matrix.specs.Orders.{IsOrderOf}
 use Rattle.rq_elimination.specs.RecordedRows.{ChangesRows}
 use Rattle.rq_elimination.specs.declared.recorded.RecordedRows.{RecordedRows}
 use Rattle.rq_elimination.specs.RowSteps.{AreStepsBelow, IsEchelon, IsStuck, IsStepAmong, rows_after}
-use Rattle.rq_elimination.proofs.Performing.{changes_keep, shows_after}
+use Rattle.rq_elimination.proofs.Performing.{changes_keep, logs_more, logs_performed, logs_recorded, shows_after, Logs}
 use Rattle.rq_algebra.proofs.Choices.{if_same, if_apart}
 use Rattle.rq_solver.proofs.PivotsCleared.{left_below, left_apart, pivot_or_left}
 use Rattle.rq_elimination.proofs.RowStepLaws.{rows_after-elements, follows_steps}
 use Rattle.rq_elimination.proofs.StepColumns.{rows_after-apart, rows_after-next, Contains-range}
 use Rattle.rq_solver.specs.declared.pi_solver.peeled.Peeled.{Peeled}
 use Rattle.rq_solver.proofs.StepDots.{rows_after-says}
+use Rattle.rq_solver.proofs.StepsToRows.{stays}
 
 -- what was recorded for steps among all rows does to values what it did to the rows
 module _ (height width : ℕ) (system : ℕ → ℕ → ℕ) (steps : List Operation) (among : AreStepsBelow octets height steps) (small : HasElements octets height width system) where
@@ -206,7 +207,7 @@ module _ (p : Peeled) (left : List ℕ) (middle : RecordedRows) (under : IsUnder
         sym (rows_after-says octets all width 0 (at column) steps says system among (λ i c. refl)
         (at rows p) (Contains-range height (at rows p) (pivot_below p l)))
         ∙ rows_after-next octets middle.operations changes.steps says (at rows p) 0
-        ∙ rows_after-apart octets left changes.steps (rows_after octets middle.operations says) (at rows p) 0 changes.within (λ c. left_apart height rows left listing (at rows p) p c l refl)
+        ∙ rows_after-apart octets left changes.steps (rows_after octets middle.operations says) changes.within (at rows p) 0 (λ c. left_apart height rows left listing (at rows p) p c l refl)
         ∙ alone says 0 handed p l ∙ handed p l
 
     left_says : (q : ℕ) → q < length inactive_rows → dot octets width (meant (at inactive_rows q)) (at column) ≡ 0
@@ -249,20 +250,16 @@ module _ (p : Peeled) (left : List ℕ) (middle : RecordedRows) (under : IsUnder
     abbrev between : ℕ → ℕ → ℕ
     between = rows_after octets reduces.steps given
 
+    late : Logs late_steps last final
+    late =
+        let more = logs_more _ _ returned reduced_state final (logs_recorded reduces.done) (logs_recorded finishes.done) in
+        logs_more _ _ last returned final (logs_performed back.done) more
+
     all_among : AreStepsBelow octets height all_steps
-    all_among =
-        let Among = IsStepAmong octets (range_with_len 0 height) in
-        let first : All Among back.steps = rw (changes.performs.height, peeled.height_is) at back.performs.among in
-        let second : All Among reduces.steps = rw (back.performs.height, changes.performs.height, peeled.height_is) at reduces.records.among in
-        let third : All Among finishes.steps = rw (reduces.records.table, back.performs.height, changes.performs.height, peeled.height_is) at finishes.records.among in
-        All-append Among steps late_steps among (All-append Among back.steps (reduces.steps ++ finishes.steps) first (All-append Among reduces.steps finishes.steps second third))
+    all_among = All-append (IsStepAmong octets (range_with_len 0 height)) steps late_steps among (rw (changes.performs.height, peeled.height_is) at late.among)
 
     all_recorded : final.operations ≡ all_steps
-    all_recorded =
-        finishes.records.recorded
-        ∙ ap (λ (l : List Operation). l ++ finishes.steps) (reduces.records.recorded ∙ ap (λ (l : List Operation). l ++ reduces.steps) (back.performs.recorded ∙ ap (λ (l : List Operation). l ++ back.steps) changes.performs.recorded))
-        ∙ append_assoc (steps ++ back.steps) reduces.steps finishes.steps
-        ∙ append_assoc steps back.steps (reduces.steps ++ finishes.steps)
+    all_recorded = late.recorded ∙ ap (λ (l : List Operation). l ++ late_steps) changes.performs.recorded
 
     ended_is : (r k : ℕ) → ended r k ≡ rows_after octets finishes.steps between r k
     ended_is r k = rows_after-next octets steps late_steps system r k ∙ rows_after-next octets back.steps (reduces.steps ++ finishes.steps) meant r k ∙ rows_after-next octets reduces.steps finishes.steps given r k
@@ -273,38 +270,45 @@ module _ (p : Peeled) (left : List ℕ) (middle : RecordedRows) (under : IsUnder
     given_at : (r f : ℕ) → r < height → f < inactive → given r (at order (pivots + f)) ≡ entry_of returned.table r f
     given_at r f l n =
         let tall : length last.table.rows ≡ height = changes.performs.height ∙ peeled.height_is in
-        sym (shows_after back.steps last returned meant (λ g. at order (length rows + g)) inactive (rw changes.performs.width narrow) back.performs (λ i g o u. sym (inactive_at i g (rw tall at o) u)) r f (rw tall l) n)
+        sym (shows_after back.steps last returned meant (λ g. at order (length rows + g)) inactive (rw changes.performs.width narrow) back.done (λ i g o u. sym (inactive_at i g (rw tall at o) u)) r f (rw tall l) n)
 
     -- the rows that are left take no part in that
     given_left : (q k : ℕ) → q < length inactive_rows → given (at inactive_rows q) k ≡ meant (at inactive_rows q) k
-    given_left q k l = back.elsewhere meant (at inactive_rows q) k (λ p from n. apart p q n l)
+    given_left q k l = stays back meant (at inactive_rows q) k (λ c. apart c.0 q c.2 l c.4)
 
     given_zero : (f p : ℕ) → f < inactive → p < pivots → given (at inactive_rows f) (at order p) ≡ 0
     given_zero f p l n = given_left f (at order p) (fits f l) ∙ left_pivot (at inactive_rows f) p (in_left f (fits f l)) n
 
     -- the reduced rows stay
     ended_reduced : (q k : ℕ) → q < length inactive_rows → ended (at inactive_rows q) k ≡ between (at inactive_rows q) k
-    ended_reduced q k l = ended_is (at inactive_rows q) k ∙ finishes.elsewhere between (at inactive_rows q) k (λ p n. apart p q n l)
+    ended_reduced q k l = ended_is (at inactive_rows q) k ∙ stays finishes between (at inactive_rows q) k (λ c. apart c.0 q c.1 l c.2)
 
     between_pivot : (r p : ℕ) → p < pivots → between r (at order p) ≡ given r (at order p)
-    between_pivot r p l = reduces.kept given r (at order p) (λ f n. given_zero f p n l)
+    between_pivot r p l = (reduces.effect given).kept r (at order p) (λ f n. given_zero f p n l)
 
     units : AreUnits inactive_rows 0 inactive (λ f. at order (length rows + f)) between
-    units = reduces.units given (λ f. at order (length rows + f)) (λ t f l n. given_at (at inactive_rows t) f (reduced_below t (fits t l)) n)
+    units = (reduces.effect given).units (λ f. at order (length rows + f)) (λ t f l n. given_at (at inactive_rows t) f (reduced_below t (fits t l)) n)
 
     between_row : (p k : ℕ) → p < pivots → between (at rows p) k ≡ given (at rows p) k
-    between_row p k l = reduces.elsewhere given (at rows p) k (λ t n e. apart p t l (fits t n) (sym e))
+    between_row p k l = stays reduces given (at rows p) k (λ c. apart p c.0 l (fits c.0 c.1) (sym c.2))
 
     meant_cleared : (p : ℕ) → p < pivots → IsCleared rows order meant (at rows p)
     meant_cleared p l = record { entries = λ i n. pivot_pivot p i l n }
 
+    unmarked_apart : (q s : ℕ) → q < pivots → s < pivots → HasNoMark marks q → HasMark marks s → at rows s ≢ at rows q
+    unmarked_apart q s l n unset set e =
+        let same = under.pivots.peeled.peeled.in_rows.apart s q n l e in
+        both_ways (get_or marks s false) (ap (λ (t : ℕ). get_or marks t false) same ∙ unset) set
+
     finished : (q : ℕ) → q < pivots → IsFinished p.peeling (λ f. at order (length rows + f)) (rows_after octets finishes.steps between) (at rows q)
-    finished i l = finishes.final between (λ f. at order (length rows + f)) (record {
+    finished i l = finishes.effect between (λ f. at order (length rows + f)) (record {
       units = units;
       zeros = λ f i n o. between_pivot (at inactive_rows f) i o ∙ given_zero f i n o;
-      shown = λ q f n o. between_row q (at order (pivots + f)) n ∙ given_at (at rows q) f (pivot_below q n) o ∙ ap (λ table. entry_of table (at rows q) f) (sym reduces.records.table);
-      plain = λ q n e. record { entries = λ i o. between_row q (at order i) n ∙ back.unmarked meant q (at order i) (omega arith) n e ∙ pivot_pivot q i n o };
-      raw = λ q n e. record { entries = λ i o. between_row q (at order i) n ∙ (back.uncleared meant meant_cleared q (omega arith) n e).entries i o };
+      shown = λ q f n o. between_row q (at order (pivots + f)) n ∙ given_at (at rows q) f (pivot_below q n) o
+          ∙ ap (λ table. entry_of table (at rows q) f) (sym reduces.done.table);
+      plain = λ q n e.
+          record { entries = λ i o. between_row q _ n ∙ stays back meant (at rows q) _ (λ c. unmarked_apart q c.0 n c.2 e c.3 c.4) ∙ pivot_pivot q i n o };
+      raw = λ q n e. record { entries = λ i o. between_row q (at order i) n ∙ (back.effect meant meant_cleared q (omega arith) n e).entries i o };
     }) i l
 
     cleared : (p f : ℕ) → p < pivots → f < inactive → ended (at rows p) (at order (pivots + f)) ≡ 0
@@ -355,7 +359,7 @@ module _ (p : Peeled) (left : List ℕ) (middle : RecordedRows) (under : IsUnder
 
     behind_zero : (q p : ℕ) → inactive ≤ q → q < length inactive_rows → p < width → ended (at inactive_rows q) (at order p) ≡ 0
     behind_zero q p late l n =
-        ended_reduced q (at order p) l ∙ reduces.elsewhere given (at inactive_rows q) (at order p) (λ t m. behind_apart t q m late l) ∙ given_left q (at order p) l
+        ended_reduced q (at order p) l ∙ stays reduces given (at inactive_rows q) _ (λ c. behind_apart c.0 q c.1 late l c.2) ∙ given_left q (at order p) l
         ∙ elim (cases_lt p pivots) [
           | inl early ↦ left_pivot (at inactive_rows q) p (in_left q l) early
           | inr late_p ↦

@@ -18,6 +18,7 @@ use Rattle.rq_peeling.specs.RowOnes.{ones_of}
 use Rattle.rq_elimination.specs.RecordedRows.{Performs}
 use Rattle.rq_elimination.specs.declared.recorded.RecordedRows.{RecordedRows}
 use Rattle.rq_elimination.specs.RowSteps.{rows_after}
+use Rattle.rq_solver.proofs.StepsToRows.{stays}
 use Rattle.rq_solver.proofs.OctetRows.{octet_row, bit_row, octet_row_or_bit_row}
 use Rattle.rq_algebra.proofs.Choices.{if_apart}
 use Rattle.rq_elimination.proofs.StepColumns.{rows_after-next}
@@ -82,7 +83,7 @@ module _ (lists : List (List ℕ)) (first : ℕ) (hdpc : OctetTable) where
           cleared_at : (r : ℕ) → Contains all r → ((i : ℕ) → i < length hdpc.rows → first + i ≢ r) → IsCleared rows order now r
           cleared_at r c out =
               let is : at all c.0 ≡ r = get_or_default all c.0 0 r c.1 ∙ c.2 in
-              rw is at (clears.cleared system (λ p l. uncleared (at rows p) (λ i n. pivot_of_bits p i l n)) c.0 c.1 (rw is (uncleared r out)))
+              rw is at ((clears.effect system).cleared (λ p l. uncleared (at rows p) (λ i n. pivot_of_bits p i l n)) c.0 c.1 (rw is (uncleared r out)))
 
           pivot_now : (p : ℕ) → p < length rows → IsCleared rows order now (at rows p)
           pivot_now p l = cleared_at (at rows p) (Contains-append_left rows left (at rows p) (Contains-get_or rows p 0 l)) (λ i n. pivot_of_bits p i l n)
@@ -93,16 +94,18 @@ module _ (lists : List (List ℕ)) (first : ℕ) (hdpc : OctetTable) where
           left_cleared : (r : ℕ) → Contains left r → (p : ℕ) → p < length rows → rows_after octets wipes.steps now r (at order p) ≡ 0
           left_cleared r c p l = elim (cases r) [
             | inl q ↦
-                rw (← q.2) (wipes.shown now pivot_now (λ i j n o. clears.idle system (first + i) (at order j) (are.empty i n) ∙ octets_at i (at order j) n)
-                q.0 p q.1 l)
+                let had = λ (i j : ℕ) (n : i < length hdpc.rows) (o : j < length rows).
+                (clears.effect system).idle (first + i) (at order j) (are.empty i n) ∙ octets_at i (at order j) n in
+                rw (← q.2) ((wipes.effect now).shown pivot_now had q.0 p q.1 l)
             | inr out ↦
-                wipes.elsewhere now r (at order p) out ∙ (cleared_at r (Contains-append_right rows left r c) out).entries p l
+                stays wipes now r (at order p) (λ c. out c.0 c.1 c.2) ∙ (cleared_at r (Contains-append_right rows left r c) out).entries p l
                 ∙ if_apart (at rows p) r 1 0 (left_apart (length lists) rows left listing r p c l)
           ]
 
           pub cleared_both : AreCleared rows order left (rows_after octets (clears.steps ++ wipes.steps) (system_rows lists first hdpc))
           cleared_both = record {
-            pivots = λ p l. record { entries = λ i n. in_end (at rows p) (at order i) ∙ wipes.elsewhere now (at rows p) (at order i) (λ j o. pivot_of_bits p j l o) ∙ (pivot_now p l).entries i n };
+            pivots = λ p l.
+                record { entries = λ i n. in_end _ _ ∙ stays wipes now (at rows p) _ (λ c. pivot_of_bits p c.0 l c.1 c.2) ∙ (pivot_now p l).entries i n };
             others = λ r c p l. in_end r (at order p) ∙ left_cleared r c p l;
           }
 
@@ -111,7 +114,7 @@ module _ (lists : List (List ℕ)) (first : ℕ) (hdpc : OctetTable) where
               → HasPeeledPivots (length lists) width (system_rows lists first hdpc) (record { rows = rows; order = order; places = places }) left two
           peeled_pivots octets_are inactive wide empty holds =
               let done : List Operation = clears.steps ++ wipes.steps in
-              let performs : Performs done zero two = performs_more clears.steps wipes.steps zero one two clears.performs wipes.performs in
+              let performs : Performs done zero two = performs_more clears.steps wipes.steps zero one two clears.done wipes.done in
               let recorded : two.operations ≡ done = performs.recorded ∙ ap (λ (l : List Operation). l ++ done) empty in
               let both : AreCleared rows order left (rows_after octets done (system_rows lists first hdpc)) = cleared_both in
               record {
@@ -134,12 +137,12 @@ pub takes_alone : (system : System) (rows order listed : List ℕ) (zero one two
     → ClearsOctets rows order (entry_of system.hdpc) system.first_hdpc (length system.hdpc.rows) one two → zero.operations ≡ [] → TakesPivotsAlone system rows two.operations
 takes_alone system rows order listed zero one two clears wipes empty =
     let done : List Operation = clears.steps ++ wipes.steps in
-    let performs : Performs done zero two = performs_more clears.steps wipes.steps zero one two clears.performs wipes.performs in
+    let performs : Performs done zero two = performs_more clears.steps wipes.steps zero one two clears.done wipes.done in
     let recorded : two.operations ≡ done = performs.recorded ∙ ap (λ (l : List Operation). l ++ done) empty in
     let after_wipes : (m : ℕ → ℕ → ℕ) (r k : ℕ) → rows_after octets two.operations m r k ≡ rows_after octets wipes.steps (rows_after octets clears.steps m) r k = (λ m r k.
     ap (λ (l : List Operation). rows_after octets l m r k) recorded ∙ rows_after-next octets clears.steps wipes.steps m r k) in
     record {
-      bits = λ m k none r out. after_wipes m r k ∙ wipes.elsewhere (rows_after octets clears.steps m) r k out ∙ clears.kept m k none r;
+      bits = λ m k none r out. after_wipes m r k ∙ stays wipes (rows_after octets clears.steps m) r k (λ c. out c.0 c.1 c.2) ∙ (clears.effect m).kept k none r;
       hdpc = λ m k none zeros i n. after_wipes m (system.first_hdpc + i) k
-          ∙ wipes.kept (rows_after octets clears.steps m) k (λ p l. clears.kept m k none (at rows p) ∙ none p l) (λ j o. clears.kept m k none (system.first_hdpc + j) ∙ zeros j o) i n;
+          ∙ (wipes.effect (rows_after octets clears.steps m)).kept k (λ p l. (clears.effect m).kept k none (at rows p) ∙ none p l) (λ j o. (clears.effect m).kept k none (system.first_hdpc + j) ∙ zeros j o) i n;
     }

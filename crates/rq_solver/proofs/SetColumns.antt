@@ -188,6 +188,6 @@ module _ (e : Peeled) (peels : PeelsRows e.ones e.peeling) (others : List ℕ) (
     pivot_solves elements zeros is solves q l =
         let zero = zeros p (omega arith) inside in
         elim (cases_eq q p) [
-          | inl same ↦ rw same (dot_own octets width column (at old) (at next) column_within zero (λ k m apart. set_other p value within k apart) (one_in e.ones (at e.peeling.rows p)) (own_one e.ones e.peeling.rows e.peeling.order e.peeling.places width peels.bits peels.peeled p inside) (set_here p value within ∙ is ∙ sum_is elements))
+          | inl same ↦ rw same (dot_own octets width column (at old) (at next) column_within zero (λ k m apart. set_other p value within k apart) (one_in e.ones (at e.peeling.rows p)) (own_one peels.bits peels.peeled inside) (set_here p value within ∙ is ∙ sum_is elements))
           | inr apart ↦ dot_kept octets width column (at old) (at next) column_within zero (λ k m d. set_other p value within k d) (one_in e.ones (at e.peeling.rows q)) (none_before q (omega (arith, l, apart))) ∙ solves q (omega (arith, l, apart))
         ]

@@ -1,16 +1,14 @@
 -- The fourth phase: some of the pivots' rows are made sparse again, and all get zeros in the inactive columns.
-use Rattle.std.specs.Prelude.{◌≡◌, ◌≢◌, ℕ, ◌+◌, ◌-◌, ◌*◌, ◌<◌, ◌≤◌, Bool, true, false, List, All, Contains, length, slice_index_or}
+use Rattle.std.specs.Prelude.{◌≡◌, ℕ, ◌+◌, ◌-◌, ◌*◌, ◌<◌, ◌≤◌, Bool, true, false, List, length, slice_index_or}
 use Rattle.rq_algebra.specs.Systems.{at}
-use Rattle.rq_algebra.specs.Operations.{Operation}
-use Rattle.rq_standard.specs.OctetField.{octets}
 use Rattle.rq_parts.specs.DenseOctetMatrix.{OctetTable, entry_of}
 use Rattle.rq_peeling.specs.Peeling.{Pivots}
 use Rattle.rq_elimination.specs.RecordedRows.{Performs, Records}
-use Rattle.rq_elimination.specs.RowSteps.{rows_after}
 use Rattle.rq_elimination.specs.declared.recorded.RecordedRows.{RecordedRows}
 use Rattle.rq_solver.specs.Peeled.{inactive_count}
 use Rattle.rq_solver.specs.PivotAdditions.{IsCleared, IsUncleared}
-use Rattle.rq_solver.specs.SecondPhase.{AreUnits, IsStepTo}
+use Rattle.rq_solver.specs.SecondPhase.{AreUnits}
+use Rattle.rq_solver.specs.TakenSteps.{IsFirstOf, TakesSteps}
 use Rattle.rq_solver.specs.declared.pi_solver.peeled.Peeled.{Peeled}
 
 -- each row with a mark took `limit` rows at most
@@ -24,19 +22,20 @@ HasMark marks p = slice_index_or marks p false ≡ true
 abbrev pub HasNoMark : List Bool → ℕ → Type 0
 HasNoMark marks p = slice_index_or marks p false ≡ false
 
+-- the row of one of the pivots from place `low` on, which has a mark
+abbrev pub IsMarkedFrom : Pivots → List Bool → ℕ → ℕ → Type 0
+IsMarkedFrom pivots marks low r = (q : ℕ) × (low ≤ q) × (q < length pivots.rows) × HasMark marks q × (at pivots.rows q ≡ r)
+
+-- where the pivots' rows were cleared, those that have a mark are as rows of bits are
+abbrev pub HasSparsified : Peeled → List Bool → ℕ → (ℕ → ℕ → ℕ) → (ℕ → ℕ → ℕ) → Type 0
+HasSparsified p marks low m now =
+    ((q : ℕ) → q < length p.peeling.rows → IsCleared p.peeling.rows p.peeling.order m (at p.peeling.rows q))
+    → (q : ℕ) → low ≤ q → q < length p.peeling.rows → HasMark marks q → IsUncleared p.ones p.peeling.rows p.peeling.order now (at p.peeling.rows q)
+
 -- Of the pivots' rows, the last first and up to place `low`, those that have a mark take the pivots' rows that they took in the first phase, and
 -- so are as they were before, in the pivots' columns.
-pub record Sparsifies (p : Peeled) (marks : List Bool) (low : ℕ) (old new : RecordedRows) : Type 0 where
-  pub steps : List Operation
-  pub performs : Performs steps old new
-  pub within : All (IsStepTo (Contains p.peeling.rows)) steps
-  pub elsewhere : (m : ℕ → ℕ → ℕ) (r k : ℕ) → ((q : ℕ) → low ≤ q → q < length p.peeling.rows → at p.peeling.rows q ≢ r)
-      → rows_after octets steps m r k ≡ m r k
-  pub unmarked : (m : ℕ → ℕ → ℕ) (q k : ℕ) → low ≤ q → q < length p.peeling.rows → HasNoMark marks q
-      → rows_after octets steps m (at p.peeling.rows q) k ≡ m (at p.peeling.rows q) k
-  pub uncleared : (m : ℕ → ℕ → ℕ) → ((q : ℕ) → q < length p.peeling.rows → IsCleared p.peeling.rows p.peeling.order m (at p.peeling.rows q))
-      → (q : ℕ) → low ≤ q → q < length p.peeling.rows → HasMark marks q
-      → IsUncleared p.ones p.peeling.rows p.peeling.order (rows_after octets steps m) (at p.peeling.rows q)
+abbrev pub Sparsifies : Peeled → List Bool → ℕ → RecordedRows → RecordedRows → Type 0
+Sparsifies p marks low old new = TakesSteps Performs (IsMarkedFrom p.peeling marks low) (HasSparsified p marks low) old new
 
 -- a pivot's row has 1 in its own column alone
 pub record IsFinished (pivots : Pivots) (column : ℕ → ℕ) (m : ℕ → ℕ → ℕ) (r : ℕ) : Type 0 where
@@ -52,14 +51,14 @@ pub record AreUnfinished (p : Peeled) (left : List ℕ) (marks : List Bool) (tab
   pub plain : (q : ℕ) → q < length p.peeling.rows → HasNoMark marks q → IsCleared p.peeling.rows p.peeling.order m (at p.peeling.rows q)
   pub raw : (q : ℕ) → q < length p.peeling.rows → HasMark marks q → IsUncleared p.ones p.peeling.rows p.peeling.order m (at p.peeling.rows q)
 
+-- the first of the pivots' rows are finished, where all were unfinished
+abbrev pub HasFinished : Peeled → List ℕ → List Bool → ℕ → OctetTable → (ℕ → ℕ → ℕ) → (ℕ → ℕ → ℕ) → Type 0
+HasFinished p left marks done table m now =
+    (column : ℕ → ℕ) → AreUnfinished p left marks table column m → (q : ℕ) → q < done → IsFinished p.peeling column now (at p.peeling.rows q)
+
 -- The first of the pivots' rows take the rows with the inactive columns' pivots, and those that have a mark then take the pivots' rows again.
-pub record FinishesPivots (p : Peeled) (left : List ℕ) (marks : List Bool) (done : ℕ) (old new : RecordedRows) : Type 0 where
-  pub steps : List Operation
-  pub records : Records steps old new
-  pub within : All (IsStepTo (Contains p.peeling.rows)) steps
-  pub elsewhere : (m : ℕ → ℕ → ℕ) (r k : ℕ) → ((q : ℕ) → q < done → at p.peeling.rows q ≢ r) → rows_after octets steps m r k ≡ m r k
-  pub final : (m : ℕ → ℕ → ℕ) (column : ℕ → ℕ) → AreUnfinished p left marks old.table column m
-      → (q : ℕ) → q < done → IsFinished p.peeling column (rows_after octets steps m) (at p.peeling.rows q)
+abbrev pub FinishesPivots : Peeled → List ℕ → List Bool → ℕ → RecordedRows → RecordedRows → Type 0
+FinishesPivots p left marks done old new = TakesSteps Records (IsFirstOf p.peeling.rows done) (HasFinished p left marks done old.table) old new
 
 -- all pivots' rows are finished
 abbrev pub FinishesAllPivots : Peeled → List ℕ → List Bool → RecordedRows → RecordedRows → Type 0

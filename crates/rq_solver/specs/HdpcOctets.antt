@@ -1,7 +1,6 @@
 -- HDPC rows whose octets are cleared in the pivots' columns, all of them together.
 use Rattle.std.specs.Prelude.{◌≡◌, ◌≢◌, ℕ, ◌+◌, ◌-◌, ◌*◌, ◌^◌, ◌<◌, ◌≤◌, ◌==◌, if◌then◌else◌, nat_lt, List, length}
 use Rattle.rq_algebra.specs.Systems.{at, sum_below}
-use Rattle.rq_algebra.specs.Operations.{Operation}
 use Rattle.rq_standard.specs.OctetField.{octets}
 use Rattle.rq_parts.specs.DenseOctetMatrix.{OctetTable, entry_of}
 use Rattle.rq_solver.specs.PivotAdditions.{IsCleared, PivotsHaveZeros}
@@ -9,8 +8,9 @@ use Rattle.rq_matrix.specs.Orders.{IsOrderOf}
 use Rattle.rq_peeling.specs.Peeling.{Pivots}
 use Rattle.rq_elimination.specs.RecordedRows.{Performs}
 use Rattle.rq_elimination.specs.declared.recorded.RecordedRows.{RecordedRows}
-use Rattle.rq_elimination.specs.RowSteps.{AreRows, rows_after}
+use Rattle.rq_elimination.specs.RowSteps.{AreRows}
 use Rattle.rq_elimination.specs.HdpcRows.{HdpcTable, octet_in}
+use Rattle.rq_solver.specs.TakenSteps.{TakesSteps}
 
 -- ---- what the rows have
 
@@ -75,24 +75,27 @@ ShowHdpcOctets rows order first count octet m = (i p : ℕ) → i < count → p 
 abbrev pub HaveZeros : ℕ → ℕ → (ℕ → ℕ → ℕ) → ℕ → Type 0
 HaveZeros first count m k = (i : ℕ) → i < count → m (first + i) k ≡ 0
 
--- Steps among the HDPC rows were done, and were recorded: a column of theirs that was one of these columns is the new one afterwards.
-pub record CombinesOctets (first count width : ℕ) (was now : ℕ → ℕ → ℕ) (old new : RecordedRows) : Type 0 where
-  pub steps : List Operation
-  pub performs : Performs steps old new
-  pub elsewhere : (m : ℕ → ℕ → ℕ) (r k : ℕ) → ((i : ℕ) → i < count → first + i ≢ r) → rows_after octets steps m r k ≡ m r k
-  pub shown : (m : ℕ → ℕ → ℕ) (l k : ℕ) → k < width → ((i : ℕ) → i < count → m (first + i) l ≡ was i k)
-      → (i : ℕ) → i < count → rows_after octets steps m (first + i) l ≡ now i k
-  pub kept : (m : ℕ → ℕ → ℕ) (k : ℕ) → HaveZeros first count m k → HaveZeros first count (rows_after octets steps m) k
+-- one of these rows
+abbrev pub IsRowFrom : ℕ → ℕ → ℕ → Type 0
+IsRowFrom first count r = (i : ℕ) × (i < count) × (first + i ≡ r)
 
--- The HDPC rows took one another and rows of pivots, and that was recorded: where the pivots' rows are cleared, and HDPC rows had these octets in
--- the pivots' columns, they have the new ones afterwards.
-pub record ChangesOctets (rows order : List ℕ) (first count : ℕ) (was now : ℕ → ℕ → ℕ) (old new : RecordedRows) : Type 0 where
-  pub steps : List Operation
-  pub performs : Performs steps old new
-  pub elsewhere : (m : ℕ → ℕ → ℕ) (r k : ℕ) → ((i : ℕ) → i < count → first + i ≢ r) → rows_after octets steps m r k ≡ m r k
-  pub shown : (m : ℕ → ℕ → ℕ) → PivotsAreCleared rows order m → ShowHdpcOctets rows order first count was m
-      → ShowHdpcOctets rows order first count now (rows_after octets steps m)
-  pub kept : (m : ℕ → ℕ → ℕ) (k : ℕ) → PivotsHaveZeros rows m k → HaveZeros first count m k → HaveZeros first count (rows_after octets steps m) k
+-- a column of the HDPC rows that was one of these columns is the new one
+pub record HasCombined (first count width : ℕ) (was now m after : ℕ → ℕ → ℕ) : Type 0 where
+  pub shown : (l k : ℕ) → k < width → ((i : ℕ) → i < count → m (first + i) l ≡ was i k) → (i : ℕ) → i < count → after (first + i) l ≡ now i k
+  pub kept : (k : ℕ) → HaveZeros first count m k → HaveZeros first count after k
+
+-- steps among the HDPC rows were done, and were recorded
+abbrev pub CombinesOctets : ℕ → ℕ → ℕ → (ℕ → ℕ → ℕ) → (ℕ → ℕ → ℕ) → RecordedRows → RecordedRows → Type 0
+CombinesOctets first count width was now old new = TakesSteps Performs (IsRowFrom first count) (HasCombined first count width was now) old new
+
+-- where the pivots' rows are cleared, and HDPC rows had these octets in the pivots' columns, they have the new ones
+pub record HasChanged (rows order : List ℕ) (first count : ℕ) (was now m after : ℕ → ℕ → ℕ) : Type 0 where
+  pub shown : PivotsAreCleared rows order m → ShowHdpcOctets rows order first count was m → ShowHdpcOctets rows order first count now after
+  pub kept : (k : ℕ) → PivotsHaveZeros rows m k → HaveZeros first count m k → HaveZeros first count after k
+
+-- the HDPC rows took one another and rows of pivots, and that was recorded
+abbrev pub ChangesOctets : List ℕ → List ℕ → ℕ → ℕ → (ℕ → ℕ → ℕ) → (ℕ → ℕ → ℕ) → RecordedRows → RecordedRows → Type 0
+ChangesOctets rows order first count was now old new = TakesSteps Performs (IsRowFrom first count) (HasChanged rows order first count was now) old new
 
 -- ---- steps among the HDPC rows
 

@@ -11,3 +11,4 @@ pub mod PivotAdditions
 pub mod SecondPhase
 pub mod SolverState
 pub mod Solving
+pub mod TakenSteps

@@ -6,9 +6,9 @@ use Rattle.rq_standard.specs.OctetField.{octets}
 use Rattle.rq_peeling.specs.Peeling.{IsPeeled, Pivots}
 use Rattle.rq_peeling.specs.RowOnes.{ones_of}
 use Rattle.rq_peeling.specs.SystemRows.{one_in, AreRowsOfBits}
-use Rattle.rq_elimination.specs.RecordedRows.{Performs, Records}
-use Rattle.rq_elimination.specs.RowSteps.{rows_after}
+use Rattle.rq_elimination.specs.RecordedRows.{Performs}
 use Rattle.rq_elimination.specs.declared.recorded.RecordedRows.{RecordedRows}
+use Rattle.rq_solver.specs.TakenSteps.{IsFirstOf, TakesSteps}
 
 -- pivots among rows of bits
 pub record PeelsRows (lists : List (List ℕ)) (pivots : Pivots) : Type 0 where
@@ -38,27 +38,24 @@ pub record IsSumOf (row height : ℕ) (step : Operation) : Type 0 where
   pub within : source < height
   pub other : source ≢ row
 
--- A row takes the rows of the other pivots in whose columns it has these ones, by steps of which `Done` holds. What it is in whole is `m`, whatever that is.
-pub record TakesPivotsBy
-    (Done : List Operation → RecordedRows → RecordedRows → Type 0) (rows order : List ℕ) (row : ℕ) (columns : List ℕ) (old new : RecordedRows) : Type 0 where
-  pub steps : List Operation
-  pub done : Done steps old new
-  pub sums : All (IsSumOf row (length old.table.rows)) steps
-  pub idle : columns ≡ [] → steps ≡ []
-  pub elsewhere : (m : ℕ → ℕ → ℕ) (i k : ℕ) → i ≢ row → rows_after octets steps m i k ≡ m i k
-  pub taken : (m : ℕ → ℕ → ℕ) → ((j : ℕ) → j < length rows → Contains columns (at order j) → at rows j ≢ row → IsCleared rows order m (at rows j))
-      → (i : ℕ) → i < length rows → rows_after octets steps m row (at order i)
+-- a row took the rows of the other pivots in whose columns it has these ones
+pub record HasAddedPivotRows (rows order : List ℕ) (row : ℕ) (columns : List ℕ) (m now : ℕ → ℕ → ℕ) : Type 0 where
+  pub taken : ((j : ℕ) → j < length rows → Contains columns (at order j) → at rows j ≢ row → IsCleared rows order m (at rows j))
+      → (i : ℕ) → i < length rows → now row (at order i)
       ≡ octets.add (m row (at order i)) (if at rows i == row then 0 else count_by (λ column. column == at order i) columns)
   -- where these rows have zeros it stays as it was
-  pub kept : (m : ℕ → ℕ → ℕ) (k : ℕ) → ((j : ℕ) → j < length rows → Contains columns (at order j) → at rows j ≢ row → m (at rows j) k ≡ 0)
-      → rows_after octets steps m row k ≡ m row k
+  pub kept : (k : ℕ) → ((j : ℕ) → j < length rows → Contains columns (at order j) → at rows j ≢ row → m (at rows j) k ≡ 0) → now row k ≡ m row k
 
--- a row takes the rows of pivots by steps that are done to the rows, or recorded alone
+-- it does so by steps of which `Done` holds
+pub record TakesPivotsBy
+    (Done : List Operation → RecordedRows → RecordedRows → Type 0) (rows order : List ℕ) (row : ℕ) (columns : List ℕ) (old new : RecordedRows) : Type 0 where
+  pub takes : TakesSteps Done (λ r. r ≡ row) (HasAddedPivotRows rows order row columns) old new
+  pub sums : All (IsSumOf row (length old.table.rows)) takes.steps
+  pub idle : columns ≡ [] → takes.steps ≡ []
+
+-- a row takes the rows of pivots by steps that are done to the rows
 abbrev pub TakesPivots : List ℕ → List ℕ → ℕ → List ℕ → RecordedRows → RecordedRows → Type 0
 TakesPivots rows order row columns old new = TakesPivotsBy Performs rows order row columns old new
-
-abbrev pub RecordsPivots : List ℕ → List ℕ → ℕ → List ℕ → RecordedRows → RecordedRows → Type 0
-RecordsPivots rows order row columns old new = TakesPivotsBy Records rows order row columns old new
 
 -- the steps are the operations from one place on and before another
 abbrev pub StandBetween : ℕ → ℕ → List Operation → RecordedRows → RecordedRows → Type 0
@@ -76,16 +73,17 @@ pub record HaveTaken (lists : List (List ℕ)) (pivots : Pivots) (listed : List 
 abbrev pub PivotsHaveTaken : List (List ℕ) → Pivots → List ℕ → RecordedRows → Type 0
 PivotsHaveTaken lists pivots bounds state = HaveTaken lists pivots pivots.rows (length pivots.rows) bounds state
 
--- the first rows of a list are cleared, and the rest are as they were
-pub record ClearsRows (lists : List (List ℕ)) (rows order listed : List ℕ) (done : ℕ) (old new : RecordedRows) : Type 0 where
-  pub steps : List Operation
-  pub performs : Performs steps old new
-  pub idle : (m : ℕ → ℕ → ℕ) (i k : ℕ) → ones_of lists i ≡ [] → rows_after octets steps m i k ≡ m i k
-  pub rest : (m : ℕ → ℕ → ℕ) (s k : ℕ) → done ≤ s → s < length listed → rows_after octets steps m (at listed s) k ≡ m (at listed s) k
+-- the first rows of a list were cleared
+pub record HasClearedRows (lists : List (List ℕ)) (rows order listed : List ℕ) (done : ℕ) (m now : ℕ → ℕ → ℕ) : Type 0 where
+  pub idle : (i k : ℕ) → ones_of lists i ≡ [] → now i k ≡ m i k
   -- where the pivots' rows have zeros each row stays as it was
-  pub kept : (m : ℕ → ℕ → ℕ) (k : ℕ) → PivotsHaveZeros rows m k → (i : ℕ) → rows_after octets steps m i k ≡ m i k
-  pub cleared : (m : ℕ → ℕ → ℕ) → ((p : ℕ) → p < length rows → IsUncleared lists rows order m (at rows p))
-      → (s : ℕ) → s < done → IsUncleared lists rows order m (at listed s) → IsCleared rows order (rows_after octets steps m) (at listed s)
+  pub kept : (k : ℕ) → PivotsHaveZeros rows m k → (i : ℕ) → now i k ≡ m i k
+  pub cleared : ((p : ℕ) → p < length rows → IsUncleared lists rows order m (at rows p))
+      → (s : ℕ) → s < done → IsUncleared lists rows order m (at listed s) → IsCleared rows order now (at listed s)
+
+-- the first rows of a list are cleared, and the rest are as they were
+abbrev pub ClearsRows : List (List ℕ) → List ℕ → List ℕ → List ℕ → ℕ → RecordedRows → RecordedRows → Type 0
+ClearsRows lists rows order listed done old new = TakesSteps Performs (IsFirstOf listed done) (HasClearedRows lists rows order listed done) old new
 
 -- the rows of the pivots are cleared, and then those that are left
 abbrev pub ClearsAllRows : List (List ℕ) → Pivots → List ℕ → RecordedRows → RecordedRows → Type 0

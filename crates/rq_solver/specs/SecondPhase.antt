@@ -1,13 +1,12 @@
 -- The second phase: rows that have no pivot yet are brought into echelon form, and then substituted back.
-use Rattle.std.specs.Prelude.{◌≡◌, ◌≢◌, ℕ, ◌+◌, ◌-◌, ◌*◌, ◌<◌, ◌≤◌, ◌==◌, if◌then◌else◌, Bool, List, All, Contains, MatchBool}
+use Rattle.std.specs.Prelude.{◌≡◌, ℕ, ◌+◌, ◌-◌, ◌*◌, ◌<◌, ◌≤◌, ◌==◌, if◌then◌else◌, Bool, List, MatchBool}
 use Rattle.rq_algebra.specs.Systems.{at}
-use Rattle.rq_algebra.specs.Operations.{Operation, AddAssign, MulAssign, Fma, Reorder}
-use Rattle.rq_standard.specs.OctetField.{octets}
 use Rattle.rq_parts.specs.DenseOctetMatrix.{OctetTable, entry_of}
 use Rattle.rq_elimination.specs.OperationCounts.{additions, multiples, triangle}
 use Rattle.rq_elimination.specs.RecordedRows.{Records}
-use Rattle.rq_elimination.specs.RowSteps.{IsEchelon, IsStuck, rows_after}
+use Rattle.rq_elimination.specs.RowSteps.{IsEchelon, IsStuck}
 use Rattle.rq_elimination.specs.declared.recorded.RecordedRows.{RecordedRows}
+use Rattle.rq_solver.specs.TakenSteps.{IsFirstOf, TakesSteps}
 
 -- ---- forward
 
@@ -22,15 +21,6 @@ AddsForward rows count old new found =
     (additions new.operations + triangle count ≤ additions old.operations + count * (rows - 1))
     (additions new.operations ≤ additions old.operations + count * (rows - 1))
 
--- ---- steps by the row that they change
-
--- a step that changes a row of which this holds
-abbrev pub IsStepTo : (ℕ → Type 0) → Operation → Type 0
-IsStepTo P (AddAssign dest src) = P dest
-IsStepTo P (MulAssign dest scalar) = P dest
-IsStepTo P (Fma dest src scalar) = P dest
-IsStepTo P (Reorder order) = ⊥
-
 -- ---- rows that take others, each of which has 1 in its own inactive column
 
 -- in the inactive columns each of these rows, from place `start` on, has 1 in its own, and 0 in the others
@@ -42,18 +32,16 @@ abbrev pub ShowInactive : List ℕ → ℕ → (ℕ → ℕ) → (ℕ → ℕ �
 ShowInactive inactive_rows count column m table = (t f : ℕ) → t < count → f < count → m (at inactive_rows t) (column f) ≡ entry_of table (at inactive_rows t) f
 
 -- A row takes multiples of rows with inactive columns' pivots, those from place `start` on, so that it gets 0 in their inactive columns that come before column
--- `done`, where it has these entries. What the rows are in whole is `m`, whatever that is: `column f` is the place of inactive column f in it.
-pub record ClearsColumns (inactive_rows : List ℕ) (row start count done : ℕ) (entries : ℕ → ℕ) (old new : RecordedRows) : Type 0 where
-  pub steps : List Operation
-  pub records : Records steps old new
-  pub within : All (IsStepTo (λ r. r ≡ row)) steps
-  pub elsewhere : (m : ℕ → ℕ → ℕ) (i k : ℕ) → i ≢ row → rows_after octets steps m i k ≡ m i k
-  pub kept : (m : ℕ → ℕ → ℕ) (k : ℕ) → ((f : ℕ) → start ≤ f → f < count → m (at inactive_rows f) k ≡ 0) → rows_after octets steps m row k ≡ m row k
-  pub cleared : (m : ℕ → ℕ → ℕ) (column : ℕ → ℕ) → AreUnits inactive_rows start count column m
-      → ((f : ℕ) → start ≤ f → f < count → m row (column f) ≡ entries f)
-      → (f : ℕ) → start ≤ f → f < done → f < count → rows_after octets steps m row (column f) ≡ 0
-  pub rest : (m : ℕ → ℕ → ℕ) (column : ℕ → ℕ) → AreUnits inactive_rows start count column m
-      → (f : ℕ) → done ≤ f → f < count → rows_after octets steps m row (column f) ≡ m row (column f)
+-- `done`, where it has these entries: `column f` is the place of inactive column f.
+pub record HasClearedColumns (inactive_rows : List ℕ) (row start count done : ℕ) (entries : ℕ → ℕ) (m now : ℕ → ℕ → ℕ) : Type 0 where
+  pub kept : (k : ℕ) → ((f : ℕ) → start ≤ f → f < count → m (at inactive_rows f) k ≡ 0) → now row k ≡ m row k
+  pub cleared : (column : ℕ → ℕ) → AreUnits inactive_rows start count column m → ((f : ℕ) → start ≤ f → f < count → m row (column f) ≡ entries f)
+      → (f : ℕ) → start ≤ f → f < done → f < count → now row (column f) ≡ 0
+  pub rest : (column : ℕ → ℕ) → AreUnits inactive_rows start count column m → (f : ℕ) → done ≤ f → f < count → now row (column f) ≡ m row (column f)
+
+abbrev pub ClearsColumns : List ℕ → ℕ → ℕ → ℕ → ℕ → (ℕ → ℕ) → RecordedRows → RecordedRows → Type 0
+ClearsColumns inactive_rows row start count done entries old new =
+    TakesSteps Records (λ r. r ≡ row) (HasClearedColumns inactive_rows row start count done entries) old new
 
 -- a row takes multiples of all of the first `count` rows, so that it gets 0 in their columns
 abbrev pub TakesAll : List ℕ → ℕ → ℕ → (ℕ → ℕ) → RecordedRows → RecordedRows → Type 0
@@ -82,14 +70,14 @@ AddsOnes rows place count old new =
 
 -- Of the first rows those whose entry in the column of the row at a place is neither 0 nor 1 take that multiple of it. Where it is 1 they then
 -- have 0, and where it is 0 they stay.
-pub record GivesMultiples (inactive_rows : List ℕ) (place done : ℕ) (old new : RecordedRows) : Type 0 where
-  pub steps : List Operation
-  pub records : Records steps old new
-  pub within : All (IsStepTo (Contains inactive_rows)) steps
-  pub elsewhere : (m : ℕ → ℕ → ℕ) (r k : ℕ) → ((q : ℕ) → q < done → at inactive_rows q ≢ r) → rows_after octets steps m r k ≡ m r k
-  pub kept : (m : ℕ → ℕ → ℕ) (r k : ℕ) → m (at inactive_rows place) k ≡ 0 → rows_after octets steps m r k ≡ m r k
-  pub given : (m : ℕ → ℕ → ℕ) (k q : ℕ) → m (at inactive_rows place) k ≡ 1 → q < done → m (at inactive_rows q) k ≡ entry_of old.table (at inactive_rows q) place
-      → rows_after octets steps m (at inactive_rows q) k ≡ one_of (entry_of old.table (at inactive_rows q) place)
+pub record HasGivenMultiples (inactive_rows : List ℕ) (place done : ℕ) (table : OctetTable) (m now : ℕ → ℕ → ℕ) : Type 0 where
+  pub kept : (r k : ℕ) → m (at inactive_rows place) k ≡ 0 → now r k ≡ m r k
+  pub given : (k q : ℕ) → m (at inactive_rows place) k ≡ 1 → q < done → m (at inactive_rows q) k ≡ entry_of table (at inactive_rows q) place
+      → now (at inactive_rows q) k ≡ one_of (entry_of table (at inactive_rows q) place)
+
+abbrev pub GivesMultiples : List ℕ → ℕ → ℕ → RecordedRows → RecordedRows → Type 0
+GivesMultiples inactive_rows place done old new =
+    TakesSteps Records (IsFirstOf inactive_rows done) (HasGivenMultiples inactive_rows place done old.table) old new
 
 -- where the table has 1 in an inactive column from place `low` on, the rows before that place have 1 there, and else 0
 abbrev pub ShowOnes : List ℕ → ℕ → ℕ → (ℕ → ℕ) → (ℕ → ℕ → ℕ) → OctetTable → Type 0
@@ -98,15 +86,11 @@ ShowOnes inactive_rows low count column m table =
 
 -- The rows in echelon form have 1 in their own inactive column alone, from the last up to place `low`. Those before it took the multiples of
 -- these rows by which they had an octet other than 0 and 1 in their columns.
-pub record SubstitutesBack (inactive_rows : List ℕ) (count low : ℕ) (old new : RecordedRows) : Type 0 where
-  pub steps : List Operation
-  pub records : Records steps old new
-  pub within : All (IsStepTo (Contains inactive_rows)) steps
-  pub elsewhere : (m : ℕ → ℕ → ℕ) (r k : ℕ) → ((q : ℕ) → q < count → at inactive_rows q ≢ r) → rows_after octets steps m r k ≡ m r k
-  pub kept : (m : ℕ → ℕ → ℕ) (r k : ℕ) → ((f : ℕ) → f < count → m (at inactive_rows f) k ≡ 0) → rows_after octets steps m r k ≡ m r k
-  pub units : (m : ℕ → ℕ → ℕ) (column : ℕ → ℕ) → ShowInactive inactive_rows count column m old.table
-      → AreUnits inactive_rows low count column (rows_after octets steps m)
-  pub before : (m : ℕ → ℕ → ℕ) (column : ℕ → ℕ) → ShowInactive inactive_rows count column m old.table
-      → ShowInactive inactive_rows low column (rows_after octets steps m) old.table
-  pub left : (m : ℕ → ℕ → ℕ) (column : ℕ → ℕ) → ShowInactive inactive_rows count column m old.table
-      → ShowOnes inactive_rows low count column (rows_after octets steps m) old.table
+pub record HasSubstituted (inactive_rows : List ℕ) (count low : ℕ) (table : OctetTable) (m now : ℕ → ℕ → ℕ) : Type 0 where
+  pub kept : (r k : ℕ) → ((f : ℕ) → f < count → m (at inactive_rows f) k ≡ 0) → now r k ≡ m r k
+  pub units : (column : ℕ → ℕ) → ShowInactive inactive_rows count column m table → AreUnits inactive_rows low count column now
+  pub before : (column : ℕ → ℕ) → ShowInactive inactive_rows count column m table → ShowInactive inactive_rows low column now table
+  pub left : (column : ℕ → ℕ) → ShowInactive inactive_rows count column m table → ShowOnes inactive_rows low count column now table
+
+abbrev pub SubstitutesBack : List ℕ → ℕ → ℕ → RecordedRows → RecordedRows → Type 0
+SubstitutesBack inactive_rows count low old new = TakesSteps Records (IsFirstOf inactive_rows count) (HasSubstituted inactive_rows count low old.table) old new

@@ -4,7 +4,8 @@ use Rattle.rq_parts.specs.DenseOctetMatrix.{OctetTable}
 use Rattle.rq_elimination.specs.OperationCounts.{additions}
 use Rattle.rq_solver.proofs.PivotsTaken.{peels_rows}
 use Rattle.rq_solver.proofs.PivotsCleared.{peeled_pivots, pivot_of_bits, takes_alone}
-use Rattle.rq_solver.proofs.TakenAgain.{taken_performed}
+use Rattle.rq_elimination.proofs.Performing.{logs_performed}
+use Rattle.rq_solver.proofs.TakenAgain.{taken_stays}
 use Rattle.rq_solver.proofs.pi_solver.first_phase.clear_pivots.Goals as goal
 
 pub clear_rows-requires-clause-peeled : goal.clear_rows-requires-clause-peeled
@@ -16,7 +17,7 @@ clear_octets-requires-clause-pivots c =
     let pivots = c.args.peeling.now in
     let peeled = c.requires.peeled in
     let height : length c.clear_rows.new.recorded.table.rows ≡ length system.ones =
-    c.in_ok-bounds.ensures.cleared.performs.height ∙ ap (λ (t : OctetTable). length t.rows) c.in_ok-recorded.ensures.table ∙ c.in_ok-table.ensures.height_is in
+    c.in_ok-bounds.ensures.cleared.done.height ∙ ap (λ (t : OctetTable). length t.rows) c.in_ok-recorded.ensures.table ∙ c.in_ok-table.ensures.height_is in
     record {
       columns = rw system.octet_rows.width_is peeled.columns;
       few = rw system.octet_rows.width_is peeled.few;
@@ -41,9 +42,7 @@ returns-clause-alone c =
     c.in_ok-recorded.ensures.operations
 
 pub returns-clause-taken : goal.returns-clause-taken
-returns-clause-taken c =
-    let pivots = c.args.peeling.now in
-    taken_performed c.args.system.ones pivots pivots.rows (length pivots.rows) c.in_ok-bounds.bounds.items c.clear_rows.new.recorded c.clear_octets.new.recorded c.in_ok-bounds.ensures.taken _ c.in_ok-clear_octets.ensures.cleared.performs
+returns-clause-taken c = taken_stays c.in_ok-bounds.ensures.taken (logs_performed c.in_ok-clear_octets.ensures.cleared.done)
 
 pub returns-clause-few : goal.returns-clause-few
 returns-clause-few c =

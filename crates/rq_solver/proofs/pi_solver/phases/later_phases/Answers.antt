@@ -3,7 +3,8 @@ use Rattle.std.proofs.Common.{◌≡◌, ◌-◌, refl, arith}
 use Rattle.rq_solver.specs.Peeled.{inactive_count, IsUnderWay}
 use Rattle.rq_solver.specs.Phases.{SolvesInactive}
 use Rattle.rq_solver.proofs.FinishedPivots.{echelon_stays}
-use Rattle.rq_solver.proofs.LaterPhases.{few_solved, finds_none, finds_rows, still_performed, still_recorded, still_reordered}
+use Rattle.rq_solver.proofs.LaterPhases.{few_solved, finds_none, finds_rows, still_reordered, still_under_way}
+use Rattle.rq_elimination.proofs.Performing.{logs_performed, logs_recorded}
 use Rattle.rq_solver.proofs.pi_solver.phases.later_phases.Goals as goal
 use Rattle.rq_solver.proofs.pi_solver.phases.later_phases.Goals.{After-len-eliminated, After-rows_in_order}
 
@@ -16,11 +17,7 @@ module _ (c : After-len-eliminated) where
   forward : IsUnderWay c.args.peeled.now c.eliminate.new.rows c.eliminate.new.recorded
   forward =
       let made = c.in_ok-found.ensures in
-      let p = c.args.peeled.now in
-      let rows = c.eliminate.new.rows in
-      let old = c.args.recorded.now in
-      still_performed p rows old c.eliminate.new.recorded (still_reordered p c.args.left.now rows old c.requires.under_way made.permuted made.rows) made.steps.steps
-      made.steps.performs
+      still_under_way (still_reordered c.args.left.now c.eliminate.new.rows c.requires.under_way made.permuted made.rows) (logs_performed made.steps.performs)
 
 pub returns-then-not-found-clause-left : goal.returns-then-not-found-clause-left
 returns-then-not-found-clause-left c = forward (goal.at.returns-then-not-found-clause-left c).After-len-eliminated
@@ -38,20 +35,13 @@ sparsify-requires c = (forward (goal.at.sparsify-requires c).After-len-eliminate
 pub back_substitute-requires-clause-echelon : goal.back_substitute-requires-clause-echelon
 back_substitute-requires-clause-echelon c =
     let now = forward (goal.at.back_substitute-requires-clause-echelon c).After-len-eliminated in
-    echelon_stays c.args.peeled.now c.in_ok-sparse.sparse.items c.eliminate.new.rows (c.width.result - c.pivots.result) c.eliminate.new.recorded
-    c.sparsify.new.recorded c.in_ok-sparse.ensures.taken now (omega (arith, now.pivots.wide, c.width.ensures, c.pivots.ensures))
+    echelon_stays c.in_ok-sparse.sparse.items c.in_ok-sparse.ensures.taken now (omega (arith, now.pivots.wide, c.width.ensures, c.pivots.ensures))
     (rw c.if-not-found.false at c.in_ok-found.ensures.pivots)
 
 pub clear_inactive-requires-clause-under_way : goal.clear_inactive-requires-clause-under_way
 clear_inactive-requires-clause-under_way c =
-    let p = c.args.peeled.now in
-    let rows = c.eliminate.new.rows in
-    let sparse = c.sparsify.new.recorded in
-    let taken = c.in_ok-sparse.ensures.taken in
-    let reduced = c.in_ok-back_substitute.ensures.reduced in
     let now = forward (goal.at.clear_inactive-requires-clause-under_way c).After-len-eliminated in
-    still_recorded p rows sparse c.back_substitute.new.recorded (still_performed p rows c.eliminate.new.recorded sparse now taken.steps taken.performs) reduced.steps
-    reduced.records
+    still_under_way (still_under_way now (logs_performed c.in_ok-sparse.ensures.taken.done)) (logs_recorded c.in_ok-back_substitute.ensures.reduced.done)
 
 -- ---- behind all phases
 

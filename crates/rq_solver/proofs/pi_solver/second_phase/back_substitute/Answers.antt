@@ -11,7 +11,7 @@ pub loop-done-init : goal.loop-done-init
 loop-done-init c =
     let all : c.args.count - 0 ≡ c.args.count = omega arith in
     record {
-      reduced = rw all (back_none c.args.rows.now c.args.count c.args.recorded.now);
+      reduced = rw all back_none;
       few = omega arith;
     }
 
@@ -32,11 +32,11 @@ loop-done-preserved c =
     let v = c.loop-done.invariant in
     let taken = c.in_ok-take_ones.ensures in
     let entries = λ (i k : ℕ). entry_of old.table (at rows i) k in
-    let same : cur.table ≡ old.table = v.reduced.records.table in
-    let same_mid : mid.table ≡ old.table = taken.taken.records.table ∙ same in
+    let same : cur.table ≡ old.table = v.reduced.done.table in
+    let same_mid : mid.table ≡ old.table = taken.taken.done.table ∙ same in
     let ones : additions mid.operations + multiples (entries place) (place + 1) done ≤ additions cur.operations + done = rw (same, behind) at taken.few in
     let given : additions new.operations ≤ additions mid.operations + multiples (λ i. entries i place) 0 place = rw same_mid at c.in_ok-give_multiples.ensures.few in
     record {
-      reduced = rw next (back_more rows count place inside old cur mid new c.requires.rows c.requires.echelon (rw was at v.reduced) taken.taken c.in_ok-give_multiples.ensures.given);
+      reduced = rw next (back_more place inside c.requires.rows c.requires.echelon (rw was at v.reduced) taken.taken c.in_ok-give_multiples.ensures.given);
       few = rw next (back_turn entries place done (additions old.operations) (additions cur.operations) (additions mid.operations) (additions new.operations) (rw was at v.few) ones given);
     }

@@ -8,7 +8,7 @@ use Rattle.rq_solver.proofs.pi_solver.second_phase.give_multiples.Goals as goal
 use Rattle.rq_solver.proofs.pi_solver.second_phase.give_multiples.Goals.{then-byte-gt1+in_ok-record_multiple, else-byte-gt1}
 
 pub loop-i-init : goal.loop-i-init
-loop-i-init c = record { given = given_none c.args.rows.now c.args.place c.args.recorded.now; few = omega arith }
+loop-i-init c = record { given = given_none; few = omega arith }
 
 pub loop-i-preserved : goal.loop-i-preserved
 loop-i-preserved c =
@@ -17,11 +17,10 @@ loop-i-preserved c =
     let place = c.args.place in
     let i = c.loop-i.i in
     let old = c.args.recorded.now in
-    let cur = c.loop-i.recorded in
     let early : i < place = c.loop-i-test.true in
     let in_rows : place < length rows = c.requires.place in
     let entries = λ (k : ℕ). entry_of old.table (at rows k) place in
-    let scalar_is : c.get-scalar.result ≡ entry_of old.table (at rows i) place = c.get-scalar.ensures ∙ ap (λ table. entry_of table (at rows i) place) v.given.records.table in
+    let scalar_is : c.get-scalar.result ≡ entries i = c.get-scalar.ensures ∙ ap (λ table. entry_of table (at rows i) place) v.given.done.table in
     let small : c.get-scalar.result < 256 = rw scalar_is (c.args.recorded.now.octets.elements (at rows i) place (c.requires.rows.below i (omega arith)) c.requires.column) in
     elim c.if-byte-gt1.branch [
       | then-byte-gt1+in_ok-record_multiple w ↦
@@ -30,11 +29,11 @@ loop-i-preserved c =
           let more = w.in_ok-record_multiple.ensures.counted in
           let counted = multiples-counted entries i (rw scalar_is at above) in
           rw w.recorded-is (record {
-            given = given_more rows place i early in_rows old cur c.requires.rows v.given c.get-scalar.result small other scalar_is w.record_multiple.new.self w.in_ok-record_multiple.ensures.recorded;
+            given = given_more early in_rows c.requires.rows v.given c.get-scalar.result small other scalar_is w.in_ok-record_multiple.ensures.recorded;
             few = omega (arith, v.few, more, counted);
           })
       | else-byte-gt1 w ↦
           let below : c.get-scalar.result < 2 = omega (arith, w.if-byte-gt1.false, c.byte.ensures) in
           let grow = multiples-grow entries i in
-          rw w.recorded-is (record { given = given_nothing rows place i early in_rows old cur c.requires.rows v.given (rw scalar_is at below); few = omega (arith, v.few, grow) })
+          rw w.recorded-is (record { given = given_nothing early in_rows c.requires.rows v.given (rw scalar_is at below); few = omega (arith, v.few, grow) })
     ]

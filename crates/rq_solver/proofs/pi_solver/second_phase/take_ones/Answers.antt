@@ -12,15 +12,14 @@ use Rattle.rq_solver.proofs.pi_solver.second_phase.take_ones.Goals.{then-byte-eq
 
 pub loop-f-init : goal.loop-f-init
 loop-f-init c =
-    let rows = c.args.rows.now in
-    let row = at rows c.args.place in
+    let row = at c.args.rows.now c.args.place in
     let table = c.args.recorded.now.table in
     let start = c.args.place + 1 in
     let none : multiples (entry_of table row) start (start - start) ≡ 0 = ap (multiples (entry_of table row) start) (omega arith) ∙ multiples-none (entry_of table row) start in
     record {
       from = omega arith;
       within = omega (arith, c.requires.place);
-      taken = reduced_none rows row start c.args.count (λ f. one_of (entry_of table row f)) c.args.recorded.now;
+      taken = reduced_none;
       few = omega (arith, none);
     }
 
@@ -41,7 +40,7 @@ loop-f-preserved c =
     let entries = λ (k : ℕ). one_of (entry_of old.table row k) in
     let forward : from ≤ f = c.in-Some.ensures.0.0 in
     let inside : f < count = c.in-Some.ensures.0.1 in
-    let same = λ (k : ℕ). ap (λ table. entry_of table row k) v.taken.records.table in
+    let same = λ (k : ℕ). ap (λ table. entry_of table row k) v.taken.done.table in
     let scalar_is : scalar ≡ entry_of old.table row f = c.in-Some.ensures.1 ∙ same f in
     let none : (k : ℕ) → from ≤ k → k < f → entries k ≡ 0 = (λ (k : ℕ) (l : from ≤ k) (n : k < f). let zero = sym (same k) ∙ c.in-Some.ensures.0.3 k l n in one_of-other (has k) (λ e. omega (arith, e, zero))) in
     elim c.if-byte-eq1.branch [
@@ -54,7 +53,8 @@ loop-f-preserved c =
           rw w.recorded-is (record {
             from = omega (arith, v.from, forward);
             within = omega arith;
-            taken = reduced_next rows row start count entries from f (omega (arith, v.from, forward)) forward inside old cur v.taken none apart scalar (omega (arith, one)) (one ∙ sym (one_of-one (has f) entry_one)) w.record_multiple.new.self w.in_ok-record_multiple.ensures.recorded;
+            taken = reduced_next f (omega (arith, v.from, forward)) inside apart scalar (omega (arith, one)) (one ∙ sym (one_of-one (has f) entry_one)) v.taken
+                forward none w.in_ok-record_multiple.ensures.recorded;
             few = omega (arith, taken, more);
           })
       | else-byte-eq1 w ↦
@@ -62,7 +62,7 @@ loop-f-preserved c =
           rw w.recorded-is (record {
             from = omega (arith, v.from, forward);
             within = omega arith;
-            taken = reduced_zeros rows row start count entries from (f + 1) old cur v.taken (omega (arith, forward)) (λ k l n. elim (cases_lt k f) [
+            taken = reduced_zeros (f + 1) v.taken (omega (arith, forward)) (λ k l n. elim (cases_lt k f) [
               | inl first ↦ none k l first
               | inr late ↦ let is : k ≡ f = omega arith in rw is (one_of-other (has f) other)
             ]);

@@ -18,9 +18,9 @@ overflow_add-count c =
 pub loop-place-init : goal.loop-place-init
 loop-place-init c = record {
   few = omega arith;
-  cleared = clears_no_rows c.args.ones.now c.args.peeling.now.rows c.args.peeling.now.order (c.args.peeling.now.rows ++ c.args.left.now) c.args.recorded.now;
+  cleared = clears_no_rows;
   long = ap length c.in_ok-bounds.ensures.items;
-  taken = rw c.in_ok-bounds.ensures.items (taken_first c.args.ones.now c.args.peeling.now (c.args.peeling.now.rows ++ c.args.left.now) c.args.recorded.now);
+  taken = rw c.in_ok-bounds.ensures.items taken_first;
 }
 
 pub take_pivots-requires-clause-row : goal.take_pivots-requires-clause-row
@@ -30,7 +30,7 @@ take_pivots-requires-clause-row c =
     rw c.row_at.ensures (are.below c.loop-place.place (omega (arith, long, c.loop-place-test.true, c.pivots.ensures)))
 
 pub take_pivots-requires-clause-height : goal.take_pivots-requires-clause-height
-take_pivots-requires-clause-height c = c.loop-place.invariant.cleared.performs.height ∙ c.requires.height
+take_pivots-requires-clause-height c = c.loop-place.invariant.cleared.done.height ∙ c.requires.height
 
 pub loop-place-preserved : goal.loop-place-preserved
 loop-place-preserved c =
@@ -45,11 +45,11 @@ loop-place-preserved c =
     let are = c.requires.peeled.peeled.in_rows in
     record {
       few = one_turn_more (length p.rows) _ _ _ t v.few c.in_ok-take_pivots.ensures.few;
-      cleared = clears_next_row c.args.ones.now p.rows p.order all _ p.places c.requires.peeled.bits c.requires.peeled.peeled
-          (all_starts (length c.args.ones.now) p.rows c.args.left.now are c.requires.listed) (all_are (length c.args.ones.now) p.rows c.args.left.now are c.requires.listed)
-          t (omega (arith, length-append p.rows c.args.left.now, c.loop-place-test.true, c.pivots.ensures)) c.args.recorded.now cur new v.cleared turn;
+      cleared = clears_next_row c.requires.peeled.bits c.requires.peeled.peeled (all_starts _ p.rows c.args.left.now are c.requires.listed)
+          (all_are _ p.rows c.args.left.now are c.requires.listed)
+          (omega (arith, length-append p.rows c.args.left.now, c.loop-place-test.true, c.pivots.ensures)) v.cleared turn;
       long = ap length pushed ∙ length-append c.loop-place.bounds.items (length cur.operations ∷ []) ∙ ap (λ (n : ℕ). n + 1) v.long;
-      taken = rw pushed (taken_next c.args.ones.now p all t c.loop-place.bounds.items cur new v.long v.taken turn);
+      taken = rw pushed (taken_next c.loop-place.bounds.items v.long v.taken turn);
     }
 
 pub returns-clause-cleared : goal.returns-clause-cleared
@@ -73,5 +73,5 @@ returns-clause-taken c =
     let long = length-append p.rows c.args.left.now in
     let all : c.loop-place.place ≡ length listed = omega (arith, long, c.loop-place.auto.place-end, c.loop-place-test.false, c.pivots.ensures) in
     let pushed : c.push-2.new.self.items ≡ c.loop-place.bounds.items ++ length state.operations ∷ [] = c.in_ok-push-2.ensures.items ∙ ap (λ (n : ℕ). c.loop-place.bounds.items ++ n ∷ []) c.len-2.ensures in
-    taken_by_pivots c.args.ones.now p listed c.push-2.new.self.items state (omega (arith, long))
+    taken_by_pivots (omega (arith, long))
     (all_starts (length c.args.ones.now) p.rows c.args.left.now c.requires.peeled.peeled.in_rows c.requires.listed) (rw (pushed, ← all) c.loop-place.invariant.taken)

@@ -1,19 +1,17 @@
 -- What the check leaves to show of `pi_solver::first_phase::clear_bits::take_pivots`.
-use Rattle.std.proofs.Common.{◌≡◌, ◌≢◌, ◌+◌, ◌<◌, ℕ, [], ◌∷◌, length, sym, ap, ◌∙◌, arith, inl, inr}
+use Rattle.std.proofs.Common.{◌≡◌, ◌≢◌, ◌+◌, ◌<◌, ℕ, length, sym, ap, ◌∙◌, arith, inl, inr}
 use Rattle.rq_algebra.specs.Systems.{at}
-use Rattle.rq_elimination.specs.RecordedRows.{Performs}
-use Rattle.rq_elimination.specs.RowSteps.{sum_step}
 use Rattle.rq_algebra.proofs.FewPlaces.{few_places}
 use Rattle.rq_peeling.proofs.Counting.{twice_counted}
 use Rattle.rq_solver.proofs.CountLaws.{met_none, met_skipped, met_more}
 use Rattle.rq_elimination.proofs.Performing.{performs_none, performs_more}
-use Rattle.rq_solver.proofs.PivotsTaken.{columns_of_row, takes_no_pivots, takes_skipped, takes_more}
+use Rattle.rq_solver.proofs.PivotsTaken.{columns_of_row, takes_no_pivots, takes_skipped, takes_more_pivots}
 use Rattle.rq_solver.proofs.pi_solver.first_phase.clear_bits.take_pivots.Goals as goal
 use Rattle.rq_solver.proofs.pi_solver.first_phase.clear_bits.take_pivots.Goals.{then-place-pivots+then-row_of-row+in_ok-add_multiple, else-place-pivots, else-place-pivots-via-then-place-pivots+else-row_of-row, else-place-pivots-via-else-place-pivots}
 
 pub loop-column-init : goal.loop-column-init
 loop-column-init c = record {
-  taken = takes_no_pivots Performs c.args.peeling.now.rows c.args.peeling.now.order c.args.row c.row-column-items.result.now c.args.recorded.now (performs_none c.args.recorded.now);
+  taken = takes_no_pivots c.args.peeling.now.rows c.args.peeling.now.order c.args.row c.row-column-items.result.now (performs_none c.args.recorded.now);
   few = (0, met_none (length c.args.peeling.now.rows) (λ q. at c.args.peeling.now.places (at c.row-column-items.result.now q)), (omega arith));
 }
 
@@ -31,7 +29,7 @@ loop-column-preserved c =
     let cur = c.loop-column.recorded in
     let peeled = c.requires.peeled.peeled in
     let in_columns : t < length columns = c.loop-column-test.true in
-    let are = columns_of_row width row c.args.ones.now columns c.requires.peeled.bits c.requires.row c.row-column-items.ensures in
+    let are = columns_of_row c.requires.peeled.bits c.requires.row c.row-column-items.ensures in
     let in_width : at columns t < width = are.within t 0 in_columns in
     let place : at places (at columns t) ≡ j = sym c.place_of-place.ensures in
     let many = c.pivots.ensures in
@@ -49,8 +47,9 @@ loop-column-preserved c =
             few =
                 let added = w.in_ok-add_multiple.ensures.counted in
                 (v.few.0 + 1, met_more (length rows) met t v.few.0 v.few.1 (rw place in_rows) fresh, (let so_far = v.few.2 in omega (arith, added, so_far)));
-            taken = takes_more Performs rows order row columns places width peeled.columns peeled.few t in_columns in_width old cur v.taken are.once _ peeled.in_rows j place in_rows (λ e. w.if-row_of-row.true (tested ∙ e)) c.requires.height
-                w.add_multiple.new.self (performs_more v.taken.steps (sum_step row (at rows j) 1 ∷ []) old cur w.add_multiple.new.self v.taken.done (rw (read, w.one.ensures) at w.in_ok-add_multiple.ensures.added));
+            taken = takes_more_pivots rows order row columns peeled.columns peeled.few in_columns in_width v.taken are.once peeled.in_rows place in_rows
+                (λ e. w.if-row_of-row.true (tested ∙ e)) c.requires.height (rw (read, w.one.ensures) at w.in_ok-add_multiple.ensures.added)
+                (performs_more _ _ old cur w.add_multiple.new.self);
           })
       | else-place-pivots w ↦ rw w.recorded-is (record {
         few = (v.few.0, met_skipped (length rows) met t v.few.0 v.few.1, v.few.2);
@@ -58,9 +57,9 @@ loop-column-preserved c =
           | else-place-pivots-via-then-place-pivots+else-row_of-row w' ↦
               let in_rows : j < length rows = omega (arith, many, w'.if-place-pivots.true) in
               let tested : w'.row_of.result ≡ at rows j = w'.row_of.ensures in
-              takes_skipped Performs rows order row columns places width peeled.columns peeled.few t in_columns in_width old cur v.taken (inr (ap (at rows) place ∙ sym tested ∙ w'.if-row_of-row.false))
+              takes_skipped _ _ _ columns peeled.columns peeled.few in_columns in_width v.taken (inr (ap (at rows) place ∙ rw tested at w'.if-row_of-row.false))
           | else-place-pivots-via-else-place-pivots w' ↦
-              takes_skipped Performs rows order row columns places width peeled.columns peeled.few t in_columns in_width old cur v.taken (inl (omega (arith, many, w'.if-place-pivots.false, place)))
+              takes_skipped _ _ row columns peeled.columns peeled.few in_columns in_width v.taken (inl (omega (arith, many, w'.if-place-pivots.false, place)))
         ];
       })
     ]

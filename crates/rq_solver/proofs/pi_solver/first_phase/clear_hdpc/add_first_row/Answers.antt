@@ -6,7 +6,6 @@ use Rattle.rq_algebra.proofs.Sums.{inverse_nonzero}
 use Rattle.rq_standard.specs.OctetField.{octets}
 use Rattle.rq_parts.specs.DenseOctetMatrix.{HasOctets}
 use Rattle.rq_elimination.specs.HdpcRows.{octet_in}
-use Rattle.rq_solver.specs.HdpcOctets.{octets_from}
 use Rattle.rq_elimination.proofs.ChangedEntries.{one-div}
 use Rattle.rq_solver.proofs.OctetSums.{quotient_times, plus_quotient_times}
 use Rattle.rq_elimination.proofs.HdpcFactors.{elements_beside, adds_beside, scales_beside}
@@ -15,7 +14,7 @@ use Rattle.rq_solver.proofs.HdpcClearing.{combines_none, combines_more, combines
 use Rattle.rq_solver.proofs.pi_solver.first_phase.clear_hdpc.add_first_row.Goals as goal
 
 pub returns-then-byte-eq0-clause-added : goal.returns-then-byte-eq0-clause-added
-returns-then-byte-eq0-clause-added c = combines_none c.args.first_hdpc (length c.args.hdpc_rows.now.table.rows) c.args.hdpc_rows.now.table.width (octets_from c.args.column (octet_in c.args.hdpc_rows.now)) c.args.recorded.now
+returns-then-byte-eq0-clause-added c = combines_none
 
 pub loop-row-init : goal.loop-row-init
 loop-row-init c = record {
@@ -29,7 +28,7 @@ loop-row-init c = record {
   count = c.read_column.ensures.count;
   whole = c.read_column.ensures.whole;
   rest = c.nonzero_after_first-rest.ensures;
-  combined = combines_none c.args.first_hdpc (length c.args.hdpc_rows.now.table.rows) c.args.hdpc_rows.now.table.width (octets_from c.args.column (octet_in c.args.hdpc_rows.now)) c.args.recorded.now;
+  combined = combines_none;
 }
 
 pub loop-row-preserved : goal.loop-row-preserved
@@ -75,11 +74,9 @@ loop-row-preserved c =
       count = v.count;
       whole = v.whole;
       rest = c.in-Some.ensures.rest;
-      combined = combines_more first count width (octets_from column (octet_in start)) (octets_from column (octet_in was)) (octets_from column (octet_in now)) c.args.recorded.now c.loop-row.recorded c.add_multiple.new.self v.combined
-          (combines_sum first count width (octets_from column (octet_in was)) (octets_from column (octet_in now)) c.loop-row.recorded c.add_multiple.new.self
-          (from_elements column (octet_in was) count width (elements_beside start was same elements))
-          row (first + row) scalar in_rows refl 0 first (omega (arith, in_rows)) (omega arith)
-          (from_adds column count width row scalar (octet_in was) (octet_in now) 0 added) c.in_ok-add_multiple.ensures.added);
+      combined = combines_more v.combined
+          (combines_sum (from_elements column _ count width (elements_beside start was same elements)) row (first + row) scalar in_rows refl 0 first
+          (omega (arith, in_rows)) (omega arith) (from_adds column count width row scalar _ (octet_in now) 0 added) c.in_ok-add_multiple.ensures.added);
     }
 
 pub multiply_row-requires-clause-nonzero : goal.multiply_row-requires-clause-nonzero
@@ -119,11 +116,11 @@ returns-in_ok-multiply_row-clause-added c =
     let count = length start.table.rows in
     let width = start.table.width in
     let v = c.loop-row.invariant in
-    combines_more first count width (octets_from column (octet_in start)) (octets_from column (octet_in was)) (octets_from column (octet_in now)) c.args.recorded.now c.loop-row.recorded c.multiply_row.new.self v.combined
-    (combines_scaling first count width (octets_from column (octet_in was)) (octets_from column (octet_in now)) c.loop-row.recorded c.multiply_row.new.self
-    (from_elements column (octet_in was) count width (elements_beside start was v.table (rw v.table at c.height.ensures.octets)))
-    0 first scalar (omega arith) (omega arith)
-    (from_scales column count width 0 scalar (octet_in was) (octet_in now) (subst (λ (x : ℕ). ScalesRow octets count width 0 x (octet_in was) (octet_in now)) c.byte-factor-then-byte-ne1.ensures (scales_beside start was v.table now 0 c.byte-factor-then-byte-ne1.result c.multiply_first.ensures.multiple))) c.in_ok-multiply_row.ensures.multiplied)
+    let scaled = subst (λ (x : ℕ). ScalesRow octets count width 0 x (octet_in was) (octet_in now)) c.byte-factor-then-byte-ne1.ensures
+    (scales_beside start was v.table now 0 c.byte-factor-then-byte-ne1.result c.multiply_first.ensures.multiple) in
+    combines_more v.combined
+    (combines_scaling (from_elements column _ count width (elements_beside start was v.table (rw v.table at c.height.ensures.octets))) 0 first scalar
+    (omega arith) (omega arith) (from_scales column count width 0 scalar (octet_in was) (octet_in now) scaled) c.in_ok-multiply_row.ensures.multiplied)
 
 pub returns-else-byte-ne1-clause-alone : goal.returns-else-byte-ne1-clause-alone
 returns-else-byte-ne1-clause-alone c = λ some.

@@ -1,7 +1,7 @@
 -- What the check leaves to show of `pi_solver::first_phase::clear_hdpc::add_pivot`.
-use Rattle.std.proofs.Common.{◌≡◌, ℕ, ◌+◌, ◌<◌, length, sym, ap, ◌∙◌, arith}
+use Rattle.std.proofs.Common.{◌≡◌, ℕ, ◌<◌, length, sym, ap, ◌∙◌, arith}
 use Rattle.rq_algebra.specs.Systems.{at}
-use Rattle.rq_solver.specs.HdpcOctets.{HasPivotsBeside, octets_from, with_zeros}
+use Rattle.rq_solver.specs.HdpcOctets.{HasPivotsBeside, octets_from}
 use Rattle.rq_elimination.specs.HdpcRows.{octet_in}
 use Rattle.rq_solver.proofs.OctetColumns.{from_column, same_behind}
 use Rattle.rq_solver.proofs.HdpcClearing.{beside_still, changes_no_octets, changes_same, changes_pivot, changes_more_octets, zeros_skipped, column_cleared}
@@ -16,9 +16,7 @@ loop-row-init c =
     let before = octets_from column (octet_in hdpc_rows) in
     record {
       few = omega arith;
-      changed = changes_same p.rows p.order p.places c.args.places.now.first (length hdpc_rows.table.rows) hdpc_rows.table.width before before (with_zeros column 0 before) c.args.recorded.now c.args.recorded.now
-          (λ i q l n. sym (same_behind column 0 before i (at p.order q) (omega arith)))
-          (changes_no_octets p.rows p.order p.places c.args.places.now.first (length hdpc_rows.table.rows) hdpc_rows.table.width before c.args.recorded.now);
+      changed = changes_same (λ i q l n. sym (same_behind column 0 before i (at p.order q) (omega arith))) changes_no_octets;
     }
 
 pub add_multiple-requires-clause-two : goal.add_multiple-requires-clause-two
@@ -45,30 +43,27 @@ loop-row-preserved c =
     let column : c.column_at-column.result ≡ here = c.column_at-column.ensures in
     let in_rows : row < count = omega (arith, c.requires.count) in
     let scalar_is : c.get-scalar.result ≡ before row here = c.get-scalar.ensures ∙ ap (octet_in hdpc_rows row) column ∙ sym (from_column here (octet_in hdpc_rows) row here (omega arith)) in
-    let still : HasPivotsBeside p.rows p.order p.places first count width cur = beside_still p.rows p.order p.places first count width old cur beside v.changed.performs.height in
+    let still : HasPivotsBeside p.rows p.order p.places first count width cur = beside_still beside v.changed.done.height in
     elim c.if-byte-ne0.branch [
       | then-byte-ne0+in_ok-add_multiple w ↦
           let small : c.get-scalar.result < 256 = rw c.byte.ensures at c.byte.type_inv in
           let read : w.row_of.result ≡ at p.rows place = w.row_of.ensures in
           rw w.recorded-is (record {
             few = (let more = w.in_ok-add_multiple.ensures.counted in let so_far = v.few in omega (arith, more, so_far));
-            changed = changes_more_octets p.rows p.order p.places first count width before (with_zeros here row before) (with_zeros here (row + 1) before) old cur w.add_multiple.new.self beside v.changed
-                (changes_pivot p.rows p.order p.places first count width before cur w.add_multiple.new.self still row place c.get-scalar.result in_rows c.requires.place small scalar_is (rw read at w.in_ok-add_multiple.ensures.added));
+            changed = changes_more_octets beside v.changed
+                (changes_pivot still before row place _ in_rows c.requires.place small scalar_is (rw read at w.in_ok-add_multiple.ensures.added));
           })
       | else-byte-ne0 w ↦
           let none : before row here ≡ 0 = sym scalar_is ∙ sym c.byte.ensures ∙ w.if-byte-ne0.false in
           rw w.recorded-is (record {
             few = (let so_far = v.few in omega (arith, so_far));
-            changed = changes_same p.rows p.order p.places first count width before (with_zeros here row before) (with_zeros here (row + 1) before) old cur
-                (zeros_skipped p.rows p.order p.places first count width before cur cur still row place 0 in_rows c.requires.place none) v.changed;
+            changed = changes_same (zeros_skipped still before row place 0 in_rows c.requires.place none) v.changed;
           })
     ]
 
 pub returns-clause-changed : goal.returns-clause-changed
 returns-clause-changed c =
     let p = c.args.places.now.peeling.now in
-    let table = c.args.hdpc_rows.now.table in
     let column = at p.order c.args.place in
     let all : c.loop-row.row ≡ c.args.count = omega (arith, c.loop-row.auto) in
-    column_cleared p.rows p.order p.places c.args.places.now.first (length table.rows) table.width column c.args.count (octet_in c.args.hdpc_rows.now) (octets_from column (octet_in c.args.hdpc_rows.now)) c.args.recorded.now c.loop-row.recorded c.requires.zeros
-    (rw all at c.loop-row.invariant.changed)
+    column_cleared (octet_in c.args.hdpc_rows.now) column c.args.count c.requires.zeros (rw all at c.loop-row.invariant.changed)

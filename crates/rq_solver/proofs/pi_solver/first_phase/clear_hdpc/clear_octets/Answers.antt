@@ -21,7 +21,7 @@ returns-then-height-eq0-clause-cleared c =
       | then-height-eq0-via-then-height-eq0 w ↦ λ p l i n. absurd (let empty = w.if-height-eq0.true in omega (arith, empty, c.height.ensures, n))
       | then-height-eq0-via-else-height-eq0+then-are_zeros_at_pivots w ↦ let zeros = rw w.if-are_zeros_at_pivots.true at w.are_zeros_at_pivots.ensures in λ p l i n. zeros refl p l i n
     ] in
-    clears_no_octets rows order c.args.peeling.now.places c.args.first_hdpc (length hdpc.rows) hdpc.width (entry_of hdpc) c.args.recorded.now none
+    clears_no_octets (entry_of hdpc) c.args.recorded.now none
 
 pub loop-column-init : goal.loop-column-init
 loop-column-init c =
@@ -29,7 +29,7 @@ loop-column-init c =
     record {
       table = refl;
       lanes = c.as_mut_slice-column_octets.ensures.len ∙ c.in_ok-octets.ensures.len ∙ c.lanes.ensures;
-      changed = changes_no_octets c.args.peeling.now.rows c.args.peeling.now.order c.args.peeling.now.places c.args.first_hdpc (length hdpc.rows) hdpc.width (octets_from 0 (octet_in c.in_ok-hdpc_rows.hdpc_rows)) c.sum_rows.new.recorded;
+      changed = changes_no_octets;
       few = (0, met_none (length c.args.peeling.now.rows) (at c.args.peeling.now.places), (omega arith));
     }
 
@@ -44,15 +44,15 @@ clear_column-requires c =
     let table = v.table ∙ c.in_ok-hdpc_rows.ensures.table in
     let count : length c.loop-column.hdpc_rows.table.rows ≡ length hdpc.rows = ap (λ (t : OctetTable). length t.rows) table ∙ c.in_ok-sum_rows.ensures.height in
     let width : c.loop-column.hdpc_rows.table.width ≡ hdpc.width = ap (λ (t : OctetTable). t.width) table ∙ c.in_ok-sum_rows.ensures.width in
-    let heights : length now.table.rows ≡ length old.table.rows = v.changed.performs.height ∙ summed.performs.height in
+    let heights : length now.table.rows ≡ length old.table.rows = v.changed.done.height ∙ summed.done.height in
     record {
       hdpc = record {
-        rows = rw count (octets_still c.args.first_hdpc (length hdpc.rows) old now c.requires.rows heights);
+        rows = rw count (octets_still c.requires.rows heights);
         some = omega (arith, count, c.height.ensures, c.if-height-eq0.false);
         in_width = omega (arith, width, c.loop-column-test.true, c.end_of_pivots-column-end.ensures.within, c.requires.pivots.columns.place_count);
         lanes = v.lanes;
       };
-      pivots = rw (count, width) (beside_still p.rows p.order p.places c.args.first_hdpc (length hdpc.rows) hdpc.width old now c.requires.pivots heights);
+      pivots = rw (count, width) (beside_still c.requires.pivots heights);
     }
 
 pub loop-column-preserved : goal.loop-column-preserved
@@ -72,7 +72,7 @@ loop-column-preserved c =
     let width = hdpc.width in
     let height : length was.table.rows ≡ count = ap (λ (t : OctetTable). length t.rows) (v.table ∙ c.in_ok-hdpc_rows.ensures.table) ∙ c.in_ok-sum_rows.ensures.height in
     let beside : HasPivotsBeside p.rows p.order p.places first count width cur =
-    beside_still p.rows p.order p.places first count width c.args.recorded.now cur c.requires.pivots c.in_ok-sum_rows.ensures.summed.performs.height in
+    beside_still c.requires.pivots c.in_ok-sum_rows.ensures.summed.done.height in
     let turn : ChangesOctets p.rows p.order first count (octets_from column (octet_in was)) (octets_from (column + 1) (octet_in now)) mid new =
     subst (λ (n : ℕ). ChangesOctets p.rows p.order first n (octets_from column (octet_in was)) (octets_from (column + 1) (octet_in now)) mid new) height c.in_ok-clear_column.ensures.changed in
     let fresh : (q : ℕ) → q < column → at p.places q ≢ at p.places column = (λ (q : ℕ) (l : q < column) (e : at p.places q ≡ at p.places column).
@@ -91,7 +91,7 @@ loop-column-preserved c =
             let so_far = v.few.2 in
             (v.few.0, met_skipped (length p.rows) (at p.places) column v.few.0 v.few.1, omega (arith, more, so_far, height))
       ];
-      changed = changes_more_octets p.rows p.order p.places first count width (octets_from 0 (octet_in start)) (octets_from column (octet_in was)) (octets_from (column + 1) (octet_in now)) cur mid new beside v.changed turn;
+      changed = changes_more_octets beside v.changed turn;
     }
 
 pub returns-clause-cleared : goal.returns-clause-cleared
@@ -113,11 +113,10 @@ returns-clause-cleared c =
     let beside = c.requires.pivots in
     let last : c.loop-column.column ≡ c.end_of_pivots-column-end.result = omega (arith, c.loop-column.auto.column-end) in
     let begun : ChangesOctets p.rows p.order first count (entry_of hdpc) (octets_from 0 (octet_in start)) old cur =
-    changes_same p.rows p.order p.places first count width (entry_of hdpc) (entry_of sums) (octets_from 0 (octet_in start)) old cur
-    (λ i q l n. sym (from_column 0 (octet_in start) i (at p.order q) (omega arith) ∙ c.in_ok-hdpc_rows.ensures.octets i (at p.order q) (rw heights l) (rw widths (in_width p.rows p.order p.places first count width old beside q n))))
-    (changes_combined p.rows p.order p.places first count width (entry_of hdpc) (entry_of sums) old cur beside summed) in
-    let changed = changes_more_octets p.rows p.order p.places first count width (entry_of hdpc) (octets_from 0 (octet_in start)) (octets_from c.loop-column.column (octet_in end)) old cur new beside begun c.loop-column.invariant.changed in
-    clears_octets p.rows p.order p.places first count width (entry_of hdpc) (octet_in end) old new c.loop-column.column beside changed
+    changes_same
+    (λ i q l n. sym (from_column 0 (octet_in start) i (at p.order q) (omega arith) ∙ c.in_ok-hdpc_rows.ensures.octets i (at p.order q) (rw heights l) (rw widths (in_width beside q n))))
+    (changes_combined beside summed) in
+    clears_octets beside (entry_of hdpc) (octet_in end) c.loop-column.column (changes_more_octets beside begun c.loop-column.invariant.changed)
     (rw last c.end_of_pivots-column-end.ensures.last)
 
 pub returns-clause-few : goal.returns-clause-few

@@ -17,7 +17,7 @@ loop-row-init c = record {
   are_octets = c.requires.octets;
   sum = λ k l. sym (sum_of_one (λ i. entry_of c.args.rows.now i k));
   others = λ i k some l n. refl;
-  combined = combines_none c.args.first_hdpc (length c.args.rows.now.rows) c.args.rows.now.width (entry_of c.args.rows.now) c.args.recorded.now;
+  combined = combines_none;
 }
 
 pub loop-row-preserved : goal.loop-row-preserved
@@ -45,7 +45,7 @@ loop-row-preserved c =
           in_height.at_dest k l
           ∙ rw (c.one-one.ensures, v.others row k (omega arith) in_start l, octets.one_mul (entry_of start row k) is_octet, v.sum k l) (sym (sum_of_more (λ i. entry_of start i k) row));
       others = λ i k some_row l n. in_height.elsewhere i k l n (λ e. omega (arith, e, some_row)) ∙ v.others i k some_row l n;
-      combined = combines_more c.args.first_hdpc (length start.rows) start.width (entry_of start) (entry_of was) (entry_of now) c.args.recorded.now c.loop-row.recorded c.add_multiple.new.self v.combined
-          (combines_sum c.args.first_hdpc (length start.rows) start.width (entry_of was) (entry_of now) c.loop-row.recorded c.add_multiple.new.self (rw (v.height, v.width) at v.are_octets.elements) 0 c.args.first_hdpc c.one-one.result (omega (arith, in_start)) (omega arith) row (c.args.first_hdpc + row) in_start refl
-          in_height c.in_ok-add_multiple.ensures.added);
+      combined = combines_more v.combined
+          (combines_sum (rw (v.height, v.width) at v.are_octets.elements) 0 c.args.first_hdpc c.one-one.result (omega (arith, in_start)) (omega arith)
+          row (c.args.first_hdpc + row) in_start refl in_height c.in_ok-add_multiple.ensures.added);
     }

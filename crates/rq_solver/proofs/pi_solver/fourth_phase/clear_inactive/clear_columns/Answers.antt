@@ -11,7 +11,7 @@ pub loop-word-init : goal.loop-word-init
 loop-word-init c =
     let none : min c.args.inactive (64 * 0) ≡ 0 = omega arith in
     record {
-      taken = rw none (reduced_none c.args.inactive_rows.now c.args.row 0 c.args.inactive (entry_of c.args.recorded.now.table c.args.row) c.args.recorded.now);
+      taken = rw none reduced_none;
       few = omega arith;
     }
 
@@ -21,7 +21,6 @@ loop-word-preserved c =
     let rows = c.args.inactive_rows.now in
     let inactive = c.args.inactive in
     let word = c.loop-word.word in
-    let old = c.args.recorded.now in
     let cur = c.loop-word.recorded in
     let words = div_ceil_times inactive 64 (omega arith) in
     let before : 64 * word < inactive = omega (arith, words.1, c.loop-word-test.true, c.div_ceil-word-end.ensures) in
@@ -29,10 +28,10 @@ loop-word-preserved c =
     let next : c.min.result ≡ min inactive (64 * (word + 1)) = omega (arith, c.min.ensures) in
     let end : ℕ = min inactive (64 * (word + 1)) in
     let new = c.take_word.new.recorded in
-    let turn = subst (λ t. ClearsColumns rows c.args.row (64 * word) end end (entry_of t c.args.row) cur new) v.taken.records.table (rw next at c.in_ok-take_word.ensures.taken) in
+    let turn = subst (λ t. ClearsColumns rows c.args.row (64 * word) end end (entry_of t c.args.row) cur new) v.taken.done.table (rw next at c.in_ok-take_word.ensures.taken) in
     record {
-      taken = reduced_join rows c.args.row 0 inactive (entry_of old.table c.args.row) (64 * word) end (omega arith) (omega (arith, before)) (omega arith) old cur
-          new (λ f l n. c.requires.rows.apart f (omega (arith, n, c.requires.many))) (rw here at v.taken) turn;
+      taken = reduced_join (64 * word) end (omega arith) (omega (arith, before)) (omega arith)
+          (λ f l n. c.requires.rows.apart f (omega (arith, n, c.requires.many))) (rw here at v.taken) turn;
       few = omega (arith, v.few, c.in_ok-take_word.ensures.few, next, here, before);
     }
 

@@ -3,17 +3,17 @@ use Rattle.rq_solver.proofs.FinishedPivots.{finish_none, finish_plain, finish_ag
 use Rattle.std.proofs.Common.{◌≡◌, ◌≢◌, ◌+◌, ◌-◌, ◌<◌, ℕ, length, arith}
 use Rattle.std.proofs.lemmas.List.{get_or_read}
 use Rattle.rq_algebra.specs.Systems.{at}
-use Rattle.rq_elimination.specs.RecordedRows.{Records}
 use Rattle.rq_solver.specs.Peeled.{inactive_count}
 use Rattle.rq_solver.specs.PivotAdditions.{PivotsHaveTaken}
 use Rattle.rq_solver.proofs.CountLaws.{one_turn_more}
-use Rattle.rq_solver.proofs.TakenAgain.{pivots_recorded, sums_between, taken_between}
+use Rattle.rq_elimination.proofs.Performing.{logs_recorded}
+use Rattle.rq_solver.proofs.TakenAgain.{pivots_stay, sums_between, taken_between}
 use Rattle.rq_solver.proofs.pi_solver.fourth_phase.clear_inactive.clear_inactive.Goals as goal
 use Rattle.rq_solver.proofs.pi_solver.fourth_phase.clear_inactive.clear_inactive.Goals.{In_ok-clear_columns, then-sparse-place+in_ok-redo_additions, else-sparse-place}
 
 pub loop-place-init : goal.loop-place-init
 loop-place-init c = record {
-  finished = finish_none c.args.peeled.now c.requires.under_way.pivots.peeled c.args.left.now c.args.sparse.now c.args.recorded.now;
+  finished = finish_none c.args.peeled.now c.requires.under_way.pivots.peeled;
   few = omega arith;
 }
 
@@ -22,7 +22,7 @@ clear_columns-requires-clause-rows c =
     let under = c.requires.under_way in
     let t = c.loop-place.place in
     let inside : t < length c.args.peeled.now.peeling.rows = omega (arith, c.loop-place-test.true, c.pivots-place-end.ensures) in
-    rw (c.row_of-row.ensures, c.loop-place.invariant.finished.records.table) (record {
+    rw (c.row_of-row.ensures, c.loop-place.invariant.finished.done.table) (record {
       taker = rw under.pivots.height (under.pivots.peeled.peeled.in_rows.below t inside);
       rows = under.listed;
       apart = λ f l. under.apart t f inside l;
@@ -35,10 +35,8 @@ module _ (c : In_ok-clear_columns) where
 
   stands : PivotsHaveTaken c.args.peeled.now.ones c.args.peeled.now.peeling c.args.peeled.now.bounds.items c.clear_columns.new.recorded
   stands =
-      let p = c.args.peeled.now in
-      let cur = c.loop-place.recorded in
-      let first = pivots_recorded p c.args.recorded.now cur c.requires.under_way.pivots _ c.loop-place.invariant.finished.records in
-      (pivots_recorded p cur c.clear_columns.new.recorded first _ c.in_ok-clear_columns.ensures.taken.records).taken
+      let first = pivots_stay c.requires.under_way.pivots (logs_recorded c.loop-place.invariant.finished.done) in
+      (pivots_stay first (logs_recorded c.in_ok-clear_columns.ensures.taken.done)).taken
 
 pub redo_additions-requires-clause-sums : goal.redo_additions-requires-clause-sums
 redo_additions-requires-clause-sums c =
@@ -49,7 +47,7 @@ redo_additions-requires-clause-sums c =
     let within : t + 1 < length bounds = omega (arith, c.requires.under_way.pivots.taken.many, in_rows before) in
     let start : c.index.result.now ≡ at bounds t = get_or_read bounds t c.index.result.now (omega (arith, within)) c.index.ensures 0 in
     let end : c.index-then-sparse-place.result.now ≡ at bounds (t + 1) = get_or_read bounds (t + 1) c.index-then-sparse-place.result.now within c.index-then-sparse-place.ensures 0 in
-    rw (c.row_of-row.ensures, start, end) (sums_between p.ones p.peeling p.peeling.rows (length p.peeling.rows) bounds c.clear_columns.new.recorded (stands before) t (in_rows before))
+    rw (c.row_of-row.ensures, start, end) (sums_between (stands before) t (in_rows before))
 
 pub loop-place-preserved : goal.loop-place-preserved
 loop-place-preserved c =
@@ -60,12 +58,8 @@ loop-place-preserved c =
     let has = c.requires.under_way.pivots in
     let bounds = p.bounds.items in
     let left = c.args.left.now in
-    let marks = c.args.sparse.now in
     let count = inactive_count p.peeling in
     let t = c.loop-place.place in
-    let old = c.args.recorded.now in
-    let cur = c.loop-place.recorded in
-    let mid = c.clear_columns.new.recorded in
     let inside = in_rows before in
     let within : t + 1 < length bounds = omega (arith, has.taken.many, inside) in
     let counted : c.width.result - c.pivots.result ≡ count = omega (arith, c.width.ensures, c.pivots.ensures) in
@@ -77,17 +71,16 @@ loop-place-preserved c =
       | then-sparse-place+in_ok-redo_additions w ↦
           let start : w.index.result.now ≡ at bounds t = get_or_read bounds t w.index.result.now (omega (arith, within)) w.index.ensures 0 in
           let end : w.index-then-sparse-place.result.now ≡ at bounds (t + 1) = get_or_read bounds (t + 1) w.index-then-sparse-place.result.now within w.index-then-sparse-place.ensures 0 in
-          let new = w.redo_additions.new.recorded in
-          let again = taken_between p.ones p.peeling rows (length rows) bounds mid (stands before) t inside Records new (rw (start, end) at w.in_ok-redo_additions.ensures.done) in
+          let again = taken_between (stands before) t inside (rw (start, end) at w.in_ok-redo_additions.ensures.done) in
           rw w.recorded-is (record {
-            finished = finish_again p has.peeled left marks t inside old cur mid v.finished turn apart new again w.if-sparse-place.true;
+            finished = finish_again p has.peeled inside v.finished turn apart again w.if-sparse-place.true;
             few =
                 let each = rw (start, end) at w.in_ok-redo_additions.ensures.few in
                 let short = c.requires.short t (omega (arith, inside, c.requires.long)) w.if-sparse-place.true in
                 one_turn_more (count + p.sparsify_limit) _ _ _ t v.few (omega (arith, sums, each, short));
           })
       | else-sparse-place w ↦ rw w.recorded-is (record {
-        finished = finish_plain p has.peeled left marks t inside old cur mid v.finished turn apart w.if-sparse-place.false;
+        finished = finish_plain p has.peeled inside v.finished turn apart w.if-sparse-place.false;
         few = one_turn_more (count + p.sparsify_limit) _ _ _ t v.few (omega (arith, sums));
       })
     ]

@@ -8,7 +8,7 @@ pub loop-column-init : goal.loop-column-init
 loop-column-init c = record {
   from = omega arith;
   within = c.requires.ordered;
-  taken = reduced_none c.args.inactive_rows.now c.args.row c.args.start c.args.end (entry_of c.args.recorded.now.table c.args.row) c.args.recorded.now;
+  taken = reduced_none;
   few = omega arith;
 }
 
@@ -20,15 +20,14 @@ loop-column-preserved c =
     let entries = entry_of old.table c.args.row in
     let forward : c.loop-column.from ≤ column = c.in-Some.ensures.0.0 in
     let inside : column < c.args.end = c.in-Some.ensures.0.1 in
-    let same = λ (k : ℕ). ap (λ table. entry_of table c.args.row k) v.taken.records.table in
+    let same = λ (k : ℕ). ap (λ table. entry_of table c.args.row k) v.taken.done.table in
     let scalar_is : c.in-Some.scalar ≡ entries column = c.in-Some.ensures.1 ∙ same column in
     let small : c.in-Some.scalar < 256 = rw scalar_is (old.octets.elements c.args.row column c.requires.rows.taker (omega (arith, inside, c.requires.width))) in
     record {
       from = omega (arith, v.from, forward);
       within = omega (arith, inside);
-      taken = reduced_next c.args.inactive_rows.now c.args.row c.args.start c.args.end entries c.loop-column.from column (omega (arith, v.from, forward)) forward inside old c.loop-column.recorded v.taken
-          (λ k l n. sym (same k) ∙ c.in-Some.ensures.0.3 k l n) (c.requires.rows.apart column (omega (arith, inside, c.requires.many))) c.in-Some.scalar small scalar_is
-          c.record_multiple.new.self c.in_ok-record_multiple.ensures.recorded;
+      taken = reduced_next column (omega (arith, v.from, forward)) inside (c.requires.rows.apart column (omega (arith, inside, c.requires.many)))
+          c.in-Some.scalar small scalar_is v.taken forward (λ k l n. sym (same k) ∙ c.in-Some.ensures.0.3 k l n) c.in_ok-record_multiple.ensures.recorded;
       few =
           let more = c.in_ok-record_multiple.ensures.counted in
           let so_far = v.few in

@@ -16,14 +16,10 @@ module _ (c : In-loop-rest) where
   clears = clears_lowest c.loop-rest.rest c.loop-rest-test.true (omega arith)
 
   inside : trailing_zeros w64 c.loop-rest.rest < c.args.end - 64 * c.args.word
-  inside =
-      lowest_inside c.args.inactive_rows.now c.args.row (64 * c.args.word) (c.args.end - 64 * c.args.word) c.in-Some.bits (entry_of c.args.recorded.now.table c.args.row)
-      c.args.recorded.now c.loop-rest.rest c.loop-rest.recorded c.loop-rest.invariant is _ _ clears
+  inside = lowest_inside c.loop-rest.invariant is clears
 
 pub loop-rest-init : goal.loop-rest-init
-loop-rest-init c =
-    takes_no_ones c.args.inactive_rows.now c.args.row (64 * c.args.word) (c.args.end - 64 * c.args.word) c.in-Some.bits (entry_of c.args.recorded.now.table c.args.row)
-    c.args.recorded.now (omega (arith, c.requires.few))
+loop-rest-init c = takes_no_ones (omega (arith, c.requires.few))
 
 pub bounds-inactive_rows-start : goal.bounds-inactive_rows-start
 bounds-inactive_rows-start c = omega (arith, inside (goal.at.bounds-inactive_rows-start c).In-loop-rest, c.requires.many)
@@ -36,18 +32,16 @@ record_multiple-requires-clause-two c =
 pub loop-rest-preserved : goal.loop-rest-preserved
 loop-rest-preserved c =
     let before = (goal.at.loop-rest-preserved c).In-loop-rest in
-    takes_lowest c.args.inactive_rows.now c.args.row (64 * c.args.word) (c.args.end - 64 * c.args.word) c.in-Some.bits (entry_of c.args.recorded.now.table c.args.row)
-    c.args.recorded.now c.loop-rest.rest c.loop-rest.recorded c.loop-rest.invariant (is before) _ _ (clears before)
-    (c.requires.rows.apart (64 * c.args.word + trailing_zeros w64 c.loop-rest.rest) (omega (arith, inside before, c.requires.many))) c.record_multiple.new.self
+    takes_lowest c.loop-rest.invariant (is before) (clears before)
+    (c.requires.rows.apart (64 * c.args.word + trailing_zeros w64 c.loop-rest.rest) (omega (arith, inside before, c.requires.many)))
     (rw c.one.ensures at c.in_ok-record_multiple.ensures.recorded) c.in_ok-record_multiple.ensures.counted
 
 pub returns-clause-taken : goal.returns-clause-taken
 returns-clause-taken c =
     let whole : 64 * c.args.word + (c.args.end - 64 * c.args.word) ≡ c.args.end = omega (arith, c.requires.some) in
     rw whole at
-    (takes_all c.args.inactive_rows.now c.args.row (64 * c.args.word) (c.args.end - 64 * c.args.word) c.in-Some.bits (entry_of c.args.recorded.now.table c.args.row)
-    c.args.recorded.now c.loop-rest.rest c.loop-rest.recorded c.loop-rest.invariant
-    (λ f l. sym (c.in-Some.ensures f (omega (arith, c.requires.few, l)) (omega (arith, c.requires.width, l)))) c.loop-rest-test.false)
+    (takes_all c.loop-rest.invariant (λ f l. sym (c.in-Some.ensures f (omega (arith, c.requires.few, l)) (omega (arith, c.requires.width, l))))
+    c.loop-rest-test.false)
 
 pub returns-clause-few : goal.returns-clause-few
 returns-clause-few c = omega (arith, c.loop-rest.invariant.few, c.loop-rest.invariant.before)

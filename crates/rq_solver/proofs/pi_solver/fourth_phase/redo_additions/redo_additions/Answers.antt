@@ -1,5 +1,5 @@
 -- What the check leaves to show of `pi_solver::fourth_phase::redo_additions::redo_additions`.
-use Rattle.std.proofs.Common.{◌≡◌, [], ◌∷◌, length, sym, ◌∙◌, arith}
+use Rattle.std.proofs.Common.{◌≡◌, [], ◌∷◌, sym, ◌∙◌, arith}
 use Rattle.std.proofs.lemmas.Option.{none-some, same_Some}
 use Rattle.rq_algebra.specs.Operations.{AddAssign}
 use Rattle.rq_peeling.proofs.ListParts.{range_none}
@@ -16,16 +16,15 @@ loop-place-init g c = record {
 
 pub redo-requires-clause-two : goal.redo-requires-clause-two
 redo-requires-clause-two g c = λ e.
-    let before = (goal.at.redo-requires-clause-two g c).After-source in
     let v = c.loop-place.invariant in
-    let sum = next_sum c.args.row (length c.args.recorded.now.table.rows) c.args.recorded.now.operations c.args.start c.args.end c.loop-place.place c.requires.sums c.requires.within v.from c.loop-place-test.true _ c.loop-place.recorded.operations c.source.result (g.met.R.Redo.recorded _ c.args.recorded.now c.loop-place.recorded v.again) c.source.ensures in
+    let sum = next_sum c.requires.sums c.requires.within v.from c.loop-place-test.true _ (g.met.R.Redo.recorded _ c.args.recorded.now c.loop-place.recorded v.again) c.source.ensures in
     sum.other (same_Some sum.source c.in-Some.source (sym sum.is ∙ c.in-Some.is) ∙ sym e)
 
 pub redo-requires-clause-source : goal.redo-requires-clause-source
 redo-requires-clause-source g c =
     let v = c.loop-place.invariant in
     let high = g.met.R.Redo.height _ c.args.recorded.now c.loop-place.recorded v.again in
-    let sum = next_sum c.args.row (length c.args.recorded.now.table.rows) c.args.recorded.now.operations c.args.start c.args.end c.loop-place.place c.requires.sums c.requires.within v.from c.loop-place-test.true _ c.loop-place.recorded.operations c.source.result (g.met.R.Redo.recorded _ c.args.recorded.now c.loop-place.recorded v.again) c.source.ensures in
+    let sum = next_sum c.requires.sums c.requires.within v.from c.loop-place-test.true _ (g.met.R.Redo.recorded _ c.args.recorded.now c.loop-place.recorded v.again) c.source.ensures in
     rw (high, ← same_Some sum.source c.in-Some.source (sym sum.is ∙ c.in-Some.is)) sum.within
 
 pub loop-place-preserved : goal.loop-place-preserved
@@ -33,7 +32,7 @@ loop-place-preserved g c =
     let v = c.loop-place.invariant in
     let old = c.args.recorded.now in
     let cur = c.loop-place.recorded in
-    let sum = next_sum c.args.row (length old.table.rows) old.operations c.args.start c.args.end c.loop-place.place c.requires.sums c.requires.within v.from c.loop-place-test.true _ cur.operations c.source.result (g.met.R.Redo.recorded _ old cur v.again) c.source.ensures in
+    let sum = next_sum c.requires.sums c.requires.within v.from c.loop-place-test.true _ (g.met.R.Redo.recorded _ old cur v.again) c.source.ensures in
     elim c.match-source.branch [
       | in-Some+in_ok-redo w ↦
           let is : sum.source ≡ w.in-Some.source = same_Some sum.source w.in-Some.source (sym sum.is ∙ w.in-Some.is) in

@@ -3,10 +3,10 @@ use Rattle.std.proofs.Common.{◌≡◌, ◌≢◌, ℕ, ◌+◌, ◌-◌, ◌<�
 use Rattle.std.proofs.lemmas.Bool.{cases_eq}
 use Rattle.std.proofs.lemmas.List.{get_or-set_same, get_or-set_other, get_or_read}
 use Rattle.rq_algebra.specs.Systems.{at}
-use Rattle.rq_elimination.specs.RecordedRows.{Performs}
 use Rattle.rq_solver.proofs.CountLaws.{one_turn_more}
 use Rattle.rq_solver.proofs.FinishedPivots.{sparsifies_none, back_skipped, back_taken}
-use Rattle.rq_solver.proofs.TakenAgain.{pivots_performed, sums_between, taken_between, taken_performed}
+use Rattle.rq_elimination.proofs.Performing.{logs_performed}
+use Rattle.rq_solver.proofs.TakenAgain.{pivots_stay, sums_between, taken_between, taken_stays}
 use Rattle.rq_solver.proofs.pi_solver.fourth_phase.sparsify.sparsify_rows.Goals as goal
 use Rattle.rq_solver.proofs.pi_solver.fourth_phase.sparsify.sparsify_rows.Goals.{then-saves+in_ok-redo_additions, else-saves}
 
@@ -14,14 +14,13 @@ pub loop-done-init : goal.loop-done-init
 loop-done-init c =
     let all : length c.args.peeled.now.peeling.rows - 0 ≡ length c.args.peeled.now.peeling.rows = omega arith in
     record {
-      taken = rw all (sparsifies_none c.args.peeled.now c.requires.taken.peeled c.args.sparse.now c.args.recorded.now);
+      taken = rw all (sparsifies_none c.args.peeled.now c.requires.taken.peeled c.args.sparse.now);
       short = λ p late l e. absurd (omega arith);
       few = omega arith;
     }
 
 pub saves_additions-saves-requires-clause-taken : goal.saves_additions-saves-requires-clause-taken
-saves_additions-saves-requires-clause-taken c =
-    pivots_performed c.args.peeled.now c.args.recorded.now c.loop-done.recorded c.requires.taken _ c.loop-done.invariant.taken.performs
+saves_additions-saves-requires-clause-taken c = pivots_stay c.requires.taken (logs_performed c.loop-done.invariant.taken.done)
 
 pub redo_additions-requires-clause-sums : goal.redo_additions-requires-clause-sums
 redo_additions-requires-clause-sums c =
@@ -32,13 +31,12 @@ redo_additions-requires-clause-sums c =
     let in_rows : place < length rows = omega (arith, c.loop-done.auto.sparse, c.requires.long, c.loop-done-test.true) in
     let start : c.index.result.now ≡ at bounds place = get_or_read bounds place c.index.result.now (omega (arith, taken.many, in_rows)) c.index.ensures 0 in
     let end : c.index-then-saves.result.now ≡ at bounds (place + 1) = get_or_read bounds (place + 1) c.index-then-saves.result.now (omega (arith, taken.many, in_rows)) c.index-then-saves.ensures 0 in
-    let stands = taken_performed c.args.peeled.now.ones c.args.peeled.now.peeling rows (length rows) bounds c.args.recorded.now c.loop-done.recorded taken _ c.loop-done.invariant.taken.performs in
-    rw (c.row_of-row.ensures, start, end) (sums_between c.args.peeled.now.ones c.args.peeled.now.peeling rows (length rows) bounds c.loop-done.recorded stands place in_rows)
+    let stands = taken_stays taken (logs_performed c.loop-done.invariant.taken.done) in
+    rw (c.row_of-row.ensures, start, end) (sums_between stands place in_rows)
 
 pub loop-done-preserved : goal.loop-done-preserved
 loop-done-preserved c =
     let has = c.requires.taken in
-    let lists = c.args.peeled.now.ones in
     let rows = c.args.peeled.now.peeling.rows in
     let bounds = c.args.peeled.now.bounds.items in
     let marks = c.loop-done.sparse in
@@ -52,10 +50,8 @@ loop-done-preserved c =
     let was : length rows - done ≡ place + 1 = omega (arith, long, c.loop-done-test.true) in
     let next : length rows - (done + 1) ≡ place = omega (arith, long, c.loop-done-test.true) in
     let v = c.loop-done.invariant in
-    let old = c.args.recorded.now in
-    let cur = c.loop-done.recorded in
     let taken = has.taken in
-    let stands = taken_performed lists c.args.peeled.now.peeling rows (length rows) bounds old cur taken _ v.taken.performs in
+    let stands = taken_stays taken (logs_performed v.taken.done) in
     let same : (p : ℕ) → p ≢ place → get_or now p false ≡ get_or marks p false = (λ (p : ℕ) (d : p ≢ place). get_or-set_other marks place p saves false d) in
     let here : get_or now place false ≡ saves = get_or-set_same marks place saves false in_marks in
     let so_far = rw was at v.taken in
@@ -68,7 +64,8 @@ loop-done-preserved c =
           let start : w.index.result.now ≡ at bounds place = get_or_read bounds place w.index.result.now (omega (arith, taken.many, in_rows)) w.index.ensures 0 in
           let end : w.index-then-saves.result.now ≡ at bounds (place + 1) = get_or_read bounds (place + 1) w.index-then-saves.result.now (omega (arith, taken.many, in_rows)) w.index-then-saves.ensures 0 in
           rw w.recorded-is (record {
-            taken = rw next (back_taken c.args.peeled.now has.peeled marks now place in_rows old cur so_far same w.redo_additions.new.recorded (taken_between lists c.args.peeled.now.peeling rows (length rows) bounds cur stands place in_rows Performs w.redo_additions.new.recorded (rw (start, end) at w.in_ok-redo_additions.ensures.done)) (here ∙ w.if-saves.true));
+            taken = rw next (back_taken c.args.peeled.now has.peeled marks now in_rows so_far same
+                (taken_between stands place in_rows (rw (start, end) at w.in_ok-redo_additions.ensures.done)) (here ∙ w.if-saves.true));
             short = short;
             few =
                 let few_rows = c.saves_additions-saves.ensures w.if-saves.true in
@@ -76,7 +73,7 @@ loop-done-preserved c =
                 one_turn_more c.args.peeled.now.sparsify_limit _ _ _ done v.few (omega (arith, each, few_rows, start, end));
           })
       | else-saves w ↦ rw w.recorded-is (record {
-        taken = rw next (back_skipped c.args.peeled.now has.peeled marks now place in_rows old cur so_far same (here ∙ w.if-saves.false));
+        taken = rw next (back_skipped c.args.peeled.now has.peeled marks now in_rows so_far same (here ∙ w.if-saves.false));
         short = short;
         few = one_turn_more c.args.peeled.now.sparsify_limit _ _ _ done v.few (omega arith);
       })
