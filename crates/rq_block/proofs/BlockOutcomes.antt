@@ -29,7 +29,7 @@ use Rattle.rq_base.specs.HdpcPart.{IsHdpcPart}
 use Rattle.rq_operations.specs.declared.recorded.RecordedOperations.{RecordedOperations}
 use Rattle.rq_solver.specs.Solving.{AreEquations, AreEquationsWithoutHdpc, FindsOperations, Solver, SolvesOrShows, solver_of, solver_without_hdpc}
 use Rattle.rq_solver.specs.declared.pi_solver.solved.Solved.{Solved}
-use Rattle.rq_solver.specs.declared.pi_solver.solved.Solved.TheVariants.{Operations, Undetermined}
+use Rattle.rq_solver.specs.declared.pi_solver.solved.Solved.TheVariants.{Determined, Undetermined}
 use Rattle.rq_solver.proofs.EquationLaws.{binary_equations, are_equations, equations_same, finds_equations, homogeneous_of_equations}
 use Rattle.rq_elimination.proofs.RowStepLaws.{SameEntries}
 use Rattle.rq_solver.proofs.SolutionLaws.{store-unordered, order-found, finds_same, homogeneous_same, is_solution}
@@ -46,8 +46,8 @@ places_count slab zero places = omega arith
 places_count slab (suc n) places = has_count slab.values slab.symbol_size slab.order n (places n (omega arith))
 
 -- the operations that find the column of all equations, or else the ids don't determine the block, as a column shows where there is one
-abbrev pub SolvesAll : TableRow → List ℕ → Solved → Type 0
-SolvesAll row ids (Operations found) = FindsColumn octets (equation_count row ids) (intermediate_symbols row) (equations row ids) (operations_of found)
+abbrev pub SolvesAll : TableRow → List ℕ → Solved RecordedOperations → Type 0
+SolvesAll row ids (Determined found) = FindsColumn octets (equation_count row ids) (intermediate_symbols row) (equations row ids) (operations_of found)
 SolvesAll row ids (Undetermined column) = (HasDeterminedRows row ids → ⊥) × IfSome column (IsHomogeneousFor row ids)
 
 -- a zero for each equation
@@ -65,15 +65,15 @@ module _ (row : TableRow) (ids : List ℕ) (bits : BitTable) (hdpc : OctetTable)
   shown_outcome None shown = tt
   shown_outcome (Some column) shown = shows_same (equation_count row ids) (intermediate_symbols row) _ (equations row ids) (equations_same row ids bits hdpc part octet_part.rows) (Some column) (rw (sym handed_equations.binary.shape.height ∙ part.shape.height) at shown)
 
-  found_outcome : (solved : Solved) → SolvesOrShows (solver_of row bits hdpc handed) solved → SolvesAll row ids solved
-  found_outcome (Operations found) finds = finds_equations row ids bits hdpc part octet_part.rows handed handed_equations (operations_of found) finds
+  found_outcome : (solved : Solved RecordedOperations) → SolvesOrShows (solver_of row bits hdpc handed) solved → SolvesAll row ids solved
+  found_outcome (Determined found) finds = finds_equations row ids bits hdpc part octet_part.rows handed handed_equations (operations_of found) finds.found
   found_outcome (Undetermined column) found = (
-    λ d. homogeneous_not_determined octets (equation_count row ids) (intermediate_symbols row) (equations row ids) (homogeneous_of_equations row ids bits hdpc part octet_part.rows handed handed_equations found.0) d,
-    shown_outcome column found.1,
+    λ d. homogeneous_not_determined octets (equation_count row ids) (intermediate_symbols row) (equations row ids) (homogeneous_of_equations row ids bits hdpc part octet_part.rows handed handed_equations found.found) d,
+    shown_outcome column found.shown,
   )
 
   -- what a solver finds solves the block's equations; where there is nothing, the ids don't determine the block
-  pub solver_outcome : (s : Solver) (x solved : Solved) → s ≡ solver_of row bits hdpc handed → x ≡ solved → SolvesOrShows s x → SolvesAll row ids solved
+  pub solver_outcome : (s : Solver) (x solved : Solved RecordedOperations) → s ≡ solver_of row bits hdpc handed → x ≡ solved → SolvesOrShows s x → SolvesAll row ids solved
   solver_outcome s x solved stands is found = found_outcome solved (subst (SolvesOrShows (solver_of row bits hdpc handed)) is (subst (λ t. SolvesOrShows t x) stands found))
 
 -- ---- without HDPC equations

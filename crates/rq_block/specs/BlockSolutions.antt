@@ -13,8 +13,8 @@ use Rattle.rq_standard.specs.TableRows.{intermediate_symbols}
 use Rattle.rq_standard.specs.Equations.{equation_count, equations, precode_equations, hdpc_coefficient, symbol_coefficient, zero_symbol}
 use Rattle.rq_standard.specs.IdLists.{HasDeterminedRows}
 use Rattle.rq_block.specs.declared.solving.BlockOperations.{BlockOperations}
-use Rattle.rq_block.specs.declared.solving.BlockOutcome.{BlockOutcome}
-use Rattle.rq_block.specs.declared.solving.BlockOutcome.TheVariants.{Operations, Undetermined}
+use Rattle.rq_solver.specs.Solved.{found_of, shown_of}
+use Rattle.rq_solver.specs.declared.pi_solver.solved.Solved.{Solved}
 
 -- the first `precode_rows` of the LDPC and HDPC equations, and then one for each id
 abbrev pub first_equations : TableRow → ℕ → List ℕ → ℕ → ℕ → ℕ
@@ -41,23 +41,14 @@ FindsListed row ids answer = MatchOption answer (HasDeterminedRows row ids → �
 abbrev pub ShowsListed : TableRow → List ℕ → Option (Vec ℕ Global) → Type 0
 ShowsListed row ids answer = ShowsHomogeneous (equation_count row ids) (intermediate_symbols row) (equations row ids) answer
 
--- what an outcome has of the two
-abbrev pub found_operations : BlockOutcome → Option BlockOperations
-found_operations (Operations solution) = Some solution
-found_operations (Undetermined column) = None
-
-abbrev pub shown_column : BlockOutcome → Option (Vec ℕ Global)
-shown_column (Operations solution) = None
-shown_column (Undetermined column) = column
-
 -- a column that isn't all zeros and solves the equations of a list of ids with all values zero
 abbrev pub IsHomogeneousFor : TableRow → List ℕ → Vec ℕ Global → Type 0
 IsHomogeneousFor row ids column = IsHomogeneousColumn octets (equation_count row ids) (intermediate_symbols row) (equations row ids) column.items
 
 -- what is found of the equations of a list of ids
-pub record IsBlockOutcome (row : TableRow) (ids : List ℕ) (outcome : BlockOutcome) : Type 0 where
-  pub found : FindsListed row ids (found_operations outcome)
-  pub shown : IfSome (shown_column outcome) (IsHomogeneousFor row ids)
+pub record IsBlockOutcome (row : TableRow) (ids : List ℕ) (outcome : Solved BlockOperations) : Type 0 where
+  pub found : FindsListed row ids (found_of outcome)
+  pub shown : IfSome (shown_of outcome) (IsHomogeneousFor row ids)
 
 -- the LDPC equations and those of the ids are as many as the intermediate symbols, and determine them without those of HDPC
 pub record NeedsNoHdpc (row : TableRow) (ids : List ℕ) : Type 0 where

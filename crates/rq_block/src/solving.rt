@@ -2,7 +2,8 @@
 ghost use Rattle.std.specs.Prelude.{◌≡◌, ◌^◌, ◌<◌, ◌≤◌, IfSome, IfOk, IfErr};
 ghost use Rattle.rq_standard.specs.TableRows.{intermediate_symbols};
 ghost use Rattle.rq_standard.specs.Equations.{equation_count};
-ghost use Rattle.rq_block.specs.BlockSolutions.{found_operations, FindsFrom, FindsListed, FindsWithoutHdpc, IsBlockOutcome, ShowsListed, SparesHdpc};
+ghost use Rattle.rq_block.specs.BlockSolutions.{FindsFrom, FindsListed, FindsWithoutHdpc, IsBlockOutcome, ShowsListed, SparesHdpc};
+ghost use Rattle.rq_solver.specs.Solved.{found_of};
 
 use rq_base::constraint_matrix::{
     generate_constraint_matrix_no_hdpc_of_row, generate_constraint_matrix_of_row,
@@ -26,29 +27,6 @@ pub(crate) struct BlockOperations {
     pub operations: RecordedOperations,
 }
 
-/// What the equations of a list of internal symbol ids give: operations, or else what shows that the
-/// ids don't determine the intermediate symbols.
-#[derive(Drop)]
-pub(crate) enum BlockOutcome {
-    /// What makes the intermediate symbols from the symbols of the ids.
-    Operations(BlockOperations),
-    /// A column that isn't all zeros and solves the equations with all values zero. `None` where there
-    /// was no memory for it.
-    Undetermined(Option<Vec<u8>>),
-}
-
-impl BlockOutcome {
-    // The operations, where there are some.
-    fn operations(self) -> Option<BlockOperations>
-        ensures { result ≡ found_operations self }
-    {
-        match self {
-            BlockOutcome::Operations(solution) => Some(solution),
-            BlockOutcome::Undetermined(_) => None,
-        }
-    }
-}
-
 /// What makes the intermediate symbols from the symbols of a list of internal symbol ids. `None`
 /// where the ids don't determine them. The matrix is sparse where the extended source block has
 /// `sparse_threshold` symbols (K') or more, and dense else.
@@ -65,7 +43,7 @@ pub(crate) fn solve_block(
     ensures memory { IfErr result (λ e. e ≡ Error.OutOfMemory) }
 {
     let outcome = solve_or_show(alloc, row, ids, sparse_threshold)?;
-    Ok(outcome.operations())
+    Ok(outcome.determined())
 }
 
 /// What [`solve_block`] finds, and where it finds nothing a column that shows it.
@@ -74,11 +52,11 @@ pub(crate) fn solve_or_show(
     row: &CheckedRow,
     ids: &[u32],
     sparse_threshold: u32,
-) -> Result<BlockOutcome, Error>
+) -> Result<Solved<BlockOperations>, Error>
     requires enough { intermediate_symbols row.now.numbers ≤ equation_count row.now.numbers ids.now }
     requires fits { equation_count row.now.numbers ids.now < 2 ^ 31 }
     ensures outcome { IfOk result (IsBlockOutcome row.now.numbers ids.now) }
-    ensures spares { IfOk result (λ outcome. SparesHdpc row.now.numbers ids.now (found_operations outcome)) }
+    ensures spares { IfOk result (λ outcome. SparesHdpc row.now.numbers ids.now (found_of outcome)) }
     ensures memory { IfErr result (λ e. e ≡ Error.OutOfMemory) }
 {
     let listed = Listed { alloc, row, ids };
@@ -102,13 +80,13 @@ struct Listed<'a> {
 impl Listed<'_> {
     // Over one kind of matrix: first without the HDPC equations, which are not needed where enough
     // symbols were received, and cost the most.
-    fn find_over<T: BinaryMatrix>(&self) -> Result<BlockOutcome, Error>
+    fn find_over<T: BinaryMatrix>(&self) -> Result<Solved<BlockOperations>, Error>
         ensures outcome { IfOk result (IsBlockOutcome self.now.row.now.numbers self.now.ids.now) }
-        ensures spares { IfOk result (λ outcome. SparesHdpc self.now.row.now.numbers self.now.ids.now (found_operations outcome)) }
+        ensures spares { IfOk result (λ outcome. SparesHdpc self.now.row.now.numbers self.now.ids.now (found_of outcome)) }
         ensures memory { IfErr result (λ e. e ≡ Error.OutOfMemory) }
     {
         if let Some(solution) = self.find_without_hdpc::<T>()? {
-            return Ok(BlockOutcome::Operations(solution));
+            return Ok(Solved::Determined(solution));
         }
         self.find_with_hdpc::<T>()
     }
@@ -143,7 +121,7 @@ impl Listed<'_> {
     }
 
     // By all equations.
-    fn find_with_hdpc<T: BinaryMatrix>(&self) -> Result<BlockOutcome, Error>
+    fn find_with_hdpc<T: BinaryMatrix>(&self) -> Result<Solved<BlockOperations>, Error>
         ensures outcome { IfOk result (IsBlockOutcome self.now.row.now.numbers self.now.ids.now) }
         ensures memory { IfErr result (λ e. e ≡ Error.OutOfMemory) }
     {
@@ -154,11 +132,11 @@ impl Listed<'_> {
         let values = SymbolSlab::with_zeros(self.alloc, precode_rows + self.ids.len(), 0)?;
         let solver = IntermediateSymbolDecoder::of_row(self.alloc, self.row, matrix, hdpc, values);
         match solver.solve()? {
-            Solved::Operations(operations) => Ok(BlockOutcome::Operations(BlockOperations {
+            Solved::Determined(operations) => Ok(Solved::Determined(BlockOperations {
                 precode_rows,
                 operations,
             })),
-            Solved::Undetermined(column) => Ok(BlockOutcome::Undetermined(column)),
+            Solved::Undetermined(column) => Ok(Solved::Undetermined(column)),
         }
     }
 }

@@ -8,13 +8,9 @@ use Rattle.rq_algebra.proofs.Solutions.{homogeneous_column_same}
 use Rattle.rq_standard.specs.BitTable.{BitTable}
 use Rattle.rq_standard.specs.ConstraintMatrix.{with_octet_rows}
 use Rattle.rq_standard.specs.OctetField.{octets}
-use Rattle.rq_operations.specs.RecordedOperations.{operations_of}
 use Rattle.rq_parts.specs.DenseOctetMatrix.{OctetTable, entry_of}
 use Rattle.rq_peeling.specs.SystemRows.{one_in}
-use Rattle.rq_solver.specs.Phases.{SolvesSystem, SolvesRows}
-use Rattle.rq_solver.specs.Solving.{IsSolved}
-use Rattle.rq_solver.specs.declared.pi_solver.solved.Solved.{Solved}
-use Rattle.rq_solver.specs.declared.pi_solver.solved.Solved.TheVariants.{Operations, Undetermined}
+use Rattle.rq_solver.specs.Phases.{ShowsSystem, SolvesSystem, SolvesRows}
 use Rattle.rq_peeling.specs.System.{IsSystemOf, rows_of_system}
 use Rattle.rq_peeling.specs.declared.system.System.{System}
 use Rattle.rq_solver.proofs.OctetRows.{with_octet_rows-same}
@@ -36,10 +32,9 @@ module _ (bits : BitTable) (hdpc : OctetTable) (first : ℕ) (system : System) (
   attempt_of_bits None found = rw (← is.hdpc_is, ← is.first_is, ← is.width_is, ← is.ones_are.count) (homogeneous_same octets (length system.ones) system.width _ _ same_entries found)
   attempt_of_bits (Some operations) found = rw (← is.hdpc_is, ← is.first_is, ← is.width_is, ← is.ones_are.count) (finds_same octets (length system.ones) system.width _ _ same_entries operations found)
 
-  pub solved_of_bits : (solved : Solved) → IsSolved (length system.ones) system.width (rows_of_system system) solved → IsSolved bits.height bits.width (with_octet_rows first (length hdpc.rows) bits.bit (entry_of hdpc)) solved
-  solved_of_bits (Operations operations) found = attempt_of_bits (Some (operations_of operations)) found
-  solved_of_bits (Undetermined column) found = (attempt_of_bits None found.0, shown_of_bits column found.1) where
-    shown_of_bits : (column : Option (Vec ℕ Global)) → IfSome column (λ shown. IsHomogeneousColumn octets (length system.ones) system.width (rows_of_system system) shown.items)
-        → IfSome column (λ shown. IsHomogeneousColumn octets bits.height bits.width (with_octet_rows first (length hdpc.rows) bits.bit (entry_of hdpc)) shown.items)
-    shown_of_bits None shown = tt
-    shown_of_bits (Some column) shown = rw (← is.hdpc_is, ← is.first_is, ← is.width_is, ← is.ones_are.count) (homogeneous_column_same octets (length system.ones) system.width _ _ same_entries column.items shown)
+  pub shown_of_bits : (column : Option (Vec ℕ Global)) → IfSome column (λ shown. ShowsSystem system shown.items)
+      → IfSome column (λ shown. IsHomogeneousColumn octets bits.height bits.width (with_octet_rows first (length hdpc.rows) bits.bit (entry_of hdpc)) shown.items)
+  shown_of_bits None shown = tt
+  shown_of_bits (Some column) shown =
+      rw (← is.hdpc_is, ← is.first_is, ← is.width_is, ← is.ones_are.count)
+      (homogeneous_column_same octets (length system.ones) system.width _ _ same_entries column.items shown)

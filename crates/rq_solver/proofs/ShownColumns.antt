@@ -1,6 +1,6 @@
 -- The column that the rows of a system leave open where an inactive column has no pivot.
 use Rattle.std.proofs.Common.{◌≡◌, ◌≢◌, ℕ, ◌+◌, ◌<◌, List, None, length, ◌∙◌, refl, arith}
-use Rattle.rq_algebra.specs.Systems.{at, IsColumn, IsHomogeneousColumn}
+use Rattle.rq_algebra.specs.Systems.{at, IsColumn}
 use Rattle.rq_standard.specs.OctetField.{octets}
 use Rattle.rq_parts.specs.DenseOctetMatrix.{entry_of}
 use Rattle.rq_peeling.specs.System.{rows_of_system}
@@ -10,6 +10,7 @@ use Rattle.rq_elimination.specs.declared.counts.PhaseEnds.{PhaseEnds}
 use Rattle.rq_elimination.specs.declared.recorded.RecordedRows.{RecordedRows}
 use Rattle.rq_solver.specs.HomogeneousColumns.{SolvesLeftRows, SolvesPivotRows}
 use Rattle.rq_solver.specs.PhaseOutcome.{RunsOverSystem}
+use Rattle.rq_solver.specs.Phases.{ShowsSystem}
 use Rattle.rq_solver.specs.declared.pi_solver.peeled.Peeled.{Peeled}
 use Rattle.rq_solver.proofs.OctetRows.{bit_row}
 use Rattle.rq_solver.proofs.PeeledSolutions.{shown_by_peeled}
@@ -25,7 +26,7 @@ module _ (system : System) (p : Peeled) (left : List ℕ) (last : RecordedRows) 
       pivot_of_bits system.ones system.first_hdpc system.hdpc system.width system.bits system.octet_rows rows p.peeling.order p.peeling.places runs.peeled q i l n
 
   pub shows_system : (column : List ℕ) → IsColumn octets (length p.peeling.places) (at column) → SolvesLeftRows p.peeling left last.table column
-      → SolvesPivotRows p (length rows) column → IsHomogeneousColumn octets (length system.ones) system.width (rows_of_system system) column
+      → SolvesPivotRows p (length rows) column → ShowsSystem system column
   shows_system column elements solves pivots =
       let width : length p.peeling.places ≡ system.width = runs.peeled.columns.place_count in
       let inside : length rows + solves.place < system.width = omega (arith, solves.below, width) in

@@ -19,12 +19,13 @@ use Rattle.rq_operations.specs.RecordedOperations.{operations_of}
 use Rattle.rq_operations.specs.declared.recorded.RecordedOperations.{RecordedOperations}
 use Rattle.rq_elimination.specs.PhaseCounts.{AreCountsOf, AreInOrder}
 use Rattle.rq_peeling.specs.declared.system.System.{System}
-use Rattle.rq_solver.specs.PhaseOutcome.{ends_of, in_row_order, recorded_in, RunsPhases}
-use Rattle.rq_solver.specs.Phases.{SolvesRows}
+use Rattle.rq_solver.specs.PhaseOutcome.{RunsPhases}
+use Rattle.rq_solver.specs.Phases.{SolvesRows, then_ordered}
+use Rattle.rq_solver.specs.Solved.{found_of}
 use Rattle.rq_solver.specs.Solving.{IsSolution, IsOutcome, Solver}
 use Rattle.rq_elimination.specs.declared.counts.OperationCounts.{OperationCounts}
+use Rattle.rq_elimination.specs.declared.counts.PhaseEnds.{PhaseEnds}
 use Rattle.rq_solver.specs.declared.pi_solver.phase_outcome.PhaseOutcome.{PhaseOutcome}
-use Rattle.rq_solver.specs.declared.pi_solver.phase_outcome.PhaseOutcome.TheVariants.{Determined, Undetermined}
 use Rattle.rq_solver.proofs.LaterPhases.{ends_in_order}
 use Rattle.rq_elimination.proofs.PhaseTotals.{AreTotalsOf, counts_with_order, longer_in_order, totals_of}
 use Rattle.rq_elimination.proofs.RowStepLaws.{SameEntries}
@@ -112,18 +113,19 @@ pub by_phases : (a b d e f h : ℕ) → a ≡ e → b ≡ f → d ≡ h → a �
 by_phases a b d e f h first second fourth = ap (λ (n : ℕ). n ∷ b ∷ 0 ∷ d ∷ 0 ∷ []) first ∙ ap (λ (n : ℕ). e ∷ n ∷ 0 ∷ d ∷ 0 ∷ []) second ∙ ap (λ (n : ℕ). e ∷ f ∷ 0 ∷ n ∷ 0 ∷ []) fourth
 
 -- the counts of what was recorded are those of what is handed out
-pub recorded_totals : (outcome : PhaseOutcome) (counts : OperationCounts) (ops : RecordedOperations) → AreInOrder (ends_of outcome) (length (recorded_in outcome))
-    → AreCountsOf (ends_of outcome) (recorded_in outcome) counts → Some (operations_of ops) ≡ in_row_order outcome → AreTotalsOf counts (operations_of ops)
-recorded_totals (Undetermined peeled left rows ends) counts ops in_order are e = absurd (none-some _ (sym e))
-recorded_totals (Determined recorded ends order) counts ops in_order are e =
-    rw (same_Some _ _ e) (totals_of ends (recorded ++ Reorder order.items ∷ []) counts (longer_in_order recorded order.items ends in_order) (counts_with_order recorded order.items ends in_order counts are))
+pub recorded_totals : (ends : PhaseEnds) (recorded : List Operation) (order : Option (Vec ℕ Global)) (counts : OperationCounts) (ops : RecordedOperations)
+    → AreInOrder ends (length recorded) → AreCountsOf ends recorded counts → Some (operations_of ops) ≡ then_ordered recorded order
+    → AreTotalsOf counts (operations_of ops)
+recorded_totals ends recorded None counts ops in_order are e = absurd (none-some _ (sym e))
+recorded_totals ends recorded (Some rows) counts ops in_order are e =
+    rw (same_Some _ _ e) (totals_of ends (recorded ++ Reorder rows.items ∷ []) counts (longer_in_order recorded rows.items ends in_order)
+    (counts_with_order recorded rows.items ends in_order counts are))
 
 -- what a phase recorded ends where the next begins
-pub outcome_in_order : (system : System) (outcome : PhaseOutcome) → RunsPhases system outcome → AreInOrder (ends_of outcome) (length (recorded_in outcome))
-outcome_in_order system (Undetermined peeled left last ends) runs = ends_in_order peeled runs.0.before left.items runs.0.first last ends None runs.0.later
-outcome_in_order system (Determined recorded ends order) runs =
+pub outcome_in_order : (system : System) (outcome : PhaseOutcome) → RunsPhases system outcome → AreInOrder outcome.ends (length outcome.recorded)
+outcome_in_order system outcome runs =
     let ran = runs.4 in
-    rw runs.3 (ends_in_order runs.0 ran.before runs.1 ran.first runs.2 ends (Some order) ran.later)
+    rw runs.3 (ends_in_order runs.0 ran.before runs.1 ran.first runs.2 outcome.ends (found_of outcome.order) ran.later)
 
 -- the outcome of a solver that stands for these equations and has not run
 pub outcome_same : (s t : Solver) (handed : Slab) (r : Result (Option (Slab × Vec SymbolOps Global)) Error) → s ≡ t → t.symbols ≡ Some handed → IfSome s.symbols (λ h. IfOk r (IsOutcome s h)) → IfOk r (IsOutcome t handed)

@@ -10,5 +10,6 @@ pub mod Phases
 pub mod PivotAdditions
 pub mod SecondPhase
 pub mod SolverState
+pub mod Solved
 pub mod Solving
 pub mod TakenSteps

@@ -1,8 +1,8 @@
 -- What the phases find for a solver.
-use Rattle.std.specs.Prelude.{◌≡◌, ℕ, ◌<◌, List, [], ◌∷◌, ◌++◌, Option, None, Some, IfSome, Vec, length, map, sum}
+use Rattle.std.specs.Prelude.{◌≡◌, ℕ, ◌<◌, List, [], ◌∷◌, Option, IfSome, Vec, length, map, sum}
 use Rattle.std.specs.Global.{Global}
 use Rattle.std.specs.Option.{option_map}
-use Rattle.rq_algebra.specs.Operations.{Operation, Reorder}
+use Rattle.rq_algebra.specs.Operations.{Operation}
 use Rattle.rq_bytes.specs.SymbolSlab.{Slab}
 use Rattle.rq_bytes.specs.SymbolOps.{operation_of}
 use Rattle.rq_bytes.specs.declared.operation_vector.SymbolOps.{SymbolOps}
@@ -17,26 +17,15 @@ use Rattle.rq_elimination.specs.declared.recorded.RecordedRows.{RecordedRows}
 use Rattle.rq_solver.specs.FirstPhase.{ClearsPivots, TakesPivotsAlone}
 use Rattle.rq_solver.specs.LeftRows.{ListsRows}
 use Rattle.rq_solver.specs.Peeled.{IsUnderWay}
-use Rattle.rq_solver.specs.Phases.{RunsLater}
+use Rattle.rq_solver.specs.Phases.{RunsLater, then_ordered}
+use Rattle.rq_solver.specs.Solved.{found_of}
 use Rattle.rq_solver.specs.Solving.{Solver}
 use Rattle.rq_solver.specs.declared.pi_solver.peeled.Peeled.{Peeled}
 use Rattle.rq_solver.specs.declared.pi_solver.phase_outcome.PhaseOutcome.{PhaseOutcome}
-use Rattle.rq_solver.specs.declared.pi_solver.phase_outcome.PhaseOutcome.TheVariants.{Determined, Undetermined}
-
--- what was recorded
-abbrev pub recorded_in : PhaseOutcome → List Operation
-recorded_in (Determined recorded ends order) = recorded
-recorded_in (Undetermined peeled left rows ends) = rows.operations
-
--- where the stretches of the phases end in it
-abbrev pub ends_of : PhaseOutcome → PhaseEnds
-ends_of (Determined recorded ends order) = ends
-ends_of (Undetermined peeled left rows ends) = ends
 
 -- what was recorded and then puts the rows in order, where they are solved
 abbrev pub in_row_order : PhaseOutcome → Option (List Operation)
-in_row_order (Determined recorded ends order) = Some (recorded ++ Reorder order.items ∷ [])
-in_row_order (Undetermined peeled left rows ends) = None
+in_row_order outcome = then_ordered outcome.recorded (found_of outcome.order)
 
 -- Columns that were left got pivots in rows of least degree of a system, the first phase cleared them, the others went on from there, and each
 -- recorded the operations up to its end.
@@ -54,11 +43,11 @@ pub record RunsOverSystem
   pub alone : TakesPivotsAlone system p.peeling.rows first.operations
   pub later : RunsLater p before left first last answer
 
--- the phases ran over a system, one after another, and ended so; where a column is left without a pivot the rows are still under way
+-- the phases ran over a system, one after another, and ended so
 abbrev pub RunsPhases : System → PhaseOutcome → Type 0
-RunsPhases system (Determined recorded ends order) =
-    (p : Peeled) × (left : List ℕ) × (last : RecordedRows) × (recorded ≡ last.operations) × RunsOverSystem system p left last (ends, Some order)
-RunsPhases system (Undetermined p left last ends) = RunsOverSystem system p left.items last (ends, None) × IsUnderWay p left.items last
+RunsPhases system outcome =
+    (p : Peeled) × (left : List ℕ) × (last : RecordedRows) × (outcome.recorded ≡ last.operations)
+    × RunsOverSystem system p left last (outcome.ends, found_of outcome.order)
 
 -- The phases ran over the system of these rows and columns: the rows from `first_hdpc` on are HDPC rows, and the first columns are those of
 -- LT symbols.
@@ -86,12 +75,12 @@ pub record CountsOperations (old new : Solver) (answer : Option (List Operation)
   pub found : PhaseOutcome
   pub runs : RunsOverEquations old found
   pub answers : answer ≡ in_row_order found
-  pub in_order : AreInOrder (ends_of found) (length (recorded_in found))
+  pub in_order : AreInOrder found.ends (length found.recorded)
   pub added :
-      new.additions ≡ additions (first_of (ends_of found) (recorded_in found)) ∷ additions (second_of (ends_of found) (recorded_in found)) ∷ 0
-      ∷ additions (fourth_of (ends_of found) (recorded_in found)) ∷ 0 ∷ []
+      new.additions ≡ additions (first_of found.ends found.recorded) ∷ additions (second_of found.ends found.recorded) ∷ 0
+      ∷ additions (fourth_of found.ends found.recorded) ∷ 0 ∷ []
   pub multiplied :
-      new.multiplications ≡ multiplications (first_of (ends_of found) (recorded_in found)) ∷ multiplications (second_of (ends_of found) (recorded_in found)) ∷ 0
-      ∷ multiplications (fourth_of (ends_of found) (recorded_in found)) ∷ 0 ∷ []
+      new.multiplications ≡ multiplications (first_of found.ends found.recorded) ∷ multiplications (second_of found.ends found.recorded) ∷ 0
+      ∷ multiplications (fourth_of found.ends found.recorded) ∷ 0 ∷ []
   pub additions_are : IfSome answer (λ operations. sum new.additions ≡ additions operations)
   pub multiplications_are : IfSome answer (λ operations. sum new.multiplications ≡ multiplications operations)

@@ -4,7 +4,7 @@ use Rattle.std.specs.Global.{Global}
 use Rattle.std.specs.List.Sorted.{IsPermutation}
 use Rattle.std.specs.Option.{option_map}
 use Rattle.rq_algebra.specs.Operations.{Operation, Reorder, FindsColumn}
-use Rattle.rq_algebra.specs.Systems.{HasHomogeneousColumn}
+use Rattle.rq_algebra.specs.Systems.{HasHomogeneousColumn, IsHomogeneousColumn}
 use Rattle.rq_standard.specs.OctetField.{octets}
 use Rattle.rq_peeling.specs.System.{rows_of_system}
 use Rattle.rq_peeling.specs.declared.system.System.{System}
@@ -28,6 +28,10 @@ SolvesRows height width rows found = MatchOption found (HasHomogeneousColumn oct
 -- operations solve the rows of a system, or they have such a column
 abbrev pub SolvesSystem : System → Option (List Operation) → Type 0
 SolvesSystem system found = SolvesRows (length system.ones) system.width (rows_of_system system) found
+
+-- a column that isn't all zeros solves the rows of a system with zeros as values
+abbrev pub ShowsSystem : System → List ℕ → Type 0
+ShowsSystem system column = IsHomogeneousColumn octets (length system.ones) system.width (rows_of_system system) column
 
 -- what was recorded, and then puts the rows in an order, if there is one
 abbrev pub then_ordered : List Operation → Option (Vec ℕ Global) → Option (List Operation)

@@ -15,8 +15,8 @@ use Rattle.rq_bytes.specs.declared.operation_vector.SymbolOps.{SymbolOps}
 use Rattle.rq_operations.specs.RecordedOperations.{operations_of}
 use Rattle.rq_operations.specs.declared.recorded.RecordedOperations.{RecordedOperations}
 use Rattle.rq_parts.specs.DenseOctetMatrix.{OctetTable, entry_of}
+use Rattle.rq_solver.specs.Solved.{found_of, shown_of}
 use Rattle.rq_solver.specs.declared.pi_solver.solved.Solved.{Solved}
-use Rattle.rq_solver.specs.declared.pi_solver.solved.Solved.TheVariants.{Operations, Undetermined}
 
 -- the equations of a block of that row of the table but for those of HDPC: a matrix of bits, and a symbol for each equation
 pub record AreEquationsWithoutHdpc (row : TableRow) (bits : BitTable) (handed : Slab) : Type 0 where
@@ -82,15 +82,10 @@ FindsOperations solver answer =
     MatchOption answer (HasHomogeneousColumn octets solver.height solver.width solver.rows)
     (λ found. FindsColumn octets solver.height solver.width solver.rows (operations_of found))
 
--- what rows give: operations that find the column, or else the rows don't determine it, as a column shows where there is one
-abbrev pub IsSolved : ℕ → ℕ → (ℕ → ℕ → ℕ) → Solved → Type 0
-IsSolved height width rows (Operations found) = FindsColumn octets height width rows (operations_of found)
-IsSolved height width rows (Undetermined column) =
-    HasHomogeneousColumn octets height width rows × IfSome column (λ shown. IsHomogeneousColumn octets height width rows shown.items)
-
--- a solver's equations are solved by the operations, or a homogeneous column of theirs is shown
-abbrev pub SolvesOrShows : Solver → Solved → Type 0
-SolvesOrShows solver solved = IsSolved solver.height solver.width solver.rows solved
+-- a solver's equations are solved by the operations, or else by a homogeneous column, which is shown where there was memory for it
+pub record SolvesOrShows (solver : Solver) (solved : Solved RecordedOperations) : Type 0 where
+  pub found : FindsOperations solver (found_of solved)
+  pub shown : IfSome (shown_of solved) (λ column. IsHomogeneousColumn octets solver.height solver.width solver.rows column.items)
 
 -- the slab has the symbols that solve the rows, and the operations find them from any symbols
 pub record IsSolution (height width : ℕ) (rows : ℕ → ℕ → ℕ) (handed slab : Slab) (operations : List Operation) : Type 0 where

@@ -30,7 +30,6 @@ pub use rq_peeling::row_selection::FirstPhaseRowSelectionStats;
 use rq_peeling::system::System;
 use rq_tables::systematic_constants::{CheckedRow, SystematicTable};
 pub use solved::Solved;
-use solved::solve_system;
 use std::alloc::{AllocError, Global};
 
 /// Solves the equations of a block for its intermediate symbols (RFC 6330, section 5.4.2.1), once.
@@ -56,7 +55,7 @@ pub struct IntermediateSymbolDecoder<T: BinaryMatrix> {
 
 impl<T: BinaryMatrix> IntermediateSymbolDecoder<T> {
     ghost use Rattle.rq_peeling.specs.System.{IsSystemOf};
-    ghost use Rattle.rq_solver.specs.PhaseOutcome.{CountsOperations, RunsOverEquations, answered_operations, in_row_order, recorded_in};
+    ghost use Rattle.rq_solver.specs.PhaseOutcome.{CountsOperations, RunsOverEquations, answered_operations, in_row_order};
     ghost use Rattle.rq_solver.specs.Phases.{SolvesRows};
     ghost use Rattle.rq_solver.specs.SolverState.{solver_state};
 
@@ -208,8 +207,8 @@ impl<T: BinaryMatrix> IntermediateSymbolDecoder<T> {
             return Err(Error::AlreadyExecuted);
         };
         let found = self.solve_equations()?;
-        self.counts = found.counts();
-        let Some(operations) = found.in_row_order() else {
+        self.counts = found.recorded.counts(found.ends);
+        let Some(operations) = found.in_row_order().determined() else {
             return Ok(None);
         };
         operations.replay(&mut symbols)?;
@@ -223,19 +222,18 @@ impl<T: BinaryMatrix> IntermediateSymbolDecoder<T> {
     pub fn into_operations(self) -> Result<Option<RecordedOperations>, AllocError>
         ensures found { IfOk result (FindsOperations (solver_state self)) }
     {
-        let alloc = self.alloc;
-        let found = run_phases(alloc, self.into_system()?)?;
-        Ok(found.in_row_order())
+        Ok(self.solve()?.determined())
     }
 
     /// The operations as [`into_operations`](Self::into_operations) finds them, and a column that shows
     /// it where the equations don't determine the symbols. Want of memory for the column alone is no
     /// error. Not in the Rust crate.
-    pub fn solve(self) -> Result<Solved, AllocError>
+    pub fn solve(self) -> Result<Solved<RecordedOperations>, AllocError>
         ensures solved { IfOk result (SolvesOrShows (solver_state self)) }
     {
         let alloc = self.alloc;
-        solve_system(alloc, self.into_system()?)
+        let found = run_phases(alloc, self.into_system()?)?;
+        Ok(found.in_row_order())
     }
 
     // The equations as the phases take them. The symbols are let go at once, and the matrix once the
@@ -274,7 +272,7 @@ impl<T: BinaryMatrix> IntermediateSymbolDecoder<T> {
     fn solve_equations(&self) -> Result<PhaseOutcome, AllocError>
         ensures found { IfOk result (λ found. SolvesRows (solver_state self.now).height (solver_state self.now).width (solver_state self.now).rows (in_row_order found)) }
         ensures phases { IfOk result (RunsOverEquations (solver_state self.now)) }
-        ensures few { IfOk result (λ found. additions (recorded_in found) ≤ 2 * (solver_state self.now).width * (solver_state self.now).height) }
+        ensures few { IfOk result (λ found. additions found.recorded ≤ 2 * (solver_state self.now).width * (solver_state self.now).height) }
     {
         run_phases(self.alloc, self.to_system()?)
     }

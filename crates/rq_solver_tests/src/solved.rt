@@ -42,6 +42,6 @@ fn unknowns_that_are_the_same_are_open_together(rt: HostRuntime) -> Result<(), E
 #[test]
 fn operations_alone_are_found(rt: HostRuntime) -> Result<(), Error> {
     let solved = late_solver(&rt, rt.alloc(), 10)?.solve()?;
-    holds!(rt; matches!(solved, Solved::Operations(_)));
+    holds!(rt; matches!(solved, Solved::Determined(_)));
     Ok(())
 }

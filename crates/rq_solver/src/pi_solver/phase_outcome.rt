@@ -1,59 +1,40 @@
 //! `PhaseOutcome`: what the phases make of a system in the end (RFC 6330, sections 5.4.2.2 to 5.4.2.6).
-ghost use Rattle.std.specs.Prelude.{◌≡◌, length};
+ghost use Rattle.std.specs.Prelude.{◌≡◌};
 ghost use Rattle.std.specs.Option.{option_map};
 ghost use Rattle.rq_operations.specs.RecordedOperations.{operations_of};
-ghost use Rattle.rq_elimination.specs.PhaseCounts.{AreCountsOf, AreInOrder};
 
-use super::peeled::Peeled;
-use rq_elimination::counts::{OperationCounts, OperationList, PhaseEnds};
-use rq_elimination::recorded::RecordedRows;
+use super::solved::Solved;
+use rq_elimination::counts::{OperationList, PhaseEnds};
 use rq_operations::recorded::RecordedOperations;
 
-/// What was recorded, and where the stretches of each phase end in it, with the order of the rows, or
-/// else with the rows that don't determine a column.
+/// What was recorded, where the stretches of each phase end in it, and the order in which the rows then
+/// leave the column that solves them.
 #[derive(Drop)]
-pub(super) enum PhaseOutcome {
-    /// Each column has its pivot: the rows, in this order, leave the column that solves them.
-    Determined {
-        recorded: OperationList,
-        ends: PhaseEnds,
-        order: Vec<usize>,
-    },
-    /// An inactive column is left without a pivot: the rows as the second phase left them.
-    Undetermined {
-        peeled: Peeled,
-        left: Vec<usize>,
-        recorded: RecordedRows,
-        ends: PhaseEnds,
-    },
+pub(super) struct PhaseOutcome {
+    pub recorded: OperationList,
+    pub ends: PhaseEnds,
+    pub order: Solved<Vec<usize>>,
 }
 
 impl PhaseOutcome {
-    ghost use Rattle.rq_solver.specs.PhaseOutcome.{ends_of, in_row_order, recorded_in};
-
-    /// How many operations each phase recorded, whether they find the column or not.
-    pub(super) fn counts(&self) -> OperationCounts
-        requires { AreInOrder (ends_of self.now) (length (recorded_in self.now)) }
-        ensures { AreCountsOf (ends_of self.now) (recorded_in self.now) result }
-    {
-        match self {
-            PhaseOutcome::Determined { recorded, ends, .. } => recorded.counts(*ends),
-            PhaseOutcome::Undetermined { recorded, ends, .. } => recorded.operations.counts(*ends),
-        }
-    }
+    ghost use Rattle.rq_solver.specs.PhaseOutcome.{in_row_order};
+    ghost use Rattle.rq_solver.specs.Solved.{found_of, shown_of};
 
     /// The operations that take values of the rows to the column that solves the rows with them.
-    pub(super) fn in_row_order(self) -> Option<RecordedOperations>
-        ensures { option_map operations_of result ≡ in_row_order self }
+    pub(super) fn in_row_order(self) -> Solved<RecordedOperations>
+        ensures found { option_map operations_of (found_of result) ≡ in_row_order self }
+        ensures shown { shown_of result ≡ shown_of self.order }
     {
-        let PhaseOutcome::Determined {
+        let PhaseOutcome {
             recorded,
             order,
             ..
-        } = self
-        else {
-            return None;
-        };
-        Some(RecordedOperations::new(recorded.into_steps(), order))
+        } = self;
+        match order {
+            Solved::Determined(rows) => {
+                Solved::Determined(RecordedOperations::new(recorded.into_steps(), rows))
+            }
+            Solved::Undetermined(column) => Solved::Undetermined(column),
+        }
     }
 }

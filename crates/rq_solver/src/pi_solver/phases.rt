@@ -2,13 +2,14 @@
 //! of `rq_peeling`, then `first_phase`); the second, forward (`eliminate`); the third (`sparsify`); the
 //! second, back (`back_substitute`); the fourth (`clear_inactive`), and in it the fifth, by
 //! `redo_additions`. The third and the fifth are done for some rows only, and counted as the fourth's.
-ghost use Rattle.std.specs.Prelude.{◌≡◌, ℕ, ◌+◌, ◌*◌, ◌<◌, ◌≤◌, ◌++◌, length, map, IfNone, IfOk, OnOk};
+ghost use Rattle.std.specs.Prelude.{◌≡◌, ℕ, ◌+◌, ◌*◌, ◌<◌, ◌≤◌, ◌++◌, length, map, IfNone, IfSome, IfOk, OnOk};
 ghost use Rattle.rq_algebra.specs.Systems.{at};
 ghost use Rattle.rq_elimination.specs.OperationCounts.{additions};
 ghost use Rattle.rq_solver.specs.LeftRows.{ListsRows};
-ghost use Rattle.rq_solver.specs.PhaseOutcome.{in_row_order, recorded_in, RunsPhases};
+ghost use Rattle.rq_solver.specs.PhaseOutcome.{in_row_order, RunsPhases};
 ghost use Rattle.rq_solver.specs.Peeled.{IsUnderWay};
-ghost use Rattle.rq_solver.specs.Phases.{AddsLater, FindsOrder, RunsLater, SolvesSystem};
+ghost use Rattle.rq_solver.specs.Phases.{AddsLater, FindsOrder, RunsLater, ShowsSystem, SolvesSystem};
+ghost use Rattle.rq_solver.specs.Solved.{shown_of};
 
 use super::first_phase::first_phase;
 use super::fourth_phase::clear_inactive::clear_inactive;
@@ -16,34 +17,36 @@ use super::fourth_phase::sparsify::sparsify;
 use super::peeled::{Peeled, row_at};
 use super::phase_outcome::PhaseOutcome;
 use super::second_phase::{back_substitute, eliminate};
+use super::solved::Solved;
+use super::stuck_column::stuck_column;
 use rq_elimination::counts::PhaseEnds;
 use rq_elimination::recorded::RecordedRows;
 use rq_peeling::peeling::{Peeling, peel};
 use rq_peeling::system::System;
 use std::alloc::{AllocError, Global};
 
-/// Looks for the operations that solve a system.
+/// Looks for the operations that solve a system, and where there are none for a column that shows it.
 pub(super) fn run_phases(alloc: Global, system: System) -> Result<PhaseOutcome, AllocError>
     ensures found { IfOk result (λ outcome. SolvesSystem system (in_row_order outcome)) }
+    ensures shown { IfOk result (λ outcome. IfSome (shown_of outcome.order) (λ column. ShowsSystem system column.items)) }
     ensures phases { IfOk result (RunsPhases system) }
-    ensures few { IfOk result (λ outcome. additions (recorded_in outcome) ≤ 2 * system.width * length system.ones) }
+    ensures few { IfOk result (λ outcome. additions outcome.recorded ≤ 2 * system.width * length system.ones) }
 {
     let peeling = peel(alloc, &system)?;
     let (peeled, mut left, mut recorded) = first_phase(alloc, system, peeling)?;
     let (ends, order) = later_phases(alloc, &peeled, left.as_mut_slice(), &mut recorded)?;
     let Some(order) = order else {
-        return Ok(PhaseOutcome::Undetermined {
-            peeled,
-            left,
-            recorded,
+        let column = stuck_column(alloc, &peeled, left.as_slice(), &recorded);
+        return Ok(PhaseOutcome {
+            recorded: recorded.operations,
             ends,
+            order: Solved::Undetermined(column.ok()),
         });
     };
-    let RecordedRows { operations, .. } = recorded;
-    Ok(PhaseOutcome::Determined {
-        recorded: operations,
+    Ok(PhaseOutcome {
+        recorded: recorded.operations,
         ends,
-        order,
+        order: Solved::Determined(order),
     })
 }
 

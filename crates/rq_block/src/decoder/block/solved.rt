@@ -8,9 +8,10 @@ use crate::decoder::known::{known_symbol_ids, known_symbol_values};
 use crate::decoder::payloads::keep_first;
 use crate::decoder::source_symbols::SourceSymbols;
 use crate::enc::encoding_symbol;
-use crate::solving::{BlockOperations, BlockOutcome, solve_or_show};
+use crate::solving::{BlockOperations, solve_or_show};
 use rq_bytes::error::Error;
 use rq_bytes::symbol_slab::SymbolSlab;
+use rq_solver::pi_solver::Solved;
 use std::alloc::AllocError;
 use std::collections::BTreeMap;
 
@@ -53,8 +54,8 @@ impl SourceBlockDecoder {
         }
         let ids = known_symbol_ids(self.alloc, row, self.source_symbols, &self.received)?;
         match solve_or_show(self.alloc, row, ids.as_slice(), self.sparse_threshold)? {
-            BlockOutcome::Operations(solution) => Ok(Some(solution)),
-            BlockOutcome::Undetermined(column) => {
+            Solved::Determined(solution) => Ok(Some(solution)),
+            Solved::Undetermined(column) => {
                 self.column = column;
                 Ok(None)
             }

@@ -1,19 +1,20 @@
 -- What the check leaves to show of `pi_solver::IntermediateSymbolDecoder::execute`.
-use Rattle.std.proofs.Common.{None, length, sym, ◌∙◌, subst, arith}
+use Rattle.std.proofs.Common.{◌≡◌, None, Some, length, sym, ◌∙◌, subst, arith}
 use Rattle.rq_algebra.specs.Operations.{AreAllowed}
 use Rattle.rq_standard.specs.ConstraintMatrix.{with_octet_rows}
 use Rattle.rq_operations.specs.RecordedOperations.{operations_of}
 use Rattle.rq_parts.specs.DenseOctetMatrix.{entry_of}
 use Rattle.rq_elimination.proofs.PhaseTotals.{totals_of}
-use Rattle.rq_solver.specs.PhaseOutcome.{ends_of, recorded_in}
+use Rattle.rq_solver.specs.PhaseOutcome.{in_row_order}
+use Rattle.rq_solver.specs.Solved.{found_of}
 use Rattle.rq_solver.proofs.SolutionLaws.{by_phases, is_solution, if_some, outcome_in_order, recorded_found, recorded_totals}
 use Rattle.rq_solver.proofs.pi_solver.IntermediateSymbolDecoder.execute.Goals as goal
 
 pub replay-requires : goal.replay-requires
 replay-requires g c =
     let solver = c.args.self.now in
-    let operations = operations_of c.in-Some-in_row_order.operations in
-    let finds = rw c.in-Some-in_row_order.is at (recorded_found _ _ _ _ c.in_row_order.result c.in_ok-found.ensures.found c.in_row_order.ensures) in
+    let operations = operations_of c.in-Some-determined.operations in
+    let finds = rw c.in-Some-determined.is at (recorded_found _ _ _ _ c.determined.result c.in_ok-found.ensures.found (rw c.determined.ensures c.in_row_order.ensures.found)) in
     let handed = c.in-Some.symbols in
     let some = sym c.in-Some.ensures.value in
     subst (λ o. AreAllowed (length handed.values) o operations) (sym (solver.unordered handed some)) (subst (λ n. AreAllowed n None operations) (sym (solver.counted handed some)) finds.allowed)
@@ -21,30 +22,26 @@ replay-requires g c =
 pub counts-self-requires : goal.counts-self-requires
 counts-self-requires g c = outcome_in_order c.in_ok-found.ensures.phases.system c.in_ok-found.found c.in_ok-found.ensures.phases.phases
 
-pub returns-in_default-in_row_order-clause-solved : goal.returns-in_default-in_row_order-clause-solved
-returns-in_default-in_row_order-clause-solved g c =
-    if_some c.args.self.now.symbols c.in-Some.symbols _ (sym c.in-Some.ensures.value) (rw c.in_default-in_row_order.is at (recorded_found _ _ _ _ c.in_row_order.result c.in_ok-found.ensures.found c.in_row_order.ensures))
-
 pub returns-clause-solved : goal.returns-clause-solved
 returns-clause-solved g c =
     let solver = c.args.self.now in
     let m = g.T.BinaryMatrix.content solver.matrix in
     let rows = with_octet_rows solver.first_hdpc (length solver.hdpc.rows) m.bit (entry_of solver.hdpc) in
     let handed = c.in-Some.symbols in
-    let operations = operations_of c.in-Some-in_row_order.operations in
-    let finds = rw c.in-Some-in_row_order.is at (recorded_found _ _ _ _ c.in_row_order.result c.in_ok-found.ensures.found c.in_row_order.ensures) in
+    let operations = operations_of c.in-Some-determined.operations in
+    let finds = rw c.in-Some-determined.is at (recorded_found _ _ _ _ c.determined.result c.in_ok-found.ensures.found (rw c.determined.ensures c.in_row_order.ensures.found)) in
     if_some solver.symbols handed _ (sym c.in-Some.ensures.value)
     (rw c.in_ok-into_symbol_ops.ensures
     (is_solution m.height m.width rows operations finds handed _ (solver.unordered handed (sym c.in-Some.ensures.value)) (c.symbols-2.view_is ∙ c.in_ok-replay.ensures.ok)))
 
-pub returns-in_default-in_row_order-clause-counted : goal.returns-in_default-in_row_order-clause-counted
-returns-in_default-in_row_order-clause-counted g c =
+pub returns-in_default-determined-clause-counted : goal.returns-in_default-determined-clause-counted
+returns-in_default-determined-clause-counted g c =
     let a = c.counts-self.ensures.additions_are in
     let m = c.counts-self.ensures.multiplications_are in
     record {
       found = c.in_ok-found.found;
       runs = c.in_ok-found.ensures.phases;
-      answers = rw c.in_default-in_row_order.is at c.in_row_order.ensures;
+      answers = rw (← c.determined.ensures, c.in_default-determined.is) at c.in_row_order.ensures.found;
       in_order = outcome_in_order c.in_ok-found.ensures.phases.system c.in_ok-found.found c.in_ok-found.ensures.phases.phases;
       added = by_phases _ _ _ _ _ _ a.first a.second a.fourth;
       multiplied = by_phases _ _ _ _ _ _ m.first m.second m.fourth;
@@ -56,13 +53,15 @@ pub returns-clause-counted : goal.returns-clause-counted
 returns-clause-counted g c =
     let found = c.in_ok-found.found in
     let in_order = outcome_in_order c.in_ok-found.ensures.phases.system found c.in_ok-found.ensures.phases.phases in
-    let totals = recorded_totals found c.counts-self.result c.in-Some-in_row_order.operations in_order c.counts-self.ensures (rw c.in-Some-in_row_order.is at c.in_row_order.ensures) in
+    let operations = c.in-Some-determined.operations in
+    let answers : Some (operations_of operations) ≡ in_row_order found = rw (← c.determined.ensures, c.in-Some-determined.is) at c.in_row_order.ensures.found in
+    let totals = recorded_totals found.ends found.recorded (found_of found.order) c.counts-self.result operations in_order c.counts-self.ensures answers in
     let a = c.counts-self.ensures.additions_are in
     let m = c.counts-self.ensures.multiplications_are in
     rw c.in_ok-into_symbol_ops.ensures (record {
       found = found;
       runs = c.in_ok-found.ensures.phases;
-      answers = rw c.in-Some-in_row_order.is at c.in_row_order.ensures;
+      answers = answers;
       in_order = in_order;
       added = by_phases _ _ _ _ _ _ a.first a.second a.fourth;
       multiplied = by_phases _ _ _ _ _ _ m.first m.second m.fourth;
@@ -74,5 +73,5 @@ pub invariant_of-self-2-clause-few_additions : goal.invariant_of-self-2-clause-f
 invariant_of-self-2-clause-few_additions g c =
     let found = c.in_ok-found.found in
     let in_order = outcome_in_order c.in_ok-found.ensures.phases.system found c.in_ok-found.ensures.phases.phases in
-    let totals = totals_of (ends_of found) (recorded_in found) c.counts-self.result in_order c.counts-self.ensures in
+    let totals = totals_of found.ends found.recorded c.counts-self.result in_order c.counts-self.ensures in
     omega (arith, totals.additions_are, c.in_ok-found.ensures.few)

@@ -1,6 +1,8 @@
 -- What the check leaves to show of `pi_solver::phases::run_phases`.
-use Rattle.std.proofs.Common.{◌≡◌, ℕ, ◌+◌, ◌-◌, ◌*◌, ◌/◌, ◌≤◌, List, Vec, Option, drop, length, refl, ap, arith}
+use Rattle.std.proofs.Common.{◌≡◌, ℕ, ◌+◌, ◌-◌, ◌*◌, ◌/◌, ◌≤◌, List, Vec, Option, None, IfOk, Result, Ok, Err, drop, length, refl, ap, ◌∙◌, arith}
 use Rattle.std.specs.Global.{Global}
+use Rattle.std.specs.Option.{IfSome}
+use Rattle.std.specs.Result.{result_ok}
 use Rattle.std.proofs.Math.Nat.{mul-le-mul_left}
 use Rattle.std.proofs.lemmas.List.{take_at}
 use Rattle.rq_algebra.specs.Systems.{at}
@@ -20,8 +22,9 @@ use Rattle.rq_solver.specs.declared.pi_solver.peeled.Peeled.{Peeled}
 use Rattle.rq_solver.proofs.CountLaws.{few_in_all}
 use Rattle.rq_solver.proofs.LeftRows.{all_few}
 use Rattle.rq_solver.proofs.PivotsCleared.{pivot_of_bits}
+use Rattle.rq_solver.proofs.ShownColumns.{shows_system}
 use Rattle.rq_solver.proofs.pi_solver.phases.run_phases.Goals as goal
-use Rattle.rq_solver.proofs.pi_solver.phases.run_phases.Goals.{In_ok-ends}
+use Rattle.rq_solver.proofs.pi_solver.phases.run_phases.Goals.{After-as_slice, In_ok-ends}
 
 -- ---- what was recorded in all phases
 
@@ -56,10 +59,10 @@ few_recorded system p left first last peeled limit_is listing start later =
 
 -- ---- what is found of the rows that the first phase left is found of the system
 
-found_of : (system : System) (p : Peeled) (left : List ℕ) (first last : RecordedRows) (order : Option (Vec ℕ Global)) → p.ones ≡ system.ones
+found_from : (system : System) (p : Peeled) (left : List ℕ) (first last : RecordedRows) (order : Option (Vec ℕ Global)) → p.ones ≡ system.ones
     → IsPeeled system.width system.ones p.peeling → ClearsPivots system p.peeling left first → FindsOrder p left first last order
     → SolvesSystem system (then_ordered last.operations order)
-found_of system p left first last order ones peeled cleared found =
+found_from system p left first last order ones peeled cleared found =
     rw (ones, peeled.columns.place_count) at (found (rows_of_system system) (rw (ones, peeled.columns.place_count) cleared))
 
 module _ (c : In_ok-ends) where
@@ -72,7 +75,7 @@ module _ (c : In_ok-ends) where
   found : SolvesSystem c.args.system (then_ordered c.later_phases.new.recorded.operations c.in_ok-ends.order)
   found =
       let made = c.in_ok-peeled.ensures in
-      found_of c.args.system c.in_ok-peeled.peeled c.in_ok-peeled.left.items c.in_ok-peeled.recorded c.later_phases.new.recorded c.in_ok-ends.order made.ones
+      found_from c.args.system c.in_ok-peeled.peeled c.in_ok-peeled.left.items c.in_ok-peeled.recorded c.later_phases.new.recorded c.in_ok-ends.order made.ones
       (rw made.peeling c.in_ok-peeling.ensures.peeled) (rw made.peeling made.cleared) (rw c.as_mut_slice.ensures.value at c.in_ok-ends.ensures.found)
 
   runs : RunsOverSystem c.args.system c.in_ok-peeled.peeled c.later_phases.new.left c.later_phases.new.recorded (c.in_ok-ends.ends, c.in_ok-ends.order)
@@ -92,15 +95,47 @@ module _ (c : In_ok-ends) where
         later = rw c.as_mut_slice.ensures.value at c.in_ok-ends.ensures.phases;
       }
 
+  lacks : c.in_ok-ends.order ≡ None → RunsOverSystem c.args.system c.in_ok-peeled.peeled c.later_phases.new.left c.later_phases.new.recorded (c.in_ok-ends.ends, None)
+  lacks none = rw none at runs
+
+-- ---- where a column has no pivot
+
+-- a column that was made
+if_made : {E : Type 0} (r : Result (Vec ℕ Global) E) (A B C D : Vec ℕ Global → Type 0) → ((column : Vec ℕ Global) → A column → B column → C column → D column)
+    → IfOk r A → IfOk r B → IfOk r C → IfSome (result_ok r) D
+if_made (Ok column) A B C D made a b c = made column a b c
+if_made (Err e) A B C D made a b c = tt
+
+module _ (c : After-as_slice) where
+  all_left : c.as_slice.result.now ≡ c.later_phases.new.left
+  all_left =
+      let left = c.later_phases.new.left in
+      c.as_slice.ensures.value ∙ take_at left (drop (length left) c.in_ok-peeled.left.items) c.in_ok-peeled.left.len (omega (arith, c.later_phases.auto.left, c.as_mut_slice.ensures.len))
+
+pub stuck_column-column-requires-clause-under_way : goal.stuck_column-column-requires-clause-under_way
+stuck_column-column-requires-clause-under_way c = rw (all_left (goal.at.stuck_column-column-requires-clause-under_way c).After-as_slice) (rw c.in_default.is at c.in_ok-ends.ensures.left)
+
+pub stuck_column-column-requires-clause-stuck : goal.stuck_column-column-requires-clause-stuck
+stuck_column-column-requires-clause-stuck c =
+    let before = goal.at.stuck_column-column-requires-clause-stuck c in
+    rw (all_left before.After-as_slice) (lacks before.In_ok-ends c.in_default.is).later.stuck
+
 pub returns-in_default-clause-found : goal.returns-in_default-clause-found
 returns-in_default-clause-found c = rw c.in_default.is at (found (goal.at.returns-in_default-clause-found c).In_ok-ends)
 
+pub returns-in_default-clause-shown : goal.returns-in_default-clause-shown
+returns-in_default-clause-shown c =
+    let before = goal.at.returns-in_default-clause-shown c in
+    let shown = shows_system c.args.system c.in_ok-peeled.peeled c.later_phases.new.left c.later_phases.new.recorded c.in_ok-ends.ends (lacks before.In_ok-ends c.in_default.is) in
+    let made = c.stuck_column-column.ensures in
+    rw c.ok.ensures.value
+    (if_made c.stuck_column-column.result _ _ _ _ (λ column elements left pivots. shown column.items elements left pivots) made.elements
+    (rw (all_left before.After-as_slice) at made.left) made.pivots)
+
 pub returns-in_default-clause-phases : goal.returns-in_default-clause-phases
 returns-in_default-clause-phases c =
-    let left = c.later_phases.new.left in
-    let many = c.in_ok-peeled.left.len in
-    let all = take_at left (drop (length left) c.in_ok-peeled.left.items) many (omega (arith, c.later_phases.auto.left, c.as_mut_slice.ensures.len)) in
-    rw all (rw c.in_default.is at (runs (goal.at.returns-in_default-clause-phases c).In_ok-ends), rw c.in_default.is at c.in_ok-ends.ensures.left)
+    let before = (goal.at.returns-in_default-clause-phases c).In_ok-ends in
+    (c.in_ok-peeled.peeled, c.later_phases.new.left, c.later_phases.new.recorded, refl, lacks before c.in_default.is)
 
 pub returns-in_default-clause-few : goal.returns-in_default-clause-few
 returns-in_default-clause-few c = few (goal.at.returns-in_default-clause-few c).In_ok-ends
