@@ -4,36 +4,30 @@ use Rattle.std.specs.Prelude.{IfSome, Vec}
 use Rattle.std.specs.Global.{Global}
 use Rattle.std.specs.Option.{MatchOption}
 use Rattle.std.proofs.lemmas.Bool.{cases_lt}
-use Rattle.std.proofs.lemmas.List.{length-map, length-replicate}
+use Rattle.std.proofs.lemmas.List.{length-map}
 use Rattle.std.proofs.lemmas.Option.{same_Some}
 use Rattle.rq_algebra.specs.Arrangements.{RowsStandIn}
 use Rattle.rq_algebra.specs.Operations.{Operation, Store, run, unordered, found_by, IsUnread, FindsColumn}
 use Rattle.rq_algebra.specs.Symbols.{symbols, IsSymbol, IsSymbolColumn, AreSymbols, SolvesSymbols, symbol_at}
-use Rattle.rq_algebra.specs.Systems.{IsHomogeneousColumn, rows_of}
+use Rattle.rq_algebra.specs.Systems.{IsDetermined, IsHomogeneousColumn, rows_of}
 use Rattle.rq_algebra.proofs.Found.{finds_determined, finds_symbols}
-use Rattle.rq_algebra.proofs.Solutions.{determined_stays, homogeneous_not_determined}
+use Rattle.rq_algebra.proofs.Solutions.{determined_stays, homogeneous_column_same, homogeneous_not_determined}
 use Rattle.rq_algebra.proofs.Stacks.{stacked_above, stacked_below}
 use Rattle.rq_algebra.proofs.SymbolColumns.{run_keeps_symbols}
-use Rattle.rq_bytes.specs.SymbolSlab.{Slab, HasPlace, after_all, slab_of, symbol_in, symbols_in, IsZeroUnread}
+use Rattle.rq_bytes.specs.SymbolSlab.{Slab, HasPlace, after_all, symbol_in, symbols_in, IsZeroUnread}
 use Rattle.rq_operations.specs.RecordedOperations.{operations_of}
-use Rattle.rq_null_vector.proofs.FreeColumns.{shows_same}
-use Rattle.rq_parts.specs.DenseOctetMatrix.{OctetTable, entry_of}
 use Rattle.rq_standard.specs.declared.row.TableRow.{TableRow}
 use Rattle.rq_standard.specs.BitTable.{BitTable}
-use Rattle.rq_standard.specs.ConstraintMatrix.{IsBinaryPart, IsBinaryPartWithoutHdpc, with_octet_rows}
+use Rattle.rq_standard.specs.ConstraintMatrix.{IsBinaryPartWithoutHdpc}
 use Rattle.rq_standard.specs.OctetField.{octets}
 use Rattle.rq_standard.specs.TableRows.{intermediate_symbols}
 use Rattle.rq_standard.specs.Equations.{equations, equation_count, precode_equations, ldpc_coefficient, hdpc_coefficient, symbol_coefficient}
 use Rattle.rq_standard.specs.IdLists.{HasDeterminedRows}
-use Rattle.rq_base.specs.HdpcPart.{IsHdpcPart}
 use Rattle.rq_operations.specs.declared.recorded.RecordedOperations.{RecordedOperations}
-use Rattle.rq_solver.specs.Solving.{AreEquations, AreEquationsWithoutHdpc, FindsOperations, Solver, SolvesOrShows, solver_of, solver_without_hdpc}
-use Rattle.rq_solver.specs.declared.pi_solver.solved.Solved.{Solved}
-use Rattle.rq_solver.specs.declared.pi_solver.solved.Solved.TheVariants.{Determined, Undetermined}
-use Rattle.rq_solver.proofs.EquationLaws.{binary_equations, are_equations, equations_same, finds_equations, homogeneous_of_equations}
+use Rattle.rq_solver.specs.Solving.{FindsOperations, Solver}
 use Rattle.rq_elimination.proofs.RowStepLaws.{SameEntries}
 use Rattle.rq_solver.proofs.SolutionLaws.{store-unordered, order-found, finds_same, homogeneous_same, is_solution}
-use Rattle.rq_block.specs.BlockSolutions.{FindsFrom, IsBlockSolution, IsHomogeneousFor, NeedsNoHdpc, first_equations}
+use Rattle.rq_block.specs.BlockSolutions.{FindsFrom, IsBlockSolution, first_equations}
 use Rattle.rq_block.specs.declared.solving.BlockOperations.{BlockOperations}
 
 has_count : (values : List (List ℕ)) (size : ℕ) (order : Option (List ℕ)) (n : ℕ) → HasPlace (record { values = values; symbol_size = size; order = order }) n → suc n ≤ length (symbols_in (record { values = values; symbol_size = size; order = order }))
@@ -45,53 +39,30 @@ pub places_count : (slab : Slab) (n : ℕ) → ((k : ℕ) → k < n → HasPlace
 places_count slab zero places = omega arith
 places_count slab (suc n) places = has_count slab.values slab.symbol_size slab.order n (places n (omega arith))
 
--- the operations that find the column of all equations, or else the ids don't determine the block, as a column shows where there is one
-abbrev pub SolvesAll : TableRow → List ℕ → Solved RecordedOperations → Type 0
-SolvesAll row ids (Determined found) = FindsColumn octets (equation_count row ids) (intermediate_symbols row) (equations row ids) (operations_of found)
-SolvesAll row ids (Undetermined column) = (HasDeterminedRows row ids → ⊥) × IfSome column (IsHomogeneousFor row ids)
+-- ---- of rows with the same entries as a solver's
 
--- a zero for each equation
-zero_count : (size rows all n : ℕ) (symbol : List ℕ) (handed : Slab) → rows ≡ all → handed ≡ slab_of size (replicate (rows + n) symbol) → length handed.values ≡ all + n
-zero_count size rows all n symbol handed is zeros = ap (λ (s : Slab). length s.values) zeros ∙ length-replicate (rows + n) symbol ∙ ap (λ m. m + n) is
+module _ (s t : Solver) (stands : s ≡ t) (height : ℕ) (count : t.height ≡ height) (rows : ℕ → ℕ → ℕ) (same : SameEntries height t.width t.rows rows) where
+  -- what the solver finds solves them; where there is nothing, they aren't determined
+  pub found_same : (answer : Option RecordedOperations) → FindsOperations s answer
+      → MatchOption answer (IsDetermined octets height t.width rows → ⊥) (λ found. FindsColumn octets height t.width rows (operations_of found))
+  found_same (Some found) finds = finds_same octets height t.width t.rows rows same (operations_of found) (rw (stands, count) at finds)
+  found_same None null =
+      homogeneous_not_determined octets height t.width rows (homogeneous_same octets height t.width t.rows rows same (rw (stands, count) at null))
 
--- the matrices of a block's ids, with zeros as the values
-module _ (row : TableRow) (ids : List ℕ) (bits : BitTable) (hdpc : OctetTable) (size precode_rows : ℕ) (symbol : List ℕ) (handed : Slab) (part : IsBinaryPart row ids bits) (octet_part : IsHdpcPart row hdpc)
-    (all : precode_rows ≡ row.ldpc_symbols + row.hdpc_symbols) (zeros : handed ≡ slab_of size (replicate (precode_rows + length ids) symbol)) (enough : intermediate_symbols row ≤ equation_count row ids) where
-  -- are equations
-  pub handed_equations : AreEquations row bits hdpc handed
-  handed_equations = are_equations row ids bits hdpc handed part octet_part.shape.tall octet_part.shape.wide (zero_count size precode_rows _ (length ids) symbol handed all zeros) (ap (λ (s : Slab). s.order) zeros) enough
-
-  shown_outcome : (column : Option (Vec ℕ Global)) → IfSome column (λ shown. IsHomogeneousColumn octets (length handed.values) (intermediate_symbols row) (with_octet_rows row.ldpc_symbols row.hdpc_symbols bits.bit (entry_of hdpc)) shown.items) → IfSome column (IsHomogeneousFor row ids)
-  shown_outcome None shown = tt
-  shown_outcome (Some column) shown = shows_same (equation_count row ids) (intermediate_symbols row) _ (equations row ids) (equations_same row ids bits hdpc part octet_part.rows) (Some column) (rw (sym handed_equations.binary.shape.height ∙ part.shape.height) at shown)
-
-  found_outcome : (solved : Solved RecordedOperations) → SolvesOrShows (solver_of row bits hdpc handed) solved → SolvesAll row ids solved
-  found_outcome (Determined found) finds = finds_equations row ids bits hdpc part octet_part.rows handed handed_equations (operations_of found) finds.found
-  found_outcome (Undetermined column) found = (
-    λ d. homogeneous_not_determined octets (equation_count row ids) (intermediate_symbols row) (equations row ids) (homogeneous_of_equations row ids bits hdpc part octet_part.rows handed handed_equations found.found) d,
-    shown_outcome column found.shown,
-  )
-
-  -- what a solver finds solves the block's equations; where there is nothing, the ids don't determine the block
-  pub solver_outcome : (s : Solver) (x solved : Solved RecordedOperations) → s ≡ solver_of row bits hdpc handed → x ≡ solved → SolvesOrShows s x → SolvesAll row ids solved
-  solver_outcome s x solved stands is found = found_outcome solved (subst (SolvesOrShows (solver_of row bits hdpc handed)) is (subst (λ t. SolvesOrShows t x) stands found))
+  -- the column that it shows is one of theirs
+  pub shown_same : (column : Option (Vec ℕ Global)) → IfSome column (λ shown. IsHomogeneousColumn octets s.height s.width s.rows shown.items)
+      → IfSome column (λ shown. IsHomogeneousColumn octets height t.width rows shown.items)
+  shown_same None shown = tt
+  shown_same (Some column) shown = homogeneous_column_same octets height t.width t.rows rows same column.items (rw (stands, count) at shown)
 
 -- ---- without HDPC equations
 
-module _ (row : TableRow) (ids : List ℕ) (bits : BitTable) (size precode_rows : ℕ) (symbol : List ℕ) (handed : Slab) (part : IsBinaryPartWithoutHdpc row ids bits)
-    (all : precode_rows ≡ row.ldpc_symbols) (zeros : handed ≡ slab_of size (replicate (precode_rows + length ids) symbol)) where
-  zeros_are : length handed.values ≡ row.ldpc_symbols + length ids
-  zeros_are = zero_count size precode_rows row.ldpc_symbols (length ids) symbol handed all zeros
-
-  -- what a solver asks of the matrix without them
-  pub equations_without_hdpc : intermediate_symbols row ≤ row.ldpc_symbols + length ids → AreEquationsWithoutHdpc row bits handed
-  equations_without_hdpc enough = binary_equations row bits handed (row.ldpc_symbols + length ids) part.shape zeros_are (ap (λ (s : Slab). s.order) zeros) enough
-
+module _ (row : TableRow) (ids : List ℕ) (bits : BitTable) (part : IsBinaryPartWithoutHdpc row ids bits) where
   abbrev symbol_rows : ℕ → ℕ → ℕ
   symbol_rows = rows_of (symbol_coefficient row) ids
 
   -- its rows are the first equations
-  same_without : SameEntries (row.ldpc_symbols + length ids) (intermediate_symbols row) bits.bit (first_equations row row.ldpc_symbols ids)
+  pub same_without : SameEntries (row.ldpc_symbols + length ids) (intermediate_symbols row) bits.bit (first_equations row row.ldpc_symbols ids)
   same_without i k l m = elim (cases_lt i row.ldpc_symbols) [
     | inl above ↦
         part.ldpc i k above m
@@ -101,19 +72,6 @@ module _ (row : TableRow) (ids : List ℕ) (bits : BitTable) (size precode_rows 
         let is : row.ldpc_symbols + j ≡ i = omega arith in
         rw (sym is) (part.symbols j k (omega arith) m ∙ ap (λ (r : ℕ → ℕ). r k) (sym (stacked_below row.ldpc_symbols (precode_equations row) symbol_rows j)))
   ]
-
-  -- what finds the column of the rows handed in finds that of the first equations; where these don't determine the block, it needs those of HDPC
-  outcome_without : (answer : Option RecordedOperations) → FindsOperations (solver_without_hdpc row bits handed) answer
-      → MatchOption answer (NeedsNoHdpc row ids → ⊥) (λ found. FindsColumn octets (row.ldpc_symbols + length ids) (intermediate_symbols row) (first_equations row row.ldpc_symbols ids) (operations_of found))
-  outcome_without (Some found) finds =
-      finds_same octets (row.ldpc_symbols + length ids) (intermediate_symbols row) bits.bit (first_equations row row.ldpc_symbols ids) same_without (operations_of found) (rw zeros_are at finds)
-  outcome_without None null = λ needs.
-      homogeneous_not_determined octets (row.ldpc_symbols + length ids) (intermediate_symbols row) (first_equations row row.ldpc_symbols ids)
-      (homogeneous_same octets (row.ldpc_symbols + length ids) (intermediate_symbols row) bits.bit (first_equations row row.ldpc_symbols ids) same_without (rw zeros_are at null)) needs.determined
-
-  pub solver_outcome_without : (s : Solver) (x answer : Option RecordedOperations) → s ≡ solver_without_hdpc row bits handed → x ≡ answer → FindsOperations s x
-      → MatchOption answer (NeedsNoHdpc row ids → ⊥) (λ found. FindsColumn octets (row.ldpc_symbols + length ids) (intermediate_symbols row) (first_equations row row.ldpc_symbols ids) (operations_of found))
-  solver_outcome_without s x answer stands is found = outcome_without answer (subst (FindsOperations (solver_without_hdpc row bits handed)) is (subst (λ t. FindsOperations t x) stands found))
 
 -- ---- of any of the equations
 

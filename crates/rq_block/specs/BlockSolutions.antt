@@ -1,5 +1,5 @@
 -- What a solver finds of a block.
-use Rattle.std.specs.Prelude.{◌≡◌, ℕ, ◌+◌, ◌<◌, ◌≤◌, List, length, Option, None, Some, Vec, MatchOption, IfSome, IsSomeAnd}
+use Rattle.std.specs.Prelude.{◌≡◌, ℕ, ◌+◌, ◌<◌, ◌≤◌, List, length, Option, Vec, MatchOption, IfSome, IsSomeAnd}
 use Rattle.std.specs.Global.{Global}
 use Rattle.rq_algebra.specs.Operations.{FindsColumn}
 use Rattle.rq_algebra.specs.Symbols.{IsSymbolColumn, SolvesSymbols, symbol_at}

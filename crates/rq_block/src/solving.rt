@@ -9,7 +9,6 @@ use rq_base::constraint_matrix::{
     generate_constraint_matrix_no_hdpc_of_row, generate_constraint_matrix_of_row,
 };
 use rq_bytes::error::Error;
-use rq_bytes::symbol_slab::SymbolSlab;
 use rq_matrix::matrix::{BinaryMatrix, DenseBinaryMatrix};
 use rq_matrix::sparse_matrix::SparseBinaryMatrix;
 use rq_null_vector::null_vector::null_vector;
@@ -99,18 +98,13 @@ impl Listed<'_> {
         ensures memory { IfErr result (λ e. e ≡ Error.OutOfMemory) }
     {
         let precode_rows = self.row.ldpc_symbols();
-        let count = precode_rows + self.ids.len();
-        if count < self.row.intermediate_symbols() {
+        if precode_rows + self.ids.len() < self.row.intermediate_symbols() {
             return Ok(None);
         }
         let matrix = generate_constraint_matrix_no_hdpc_of_row::<T>(
             self.alloc, self.row, self.ids,
         )?;
-        // The operations are the same whatever the symbols.
-        let values = SymbolSlab::with_zeros(self.alloc, count, 0)?;
-        let solver = IntermediateSymbolDecoder::of_row_no_hdpc(
-            self.alloc, self.row, matrix, values,
-        );
+        let solver = IntermediateSymbolDecoder::of_row_no_hdpc(self.alloc, self.row, matrix);
         let Some(operations) = solver.into_operations()? else {
             return Ok(None);
         };
@@ -128,12 +122,10 @@ impl Listed<'_> {
         let (matrix, hdpc) = generate_constraint_matrix_of_row::<T>(
             self.alloc, self.row, self.ids,
         )?;
-        let precode_rows = self.row.precode_rows();
-        let values = SymbolSlab::with_zeros(self.alloc, precode_rows + self.ids.len(), 0)?;
-        let solver = IntermediateSymbolDecoder::of_row(self.alloc, self.row, matrix, hdpc, values);
+        let solver = IntermediateSymbolDecoder::of_row(self.alloc, self.row, matrix, hdpc);
         match solver.solve()? {
             Solved::Determined(operations) => Ok(Solved::Determined(BlockOperations {
-                precode_rows,
+                precode_rows: self.row.precode_rows(),
                 operations,
             })),
             Solved::Undetermined(column) => Ok(Solved::Undetermined(column)),

@@ -33,7 +33,8 @@ module _ (bits : BitTable) (hdpc : OctetTable) (first : ℕ) (system : System) (
   attempt_of_bits (Some operations) found = rw (← is.hdpc_is, ← is.first_is, ← is.width_is, ← is.ones_are.count) (finds_same octets (length system.ones) system.width _ _ same_entries operations found)
 
   pub shown_of_bits : (column : Option (Vec ℕ Global)) → IfSome column (λ shown. ShowsSystem system shown.items)
-      → IfSome column (λ shown. IsHomogeneousColumn octets bits.height bits.width (with_octet_rows first (length hdpc.rows) bits.bit (entry_of hdpc)) shown.items)
+      → IfSome column (λ shown. IsHomogeneousColumn octets bits.height bits.width
+      (with_octet_rows first (length hdpc.rows) bits.bit (entry_of hdpc)) shown.items)
   shown_of_bits None shown = tt
   shown_of_bits (Some column) shown =
       rw (← is.hdpc_is, ← is.first_is, ← is.width_is, ← is.ones_are.count)

@@ -18,21 +18,25 @@ use Rattle.rq_parts.specs.DenseOctetMatrix.{OctetTable, entry_of}
 use Rattle.rq_solver.specs.Solved.{found_of, shown_of}
 use Rattle.rq_solver.specs.declared.pi_solver.solved.Solved.{Solved}
 
--- the equations of a block of that row of the table but for those of HDPC: a matrix of bits, and a symbol for each equation
-pub record AreEquationsWithoutHdpc (row : TableRow) (bits : BitTable) (handed : Slab) : Type 0 where
-  pub shape : HasRows row (length handed.values) bits
-  pub enough : intermediate_symbols row ≤ length handed.values
-  pub order : handed.order ≡ None
+-- the equations of a block of that row of the table but for those of HDPC: a matrix of bits
+pub record AreEquationsWithoutHdpc (row : TableRow) (bits : BitTable) : Type 0 where
+  pub shape : HasRows row bits.height bits
+  pub enough : intermediate_symbols row ≤ bits.height
 
 -- all equations of a block of that row of the table: the matrix of bits has zeros in the HDPC rows, which are handed in as octets
-pub record AreEquations (row : TableRow) (bits : BitTable) (hdpc : OctetTable) (handed : Slab) : Type 0 where
-  pub binary : AreEquationsWithoutHdpc row bits handed
+pub record AreEquations (row : TableRow) (bits : BitTable) (hdpc : OctetTable) : Type 0 where
+  pub binary : AreEquationsWithoutHdpc row bits
   pub hdpc_height : length hdpc.rows ≡ row.hdpc_symbols
   pub hdpc_width : hdpc.width ≡ intermediate_symbols row
   pub zeros : (i k : ℕ) → i < row.hdpc_symbols → k < intermediate_symbols row → bits.bit (row.ldpc_symbols + i) k ≡ 0
 
--- A solver's equations, its symbols until it has run, and how often each of the five phases added symbols and multiplied them. From row
--- `first_hdpc` on stand `hdpc_rows` HDPC rows, and the first `lt_columns` columns are those of LT symbols.
+-- a symbol, the value, for each of so many equations, and no order
+pub record AreValues (height : ℕ) (handed : Slab) : Type 0 where
+  pub count : length handed.values ≡ height
+  pub order : handed.order ≡ None
+
+-- A solver's equations, its symbols until it has run, if it was handed some, and how often each of the five phases added symbols and
+-- multiplied them. From row `first_hdpc` on stand `hdpc_rows` HDPC rows, and the first `lt_columns` columns are those of LT symbols.
 pub record Solver : Type 0 where
   pub height : ℕ
   pub width : ℕ
@@ -44,30 +48,30 @@ pub record Solver : Type 0 where
   pub additions : List ℕ
   pub multiplications : List ℕ
 
--- a solver that has not run
-abbrev pub solver_of : TableRow → BitTable → OctetTable → Slab → Solver
-solver_of row bits hdpc handed = record {
-  height = length handed.values;
+-- a solver that has not run, with symbols or without
+abbrev pub solver_of : TableRow → BitTable → OctetTable → Option Slab → Solver
+solver_of row bits hdpc symbols = record {
+  height = bits.height;
   width = intermediate_symbols row;
   first_hdpc = row.ldpc_symbols;
   hdpc_rows = row.hdpc_symbols;
   lt_columns = row.lt_symbols;
   rows = with_octet_rows row.ldpc_symbols row.hdpc_symbols bits.bit (entry_of hdpc);
-  symbols = Some handed;
+  symbols = symbols;
   additions = replicate 5 0;
   multiplications = replicate 5 0;
 }
 
--- a solver without HDPC equations that has not run
-abbrev pub solver_without_hdpc : TableRow → BitTable → Slab → Solver
-solver_without_hdpc row bits handed = record {
-  height = length handed.values;
+-- the same without HDPC equations
+abbrev pub solver_without_hdpc : TableRow → BitTable → Option Slab → Solver
+solver_without_hdpc row bits symbols = record {
+  height = bits.height;
   width = intermediate_symbols row;
   first_hdpc = 0;
   hdpc_rows = 0;
   lt_columns = row.lt_symbols;
   rows = bits.bit;
-  symbols = Some handed;
+  symbols = symbols;
   additions = replicate 5 0;
   multiplications = replicate 5 0;
 }

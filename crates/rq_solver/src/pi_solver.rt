@@ -1,12 +1,12 @@
 //! `IntermediateSymbolDecoder`: a block's equations in, its symbols, operations and counts out (RFC
 //! 6330, section 5.4.2.1).
-ghost use Rattle.std.specs.Prelude.{◌≡◌, ℕ, ◌+◌, ◌*◌, ◌<◌, ◌≤◌, None, length, sum, slice_index, OnSome, IfSome, IfNone, IfOk, IfErr, Err};
+ghost use Rattle.std.specs.Prelude.{◌≡◌, ℕ, ◌+◌, ◌*◌, ◌<◌, ◌≤◌, None, Some, length, sum, slice_index, OnSome, IfSome, IfNone, IfOk, IfErr, Err};
 ghost use Rattle.std.specs.Option.{ForSome};
 ghost use Rattle.rq_standard.specs.TableRows.{greatest_size, row_of};
 ghost use Rattle.rq_bytes.specs.declared.error.Error.TheVariants.{AlreadyExecuted, OutOfMemory};
 ghost use Rattle.rq_elimination.specs.OperationCounts.{additions};
 ghost use Rattle.rq_elimination.specs.PhaseCounts.{total_of};
-ghost use Rattle.rq_solver.specs.Solving.{AreEquations, AreEquationsWithoutHdpc, FindsOperations, solver_of, solver_without_hdpc, IsOutcome, IsSpent, SolvesOrShows};
+ghost use Rattle.rq_solver.specs.Solving.{AreEquations, AreEquationsWithoutHdpc, AreValues, FindsOperations, solver_of, solver_without_hdpc, IsOutcome, IsSpent, SolvesOrShows};
 
 mod first_phase;
 mod fourth_phase;
@@ -33,7 +33,7 @@ pub use solved::Solved;
 use std::alloc::{AllocError, Global};
 
 /// Solves the equations of a block for its intermediate symbols (RFC 6330, section 5.4.2.1), once.
-/// Contracts see the equations, and the symbols until it has run.
+/// Contracts see the equations, and the symbols until it has run, if it was handed some.
 #[derive(Drop)]
 pub struct IntermediateSymbolDecoder<T: BinaryMatrix> {
     alloc: Global,
@@ -75,29 +75,19 @@ impl<T: BinaryMatrix> IntermediateSymbolDecoder<T> {
         num_source_symbols: u32,
     ) -> Self
         requires known { num_source_symbols ≤ greatest_size table.now }
-        requires equations { AreEquations (row_of table.now num_source_symbols) (T.content matrix) hdpc symbols }
-        ensures { solver_state result ≡ solver_of (row_of table.now num_source_symbols) (T.content matrix) hdpc symbols }
+        requires equations { AreEquations (row_of table.now num_source_symbols) (T.content matrix) hdpc }
+        requires values { AreValues (T.content matrix).height symbols }
+        ensures { solver_state result ≡ solver_of (row_of table.now num_source_symbols) (T.content matrix) hdpc (Some symbols) }
     {
-        IntermediateSymbolDecoder::of_row(
-            alloc,
-            &table.checked_row(num_source_symbols),
-            matrix,
-            hdpc,
-            symbols,
-        )
+        let row = table.checked_row(num_source_symbols);
+        IntermediateSymbolDecoder::of_row(alloc, &row, matrix, hdpc).with_symbols(symbols)
     }
 
-    /// A solver of the equations of a block, over the block's row of a table: a matrix of bits, the
-    /// HDPC rows, and a symbol for each equation.
-    pub fn of_row(
-        alloc: Global,
-        row: &CheckedRow,
-        matrix: T,
-        hdpc: DenseOctetMatrix,
-        symbols: SymbolSlab,
-    ) -> Self
-        requires { AreEquations row.now.numbers (T.content matrix) hdpc symbols }
-        ensures { solver_state result ≡ solver_of row.now.numbers (T.content matrix) hdpc symbols }
+    /// A solver of the equations of a block without symbols, for their operations alone, over the
+    /// block's row of a table: a matrix of bits, and the HDPC rows. Not in the Rust crate.
+    pub fn of_row(alloc: Global, row: &CheckedRow, matrix: T, hdpc: DenseOctetMatrix) -> Self
+        requires { AreEquations row.now.numbers (T.content matrix) hdpc }
+        ensures { solver_state result ≡ solver_of row.now.numbers (T.content matrix) hdpc None }
     {
         IntermediateSymbolDecoder {
             alloc,
@@ -105,7 +95,7 @@ impl<T: BinaryMatrix> IntermediateSymbolDecoder<T> {
             hdpc,
             first_hdpc: row.ldpc_symbols(),
             lt_columns: row.lt_symbols(),
-            symbols: Some(symbols),
+            symbols: None,
             counts: OperationCounts::none(),
         }
     }
@@ -122,18 +112,19 @@ impl<T: BinaryMatrix> IntermediateSymbolDecoder<T> {
         num_source_symbols: u32,
     ) -> Self
         requires known { num_source_symbols ≤ greatest_size table.now }
-        requires equations { AreEquationsWithoutHdpc (row_of table.now num_source_symbols) (T.content matrix) symbols }
-        ensures { solver_state result ≡ solver_without_hdpc (row_of table.now num_source_symbols) (T.content matrix) symbols }
+        requires equations { AreEquationsWithoutHdpc (row_of table.now num_source_symbols) (T.content matrix) }
+        requires values { AreValues (T.content matrix).height symbols }
+        ensures { solver_state result ≡ solver_without_hdpc (row_of table.now num_source_symbols) (T.content matrix) (Some symbols) }
     {
         let row = table.checked_row(num_source_symbols);
-        IntermediateSymbolDecoder::of_row_no_hdpc(alloc, &row, matrix, symbols)
+        IntermediateSymbolDecoder::of_row_no_hdpc(alloc, &row, matrix).with_symbols(symbols)
     }
 
-    /// A solver of the equations of a block but for those of HDPC, over the block's row of a table: a
-    /// matrix of bits, and a symbol for each equation.
-    pub fn of_row_no_hdpc(alloc: Global, row: &CheckedRow, matrix: T, symbols: SymbolSlab) -> Self
-        requires { AreEquationsWithoutHdpc row.now.numbers (T.content matrix) symbols }
-        ensures { solver_state result ≡ solver_without_hdpc row.now.numbers (T.content matrix) symbols }
+    /// A solver of the equations of a block but for those of HDPC without symbols, for their operations
+    /// alone, over the block's row of a table: a matrix of bits. Not in the Rust crate.
+    pub fn of_row_no_hdpc(alloc: Global, row: &CheckedRow, matrix: T) -> Self
+        requires { AreEquationsWithoutHdpc row.now.numbers (T.content matrix) }
+        ensures { solver_state result ≡ solver_without_hdpc row.now.numbers (T.content matrix) None }
     {
         let hdpc = DenseOctetMatrix::without_rows(alloc, matrix.width());
         IntermediateSymbolDecoder {
@@ -142,9 +133,18 @@ impl<T: BinaryMatrix> IntermediateSymbolDecoder<T> {
             hdpc,
             first_hdpc: 0,
             lt_columns: row.lt_symbols(),
-            symbols: Some(symbols),
+            symbols: None,
             counts: OperationCounts::none(),
         }
+    }
+
+    // The solver with a symbol for each of its equations.
+    fn with_symbols(mut self, symbols: SymbolSlab) -> Self
+        requires { AreValues (solver_state self).height symbols }
+        ensures { solver_state result ≡ record (solver_state self) { symbols = Some symbols } }
+    {
+        self.symbols = Some(symbols);
+        self
     }
 
     /// How many symbols were added, counting multiples that were added: at most twice the number of
@@ -191,7 +191,8 @@ impl<T: BinaryMatrix> IntermediateSymbolDecoder<T> {
     /// it, which find the solution of the same equations with other symbols too. `None` where the
     /// equations don't determine the symbols.
     ///
-    /// Refuses `AlreadyExecuted` in each call after the first, whatever that answered, and counts stay.
+    /// Refuses `AlreadyExecuted` in each call after the first, whatever that answered, and where there
+    /// are no symbols; counts stay.
     ///
     /// Kept for the surface of `raptorq`; coders call `into_operations` and `solve`.
     pub fn execute(&mut self) -> Result<Option<(SymbolSlab, Vec<SymbolOps>)>, Error>
@@ -290,8 +291,9 @@ pub fn fused_inverse_mul_symbols<T: BinaryMatrix>(
     num_source_symbols: u32,
 ) -> Result<Option<(SymbolSlab, Vec<SymbolOps>)>, Error>
     requires known { num_source_symbols ≤ greatest_size table.now }
-    requires equations { AreEquations (row_of table.now num_source_symbols) (T.content matrix) hdpc symbols }
-    ensures solved { IfOk result (IsOutcome (solver_of (row_of table.now num_source_symbols) (T.content matrix) hdpc symbols) symbols) }
+    requires equations { AreEquations (row_of table.now num_source_symbols) (T.content matrix) hdpc }
+    requires values { AreValues (T.content matrix).height symbols }
+    ensures solved { IfOk result (IsOutcome (solver_of (row_of table.now num_source_symbols) (T.content matrix) hdpc (Some symbols)) symbols) }
     ensures memory { IfErr result (λ e. e ≡ OutOfMemory) }
 {
     IntermediateSymbolDecoder::new(
@@ -316,8 +318,9 @@ pub fn fused_inverse_mul_symbols_no_hdpc<T: BinaryMatrix>(
     num_source_symbols: u32,
 ) -> Result<Option<(SymbolSlab, Vec<SymbolOps>)>, Error>
     requires known { num_source_symbols ≤ greatest_size table.now }
-    requires equations { AreEquationsWithoutHdpc (row_of table.now num_source_symbols) (T.content matrix) symbols }
-    ensures solved { IfOk result (IsOutcome (solver_without_hdpc (row_of table.now num_source_symbols) (T.content matrix) symbols) symbols) }
+    requires equations { AreEquationsWithoutHdpc (row_of table.now num_source_symbols) (T.content matrix) }
+    requires values { AreValues (T.content matrix).height symbols }
+    ensures solved { IfOk result (IsOutcome (solver_without_hdpc (row_of table.now num_source_symbols) (T.content matrix) (Some symbols)) symbols) }
     ensures memory { IfErr result (λ e. e ≡ OutOfMemory) }
 {
     IntermediateSymbolDecoder::new_no_hdpc(

@@ -14,7 +14,8 @@ pub replay-requires : goal.replay-requires
 replay-requires g c =
     let solver = c.args.self.now in
     let operations = operations_of c.in-Some-determined.operations in
-    let finds = rw c.in-Some-determined.is at (recorded_found _ _ _ _ c.determined.result c.in_ok-found.ensures.found (rw c.determined.ensures c.in_row_order.ensures.found)) in
+    let finds = rw c.in-Some-determined.is at
+    (recorded_found _ _ _ _ c.determined.result c.in_ok-found.ensures.found (rw c.determined.ensures c.in_row_order.ensures.found)) in
     let handed = c.in-Some.symbols in
     let some = sym c.in-Some.ensures.value in
     subst (λ o. AreAllowed (length handed.values) o operations) (sym (solver.unordered handed some)) (subst (λ n. AreAllowed n None operations) (sym (solver.counted handed some)) finds.allowed)
@@ -29,7 +30,8 @@ returns-clause-solved g c =
     let rows = with_octet_rows solver.first_hdpc (length solver.hdpc.rows) m.bit (entry_of solver.hdpc) in
     let handed = c.in-Some.symbols in
     let operations = operations_of c.in-Some-determined.operations in
-    let finds = rw c.in-Some-determined.is at (recorded_found _ _ _ _ c.determined.result c.in_ok-found.ensures.found (rw c.determined.ensures c.in_row_order.ensures.found)) in
+    let finds = rw c.in-Some-determined.is at
+    (recorded_found _ _ _ _ c.determined.result c.in_ok-found.ensures.found (rw c.determined.ensures c.in_row_order.ensures.found)) in
     if_some solver.symbols handed _ (sym c.in-Some.ensures.value)
     (rw c.in_ok-into_symbol_ops.ensures
     (is_solution m.height m.width rows operations finds handed _ (solver.unordered handed (sym c.in-Some.ensures.value)) (c.symbols-2.view_is ∙ c.in_ok-replay.ensures.ok)))

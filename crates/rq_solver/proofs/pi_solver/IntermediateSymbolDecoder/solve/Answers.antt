@@ -13,8 +13,8 @@ returns g c =
     let outcome = c.in_ok-found.ensures in
     record {
       solved = record {
-        found = recorded_found bits.height bits.width _ _ (found_of c.in_row_order.result) (attempt_of_bits bits solver.hdpc solver.first_hdpc system is _ outcome.found)
-            c.in_row_order.ensures.found;
+        found = recorded_found bits.height bits.width _ _ (found_of c.in_row_order.result)
+            (attempt_of_bits bits solver.hdpc solver.first_hdpc system is _ outcome.found) c.in_row_order.ensures.found;
         shown = rw c.in_row_order.ensures.shown (shown_of_bits bits solver.hdpc solver.first_hdpc system is _ outcome.shown);
       };
     }

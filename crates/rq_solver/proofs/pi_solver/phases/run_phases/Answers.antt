@@ -95,7 +95,8 @@ module _ (c : In_ok-ends) where
         later = rw c.as_mut_slice.ensures.value at c.in_ok-ends.ensures.phases;
       }
 
-  lacks : c.in_ok-ends.order ≡ None → RunsOverSystem c.args.system c.in_ok-peeled.peeled c.later_phases.new.left c.later_phases.new.recorded (c.in_ok-ends.ends, None)
+  lacks : c.in_ok-ends.order ≡ None
+      → RunsOverSystem c.args.system c.in_ok-peeled.peeled c.later_phases.new.left c.later_phases.new.recorded (c.in_ok-ends.ends, None)
   lacks none = rw none at runs
 
 -- ---- where a column has no pivot
@@ -110,10 +111,13 @@ module _ (c : After-as_slice) where
   all_left : c.as_slice.result.now ≡ c.later_phases.new.left
   all_left =
       let left = c.later_phases.new.left in
-      c.as_slice.ensures.value ∙ take_at left (drop (length left) c.in_ok-peeled.left.items) c.in_ok-peeled.left.len (omega (arith, c.later_phases.auto.left, c.as_mut_slice.ensures.len))
+      c.as_slice.ensures.value
+      ∙ take_at left (drop (length left) c.in_ok-peeled.left.items) c.in_ok-peeled.left.len
+      (omega (arith, c.later_phases.auto.left, c.as_mut_slice.ensures.len))
 
 pub stuck_column-column-requires-clause-under_way : goal.stuck_column-column-requires-clause-under_way
-stuck_column-column-requires-clause-under_way c = rw (all_left (goal.at.stuck_column-column-requires-clause-under_way c).After-as_slice) (rw c.in_default.is at c.in_ok-ends.ensures.left)
+stuck_column-column-requires-clause-under_way c =
+    rw (all_left (goal.at.stuck_column-column-requires-clause-under_way c).After-as_slice) (rw c.in_default.is at c.in_ok-ends.ensures.left)
 
 pub stuck_column-column-requires-clause-stuck : goal.stuck_column-column-requires-clause-stuck
 stuck_column-column-requires-clause-stuck c =
@@ -126,7 +130,8 @@ returns-in_default-clause-found c = rw c.in_default.is at (found (goal.at.return
 pub returns-in_default-clause-shown : goal.returns-in_default-clause-shown
 returns-in_default-clause-shown c =
     let before = goal.at.returns-in_default-clause-shown c in
-    let shown = shows_system c.args.system c.in_ok-peeled.peeled c.later_phases.new.left c.later_phases.new.recorded c.in_ok-ends.ends (lacks before.In_ok-ends c.in_default.is) in
+    let shown = shows_system c.args.system c.in_ok-peeled.peeled c.later_phases.new.left c.later_phases.new.recorded c.in_ok-ends.ends
+    (lacks before.In_ok-ends c.in_default.is) in
     let made = c.stuck_column-column.ensures in
     rw c.ok.ensures.value
     (if_made c.stuck_column-column.result _ _ _ _ (λ column elements left pivots. shown column.items elements left pivots) made.elements

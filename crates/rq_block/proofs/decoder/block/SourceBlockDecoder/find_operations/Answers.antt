@@ -1,11 +1,6 @@
 use Rattle.std.proofs.Common.{◌≡◌, ℕ, List, length, sym, ap, ◌∙◌, subst, arith}
-use Rattle.std.specs.Prelude.{IfSome}
 use Rattle.rq_standard.specs.Headline.{known_ids}
 use Rattle.rq_standard.specs.IdLists.{IsListOf, HasDeterminedRows}
-use Rattle.rq_block.specs.BlockSolutions.{FindsListed, IsHomogeneousFor}
-use Rattle.rq_block.specs.declared.solving.BlockOperations.{BlockOperations}
-use Rattle.rq_solver.specs.Solved.{found_of, shown_of}
-use Rattle.rq_solver.specs.declared.pi_solver.solved.Solved.{Solved}
 use Rattle.rq_block.specs.SourceBlockDecoder.{received_of}
 use Rattle.rq_block.specs.Missing.{has_payload}
 use Rattle.rq_block.proofs.ReceivedEquations.{received_ids, held_by_decoder, received_rows, too_few}
@@ -36,10 +31,10 @@ invariant_of-self-in-Undetermined-clause-shown c =
     let known = known_ids d.row.numbers d.source_symbols (has_payload d.received) in
     let list = subst (IsListOf known) (sym c.as_slice.ensures.value) c.in_ok-ids.ensures.listed in
     shown-found d.row.numbers d.source_symbols (has_payload d.received) c.as_slice.result.now c.in-Undetermined.column list
-    (subst (λ (o : Solved BlockOperations). IfSome (shown_of o) (IsHomogeneousFor d.row.numbers c.as_slice.result.now)) c.in-Undetermined.is c.in_ok-solution.ensures.outcome.shown)
+    (rw c.in-Undetermined.is at c.in_ok-solution.ensures.outcome.shown)
 
 pub returns-clause-found : goal.returns-clause-found
 returns-clause-found c =
     let d = c.args.self.now in
-    let none = subst (λ (o : Solved BlockOperations). FindsListed d.row.numbers c.as_slice.result.now (found_of o)) c.in-Undetermined.is c.in_ok-solution.ensures.outcome.found in
+    let none = rw c.in-Undetermined.is at c.in_ok-solution.ensures.outcome.found in
     λ determined. subst (λ (l : List ℕ). HasDeterminedRows d.row.numbers l → ⊥) (c.as_slice.ensures.value ∙ c.in_ok-ids.ensures.ids) none (received_rows (received_of d) d.received (held_by_decoder d c.len.ensures.ordered) determined)
