@@ -1,6 +1,5 @@
 -- What a solver answers, from operations that find the column.
 use Rattle.std.proofs.Common.{◌≡◌, ◌<◌, ℕ, List, length, [], ◌∷◌, ◌++◌, Option, None, Some, IfSome, IfOk, Result, Vec, Global, refl, sym, ap, ◌∙◌, subst, arith}
-use Rattle.std.proofs.lemmas.Option.{none-some, same_Some}
 use Rattle.std.specs.Option.{MatchOption, option_map}
 use Rattle.rq_algebra.specs.Field.{Field}
 use Rattle.rq_algebra.specs.Following.{Follows}
@@ -19,12 +18,11 @@ use Rattle.rq_operations.specs.RecordedOperations.{operations_of}
 use Rattle.rq_operations.specs.declared.recorded.RecordedOperations.{RecordedOperations}
 use Rattle.rq_elimination.specs.PhaseCounts.{AreCountsOf, AreInOrder}
 use Rattle.rq_peeling.specs.declared.system.System.{System}
-use Rattle.rq_solver.specs.PhaseOutcome.{RunsPhases}
+use Rattle.rq_solver.specs.PhaseOutcome.{in_row_order, CountsOperations, RunsOverEquations, RunsPhases}
 use Rattle.rq_solver.specs.Phases.{SolvesRows, then_ordered}
 use Rattle.rq_solver.specs.Solved.{found_of}
 use Rattle.rq_solver.specs.Solving.{IsSolution, IsOutcome, Solver}
 use Rattle.rq_elimination.specs.declared.counts.OperationCounts.{OperationCounts}
-use Rattle.rq_elimination.specs.declared.counts.PhaseEnds.{PhaseEnds}
 use Rattle.rq_solver.specs.declared.pi_solver.phase_outcome.PhaseOutcome.{PhaseOutcome}
 use Rattle.rq_solver.proofs.LaterPhases.{ends_in_order}
 use Rattle.rq_elimination.proofs.PhaseTotals.{AreTotalsOf, counts_with_order, longer_in_order, totals_of}
@@ -112,20 +110,41 @@ recorded_found height width rows found (Some ops) solves e = subst (SolvesRows h
 pub by_phases : (a b d e f h : ℕ) → a ≡ e → b ≡ f → d ≡ h → a ∷ b ∷ 0 ∷ d ∷ 0 ∷ [] ≡ e ∷ f ∷ 0 ∷ h ∷ 0 ∷ []
 by_phases a b d e f h first second fourth = ap (λ (n : ℕ). n ∷ b ∷ 0 ∷ d ∷ 0 ∷ []) first ∙ ap (λ (n : ℕ). e ∷ n ∷ 0 ∷ d ∷ 0 ∷ []) second ∙ ap (λ (n : ℕ). e ∷ f ∷ 0 ∷ n ∷ 0 ∷ []) fourth
 
--- the counts of what was recorded are those of what is handed out
-pub recorded_totals : (ends : PhaseEnds) (recorded : List Operation) (order : Option (Vec ℕ Global)) (counts : OperationCounts) (ops : RecordedOperations)
-    → AreInOrder ends (length recorded) → AreCountsOf ends recorded counts → Some (operations_of ops) ≡ then_ordered recorded order
-    → AreTotalsOf counts (operations_of ops)
-recorded_totals ends recorded None counts ops in_order are e = absurd (none-some _ (sym e))
-recorded_totals ends recorded (Some rows) counts ops in_order are e =
-    rw (same_Some _ _ e) (totals_of ends (recorded ++ Reorder rows.items ∷ []) counts (longer_in_order recorded rows.items ends in_order)
-    (counts_with_order recorded rows.items ends in_order counts are))
-
 -- what a phase recorded ends where the next begins
 pub outcome_in_order : (system : System) (outcome : PhaseOutcome) → RunsPhases system outcome → AreInOrder outcome.ends (length outcome.recorded)
 outcome_in_order system outcome runs =
     let ran = runs.4 in
     rw runs.3 (ends_in_order runs.0 ran.before runs.1 ran.first runs.2 outcome.ends (found_of outcome.order) ran.later)
+
+-- a fact of what was recorded and then ordered, in any order that there is
+of_ordered : (recorded : List Operation) (order : Option (Vec ℕ Global)) (P : List Operation → Type 0) → ((rows : List ℕ) → P (recorded ++ Reorder rows ∷ []))
+    → IfSome (then_ordered recorded order) P
+of_ordered recorded None P p = tt
+of_ordered recorded (Some rows) P p = p rows.items
+
+-- a solver that shows the counts of what the phases recorded over its equations counts the operations that it answers
+pub counts_operations : (old new : Solver) (found : PhaseOutcome) (counts : OperationCounts) (answer : Option (List Operation)) → RunsOverEquations old found
+    → AreCountsOf found.ends found.recorded counts → new.additions ≡ counts.additions.first ∷ counts.additions.second ∷ 0 ∷ counts.additions.fourth ∷ 0 ∷ []
+    → new.multiplications ≡ counts.multiplications.first ∷ counts.multiplications.second ∷ 0 ∷ counts.multiplications.fourth ∷ 0 ∷ []
+    → answer ≡ in_row_order found → CountsOperations old new answer
+counts_operations old new found counts answer runs are added multiplied is =
+    let in_order = outcome_in_order runs.system found runs.phases in
+    let a = are.additions_are in
+    let m = are.multiplications_are in
+    let totals : (rows : List ℕ) → AreTotalsOf counts (found.recorded ++ Reorder rows ∷ []) = λ rows.
+    totals_of found.ends (found.recorded ++ Reorder rows ∷ []) counts (longer_in_order found.recorded rows found.ends in_order)
+    (counts_with_order found.recorded rows found.ends in_order counts are) in
+    rw is (record {
+      found = found;
+      runs = runs;
+      answers = refl;
+      in_order = in_order;
+      added = added ∙ by_phases _ _ _ _ _ _ a.first a.second a.fourth;
+      multiplied = multiplied ∙ by_phases _ _ _ _ _ _ m.first m.second m.fourth;
+      additions_are = of_ordered found.recorded (found_of found.order) _ (λ rows. let t = (totals rows).additions_are in rw added (omega (arith, t)));
+      multiplications_are = of_ordered found.recorded (found_of found.order) _
+          (λ rows. let t = (totals rows).multiplications_are in rw multiplied (omega (arith, t)));
+    })
 
 -- the outcome of a solver that stands for these equations and has not run
 pub outcome_same : (s t : Solver) (handed : Slab) (r : Result (Option (Slab × Vec SymbolOps Global)) Error) → s ≡ t → t.symbols ≡ Some handed → IfSome s.symbols (λ h. IfOk r (IsOutcome s h)) → IfOk r (IsOutcome t handed)

@@ -1,13 +1,11 @@
 -- What the check leaves to show of `pi_solver::IntermediateSymbolDecoder::execute`.
-use Rattle.std.proofs.Common.{◌≡◌, None, Some, length, sym, ◌∙◌, subst, arith}
+use Rattle.std.proofs.Common.{None, length, refl, sym, ◌∙◌, subst, arith}
 use Rattle.rq_algebra.specs.Operations.{AreAllowed}
 use Rattle.rq_standard.specs.ConstraintMatrix.{with_octet_rows}
 use Rattle.rq_operations.specs.RecordedOperations.{operations_of}
 use Rattle.rq_parts.specs.DenseOctetMatrix.{entry_of}
 use Rattle.rq_elimination.proofs.PhaseTotals.{totals_of}
-use Rattle.rq_solver.specs.PhaseOutcome.{in_row_order}
-use Rattle.rq_solver.specs.Solved.{found_of}
-use Rattle.rq_solver.proofs.SolutionLaws.{by_phases, is_solution, if_some, outcome_in_order, recorded_found, recorded_totals}
+use Rattle.rq_solver.proofs.SolutionLaws.{counts_operations, is_solution, if_some, outcome_in_order, recorded_found}
 use Rattle.rq_solver.proofs.pi_solver.IntermediateSymbolDecoder.execute.Goals as goal
 
 pub replay-requires : goal.replay-requires
@@ -38,38 +36,14 @@ returns-clause-solved g c =
 
 pub returns-in_default-determined-clause-counted : goal.returns-in_default-determined-clause-counted
 returns-in_default-determined-clause-counted g c =
-    let a = c.counts-self.ensures.additions_are in
-    let m = c.counts-self.ensures.multiplications_are in
-    record {
-      found = c.in_ok-found.found;
-      runs = c.in_ok-found.ensures.phases;
-      answers = rw (← c.determined.ensures, c.in_default-determined.is) at c.in_row_order.ensures.found;
-      in_order = outcome_in_order c.in_ok-found.ensures.phases.system c.in_ok-found.found c.in_ok-found.ensures.phases.phases;
-      added = by_phases _ _ _ _ _ _ a.first a.second a.fourth;
-      multiplied = by_phases _ _ _ _ _ _ m.first m.second m.fourth;
-      additions_are = tt;
-      multiplications_are = tt;
-    }
+    counts_operations _ _ c.in_ok-found.found c.counts-self.result None c.in_ok-found.ensures.phases c.counts-self.ensures refl refl
+    (rw (← c.determined.ensures, c.in_default-determined.is) at c.in_row_order.ensures.found)
 
 pub returns-clause-counted : goal.returns-clause-counted
 returns-clause-counted g c =
-    let found = c.in_ok-found.found in
-    let in_order = outcome_in_order c.in_ok-found.ensures.phases.system found c.in_ok-found.ensures.phases.phases in
-    let operations = c.in-Some-determined.operations in
-    let answers : Some (operations_of operations) ≡ in_row_order found = rw (← c.determined.ensures, c.in-Some-determined.is) at c.in_row_order.ensures.found in
-    let totals = recorded_totals found.ends found.recorded (found_of found.order) c.counts-self.result operations in_order c.counts-self.ensures answers in
-    let a = c.counts-self.ensures.additions_are in
-    let m = c.counts-self.ensures.multiplications_are in
-    rw c.in_ok-into_symbol_ops.ensures (record {
-      found = found;
-      runs = c.in_ok-found.ensures.phases;
-      answers = answers;
-      in_order = in_order;
-      added = by_phases _ _ _ _ _ _ a.first a.second a.fourth;
-      multiplied = by_phases _ _ _ _ _ _ m.first m.second m.fourth;
-      additions_are = omega (arith, totals.additions_are);
-      multiplications_are = omega (arith, totals.multiplications_are);
-    })
+    rw c.in_ok-into_symbol_ops.ensures
+    (counts_operations _ _ c.in_ok-found.found c.counts-self.result _ c.in_ok-found.ensures.phases c.counts-self.ensures refl refl
+    (rw (← c.determined.ensures, c.in-Some-determined.is) at c.in_row_order.ensures.found))
 
 pub invariant_of-self-2-clause-few_additions : goal.invariant_of-self-2-clause-few_additions
 invariant_of-self-2-clause-few_additions g c =
