@@ -68,7 +68,7 @@ pub(crate) struct BlockLayout {
 }
 
 impl BlockLayout {
-    ghost use Rattle.rq_block.specs.BlockLayout.{among_zeros, bytes_by, cut_by, parts_by};
+    ghost use Rattle.rq_block.specs.BlockLayout.{bytes_by, cut_by, parts_by, slab_among_zeros};
 
     /// The symbols of a block, which may end before its last symbol does.
     pub(crate) fn symbols_of_block(
@@ -96,7 +96,7 @@ impl BlockLayout {
     ) -> Result<SymbolSlab, AllocError>
         requires fits { start + self.now.source_symbols ≤ count }
         requires few { count < 2 ^ 32 }
-        ensures { IfOk result (λ slab. slab ≡ slab_of self.now.config.symbol_size (among_zeros self.now.config.symbol_size start count (cut_by self.now block.now))) }
+        ensures { IfOk result (λ slab. slab ≡ slab_among_zeros self.now start count block.now) }
     {
         let size = usize::from(self.config.symbol_size());
         let mut bytes = symbol_buffer(alloc, count, self.source_symbols, size)?;

@@ -271,7 +271,7 @@ impl<T: BinaryMatrix> IntermediateSymbolDecoder<T> {
 
     // Runs the phases, and leaves matrix and rows.
     fn solve_equations(&self) -> Result<PhaseOutcome, AllocError>
-        ensures found { IfOk result (λ found. SolvesRows (solver_state self.now).height (solver_state self.now).width (solver_state self.now).rows (in_row_order found)) }
+        ensures found { let s = solver_state self.now in IfOk result (λ found. SolvesRows s.height s.width s.rows (in_row_order found)) }
         ensures phases { IfOk result (RunsOverEquations (solver_state self.now)) }
         ensures few { IfOk result (λ found. additions found.recorded ≤ 2 * (solver_state self.now).width * (solver_state self.now).height) }
     {

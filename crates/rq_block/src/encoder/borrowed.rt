@@ -1,10 +1,9 @@
 //! A source block whose bytes are borrowed.
 ghost use Rattle.std.specs.Prelude.{◌≡◌, ◌+◌, ◌^◌, ◌<◌, ◌≤◌, length, IfOk, IfErr, OnOk, OnErr};
-ghost use Rattle.rq_bytes.specs.SymbolSlab.{symbol_in, symbols_in};
+ghost use Rattle.rq_bytes.specs.SymbolSlab.{symbols_in};
 ghost use Rattle.rq_standard.specs.Configuration.{IsAligned};
-ghost use Rattle.rq_standard.specs.Headline.{IsOnlyIntermediateColumn};
 ghost use Rattle.rq_standard.specs.TableRows.{intermediate_symbols};
-ghost use Rattle.rq_block.specs.BlockLayout.{cut_by};
+ghost use Rattle.rq_block.specs.BlockLayout.{HasOnlyColumn};
 
 use crate::enc::encoding_symbol;
 use crate::encoder::plan::SourceBlockEncodingPlan;
@@ -29,7 +28,7 @@ pub struct BorrowedBlock<'a> {
     pub ghost few: { layout.source_symbols ≤ row.numbers.extended_symbols },
     pub ghost sized: { intermediate.symbol_size ≡ layout.config.symbol_size },
     pub ghost enough: { intermediate_symbols row.numbers ≤ length (symbols_in intermediate) },
-    pub ghost solved: { IsOnlyIntermediateColumn row.numbers layout.config.symbol_size (cut_by layout block.now) (symbol_in intermediate) },
+    pub ghost solved: { HasOnlyColumn row.numbers layout block.now intermediate },
 }
 
 impl<'a> BorrowedBlock<'a> {

@@ -1,12 +1,12 @@
 //! Plans: what solves the equations of every block of one size.
 ghost use Rattle.std.specs.Prelude.{◌≡◌, ◌⊎◌, ◌<◌, ◌≤◌, length, Ok, IfOk, IfErr, OnOk};
-ghost use Rattle.rq_bytes.specs.SymbolSlab.{slab_of, symbol_in, symbols_in};
+ghost use Rattle.rq_bytes.specs.SymbolSlab.{symbols_in};
 ghost use Rattle.rq_operations.specs.RecordedOperations.{operations_of};
-ghost use Rattle.rq_standard.specs.Headline.{IsNonsingular, IsSingular, IsOnlyIntermediateColumn};
+ghost use Rattle.rq_standard.specs.Headline.{IsNonsingular, IsSingular};
 ghost use Rattle.rq_standard.specs.TableRows.{row_of, intermediate_symbols};
 ghost use Rattle.rq_block.specs.Allowed.{AreAllowedOver, AreAllowedOver-prop};
-ghost use Rattle.rq_block.specs.BlockLayout.{cut_by};
-ghost use Rattle.rq_block.specs.Planned.{IsPlanOf, source_values};
+ghost use Rattle.rq_block.specs.BlockLayout.{values_by, HasOnlyColumn};
+ghost use Rattle.rq_block.specs.Planned.{IsPlanOf};
 
 use crate::encoder::SPARSE_MATRIX_THRESHOLD;
 use crate::ids::padding_ids;
@@ -116,7 +116,7 @@ impl SourceBlockEncodingPlan {
         requires few { layout.now.source_symbols ≤ (plan_of self.now).row.extended_symbols }
         ensures size { IfOk result (λ slab. slab.symbol_size ≡ layout.now.config.symbol_size) }
         ensures enough { IfOk result (λ slab. intermediate_symbols (plan_of self.now).row ≤ length (symbols_in slab)) }
-        ensures column { IfOk result (λ slab. IsOnlyIntermediateColumn (plan_of self.now).row layout.now.config.symbol_size (cut_by layout.now block.now) (symbol_in slab)) }
+        ensures column { IfOk result (HasOnlyColumn (plan_of self.now).row layout.now block.now) }
     {
         let mut symbols = source_values(alloc, &self.row, layout, block)?;
         self.operations.replay(&mut symbols)?;
@@ -147,7 +147,7 @@ fn source_values(
     block: &[u8],
 ) -> Result<SymbolSlab, AllocError>
     requires { layout.now.source_symbols ≤ row.now.numbers.extended_symbols }
-    ensures { IfOk result (λ slab. slab ≡ slab_of layout.now.config.symbol_size (source_values row.now.numbers layout.now.config.symbol_size (cut_by layout.now block.now))) }
+    ensures { IfOk result (λ slab. slab ≡ values_by row.now.numbers layout.now block.now) }
 {
     layout.symbols_among_zeros(alloc, block, row.precode_rows(), row.intermediate_symbols())
 }
