@@ -1,4 +1,4 @@
--- How a source block is cut.
+-- How a source block is cut, and what slabs have of a block that is cut so.
 use Rattle.std.specs.Prelude.{ℕ, ◌-◌, ◌++◌, List, Option, length, replicate}
 use Rattle.std.specs.List.{flat_map, range_with_len}
 use Rattle.rq_standard.specs.Cutting.{symbol_of_block}

@@ -67,7 +67,7 @@ pub enum Error {
     /// number of its first failing check, from 1.
     #[error("RowRefused")]
     RowRefused { place: usize, check: u8 },
-    /// The solver has run already.
+    /// The solver has run already, or was made without symbols.
     #[error("AlreadyExecuted")]
     AlreadyExecuted,
     /// A request for memory was refused.

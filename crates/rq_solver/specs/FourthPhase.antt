@@ -26,7 +26,7 @@ HasNoMark marks p = slice_index_or marks p false ≡ false
 abbrev pub IsMarkedFrom : Pivots → List Bool → ℕ → ℕ → Type 0
 IsMarkedFrom pivots marks low r = (q : ℕ) × (low ≤ q) × (q < length pivots.rows) × HasMark marks q × (at pivots.rows q ≡ r)
 
--- where the pivots' rows were cleared, those that have a mark are as rows of bits are
+-- where the pivots' rows were cleared, those from place `low` on that have a mark are as rows of bits are
 abbrev pub HasSparsified : Peeled → List Bool → ℕ → (ℕ → ℕ → ℕ) → (ℕ → ℕ → ℕ) → Type 0
 HasSparsified p marks low m now =
     ((q : ℕ) → q < length p.peeling.rows → IsCleared p.peeling.rows p.peeling.order m (at p.peeling.rows q))

@@ -75,7 +75,7 @@ ShowHdpcOctets rows order first count octet m = (i p : ℕ) → i < count → p 
 abbrev pub HaveZeros : ℕ → ℕ → (ℕ → ℕ → ℕ) → ℕ → Type 0
 HaveZeros first count m k = (i : ℕ) → i < count → m (first + i) k ≡ 0
 
--- one of these rows
+-- one of `count` rows from row `first` on
 abbrev pub IsRowFrom : ℕ → ℕ → ℕ → Type 0
 IsRowFrom first count r = (i : ℕ) × (i < count) × (first + i ≡ r)
 

@@ -7,7 +7,7 @@ use Rattle.rq_solver.specs.Solving.{Solver}
 use Rattle.rq_solver.specs.declared.pi_solver.IntermediateSymbolDecoder.{IntermediateSymbolDecoder}
 use Rattle.rq_parts.specs.DenseOctetMatrix.{entry_of}
 
--- its equations, and its symbols until it has run
+-- its equations, and its symbols, if it was handed some, until it has run
 abbrev pub solver_state : {T : Type 0} {bits : matrix.Ghosts T} {clones : clone.Ghosts T} → IntermediateSymbolDecoder T bits clones → Solver
 solver_state {T} {bits} {clones} solver = record {
   height = (bits.content solver.matrix).height;

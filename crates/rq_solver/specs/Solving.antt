@@ -86,7 +86,7 @@ FindsOperations solver answer =
     MatchOption answer (HasHomogeneousColumn octets solver.height solver.width solver.rows)
     (λ found. FindsColumn octets solver.height solver.width solver.rows (operations_of found))
 
--- a solver's equations are solved by the operations, or else by a homogeneous column, which is shown where there was memory for it
+-- operations solve a solver's equations, or else these have a homogeneous column; one that is shown is such a column
 pub record SolvesOrShows (solver : Solver) (solved : Solved RecordedOperations) : Type 0 where
   pub found : FindsOperations solver (found_of solved)
   pub shown : IfSome (shown_of solved) (λ column. IsHomogeneousColumn octets solver.height solver.width solver.rows column.items)

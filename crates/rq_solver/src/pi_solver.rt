@@ -83,8 +83,8 @@ impl<T: BinaryMatrix> IntermediateSymbolDecoder<T> {
         IntermediateSymbolDecoder::of_row(alloc, &row, matrix, hdpc).with_symbols(symbols)
     }
 
-    /// A solver of the equations of a block without symbols, for their operations alone, over the
-    /// block's row of a table: a matrix of bits, and the HDPC rows. Not in the Rust crate.
+    /// A solver without symbols, for operations alone, of the equations of a block, over the block's
+    /// row of a table: a matrix of bits, and the HDPC rows. Not in the Rust crate.
     pub fn of_row(alloc: Global, row: &CheckedRow, matrix: T, hdpc: DenseOctetMatrix) -> Self
         requires { AreEquations row.now.numbers (T.content matrix) hdpc }
         ensures { solver_state result ≡ solver_of row.now.numbers (T.content matrix) hdpc None }
@@ -120,8 +120,8 @@ impl<T: BinaryMatrix> IntermediateSymbolDecoder<T> {
         IntermediateSymbolDecoder::of_row_no_hdpc(alloc, &row, matrix).with_symbols(symbols)
     }
 
-    /// A solver of the equations of a block but for those of HDPC without symbols, for their operations
-    /// alone, over the block's row of a table: a matrix of bits. Not in the Rust crate.
+    /// A solver without symbols, for operations alone, of the equations of a block but for those of HDPC,
+    /// over the block's row of a table: a matrix of bits. Not in the Rust crate.
     pub fn of_row_no_hdpc(alloc: Global, row: &CheckedRow, matrix: T) -> Self
         requires { AreEquationsWithoutHdpc row.now.numbers (T.content matrix) }
         ensures { solver_state result ≡ solver_without_hdpc row.now.numbers (T.content matrix) None }

@@ -94,7 +94,7 @@ impl<'a> BlockwiseEncoder<'a> {
     }
 
     // Cuts the bytes of the block with this number, which comes next, off what is left of the object,
-    // and makes its plan.
+    // and makes a plan for it, unless the last one is.
     fn next_block(&mut self, number: u8) -> Result<&'a [u8], Error>
         requires { number < self.old.config.now.source_blocks }
         ensures cut { IfOk result (λ block. CutsBlock number self.old (block_by_plan (plan_of self.new.plan) self.old.config.now number block.now) self.new) }

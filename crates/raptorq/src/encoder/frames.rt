@@ -17,7 +17,8 @@ use std::alloc::Global;
 /// Appends the packets of an object to bytes, each its payload id of 4 bytes and its symbol: those
 /// that [`Encoder::get_encoded_packets`](crate::encoder::Encoder::get_encoded_packets) makes, in
 /// their order (RFC 6330, 4.4.2 and 5.3). It works on one block after another, so that beside the
-/// object and the bytes there are the intermediate symbols of one block alone. Not in the Rust crate.
+/// object and the bytes there are a plan and the intermediate symbols of one block alone. Not in the
+/// Rust crate.
 ///
 /// Refuses what [`Encoder::new`](crate::encoder::Encoder::new) refuses, and then [`Error::EsiTooLarge`]
 /// where a block would need encoding symbol ids above 2^24 - 1. The bytes are as before then.

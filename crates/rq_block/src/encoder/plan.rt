@@ -1,5 +1,5 @@
 //! Plans: what solves the equations of every block of one size.
-ghost use Rattle.std.specs.Prelude.{◌≡◌, ◌⊎◌, ◌<◌, ◌≤◌, length, Ok, IfOk, IfErr, OnOk};
+ghost use Rattle.std.specs.Prelude.{◌≡◌, ◌⊎◌, ◌≤◌, length, Ok, IfOk, IfErr, OnOk};
 ghost use Rattle.rq_bytes.specs.SymbolSlab.{symbols_in};
 ghost use Rattle.rq_operations.specs.RecordedOperations.{operations_of};
 ghost use Rattle.rq_standard.specs.Headline.{IsNonsingular, IsSingular};

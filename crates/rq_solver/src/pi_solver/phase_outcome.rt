@@ -8,7 +8,7 @@ use rq_elimination::counts::{OperationList, PhaseEnds};
 use rq_operations::recorded::RecordedOperations;
 
 /// What was recorded, where the stretches of each phase end in it, and the order in which the rows then
-/// leave the column that solves them.
+/// leave the column that solves them, or else a column that shows that they don't determine one.
 #[derive(Drop)]
 pub(super) struct PhaseOutcome {
     pub recorded: OperationList,
@@ -20,7 +20,8 @@ impl PhaseOutcome {
     ghost use Rattle.rq_solver.specs.PhaseOutcome.{in_row_order};
     ghost use Rattle.rq_solver.specs.Solved.{found_of, shown_of};
 
-    /// The operations that take values of the rows to the column that solves the rows with them.
+    /// The operations that take values of the rows to the column that solves the rows with them, or else
+    /// that column.
     pub(super) fn in_row_order(self) -> Solved<RecordedOperations>
         ensures found { option_map operations_of (found_of result) ≡ in_row_order self }
         ensures shown { shown_of result ≡ shown_of self.order }
