@@ -1,4 +1,5 @@
-//! The intermediate symbols of a block.
+//! The operations that make a block's intermediate symbols, or a column that shows that its equations
+//! don't determine them.
 ghost use Rattle.std.specs.Prelude.{◌≡◌, ◌^◌, ◌<◌, ◌≤◌, IfSome, IfOk, IfErr};
 ghost use Rattle.rq_standard.specs.TableRows.{intermediate_symbols};
 ghost use Rattle.rq_standard.specs.Equations.{equation_count};

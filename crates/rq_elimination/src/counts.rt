@@ -87,15 +87,15 @@ fn count_steps(steps: &[Step]) -> (u64, u64)
 }
 
 /// Where the stretches of operations end that the phases record, one behind the other (RFC 6330,
-/// sections 5.4.2.2 to 5.4.2.6). The fourth phase does the work of the third and of the fifth, row by
-/// row, and its first stretch stands between the two of the second. Its other one ends with the list.
+/// sections 5.4.2.2 to 5.4.2.6). The third's stands between the two of the second, and is counted as the
+/// fourth's, as the fifth's work is, which ends with the list.
 #[derive(Clone, Copy)]
 pub struct PhaseEnds {
     /// The end of the first phase.
     pub cleared: usize,
     /// The end of the second phase's elimination.
     pub eliminated: usize,
-    /// The end of what the fourth phase does before rows are substituted back.
+    /// The end of the third phase.
     pub sparsified: usize,
     /// The end of the second phase's substitution back.
     pub substituted: usize,

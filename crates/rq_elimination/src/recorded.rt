@@ -81,7 +81,7 @@ impl RecordedRows {
         Ok(())
     }
 
-    /// Records that a multiple of a row is added to another one, of which no entry is read any more.
+    /// Records that a multiple of a row is added to another one, whose stored entries stay as they are.
     #[inline(always)]
     pub fn record_multiple(
         &mut self,

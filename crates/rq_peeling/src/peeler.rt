@@ -1,5 +1,5 @@
 //! `Peeler`: the state of the choice of pivots, and one turn of it (RFC 6330, section 5.4.2.2).
-//! Where all rows have two active columns or more, a graph of components decides.
+//! Where the least is two active columns, a graph of components decides.
 ghost use Rattle.std.specs.Prelude.{◌≡◌, false, ◌<◌, ◌≤◌, [], length, slice_index_or, All, Contains, IsTrue, IfSome, IfNone, OnOk, IfOk};
 ghost use Rattle.rq_algebra.specs.Systems.{at};
 ghost use Rattle.rq_peeling.specs.RowDegrees.{AllHaveNone, CountsActive, HasLeastDegree, KeepsDegrees, LowersRows, TakesColumnsLeft, TakesFewest, active_ones};
@@ -94,7 +94,7 @@ impl<'a> Peeler<'a> {
         }
     }
 
-    // A row that has least active columns but has some. Where rows have two at least, it is one of
+    // A row that has least active columns but has some. Where the least is two, it is one of
     // the rows of two that join most columns (RFC 6330, section 5.4.2.2): with one of these inactive
     // all the others get pivots.
     fn next_row(&mut self) -> Option<usize>

@@ -5,7 +5,8 @@ use Rattle.rq_algebra.specs.Systems.{at}
 use Rattle.rq_standard.specs.OctetField.{octets}
 use Rattle.rq_parts.specs.DenseOctetMatrix.{entry_of}
 use Rattle.rq_peeling.specs.SystemRows.{one_in}
-use Rattle.rq_solver.specs.FourthPhase.{AreUnfinished, FinishesPivots, HasFinished, IsFinished, IsMarkedFrom, Sparsifies}
+use Rattle.rq_solver.specs.FourthPhase.{AreUnfinished, FinishesPivots, HasFinished, IsFinished}
+use Rattle.rq_solver.specs.ThirdPhase.{IsMarkedFrom, Sparsifies}
 use Rattle.rq_solver.specs.Peeled.{inactive_count, IsUnderWay}
 use Rattle.rq_solver.specs.PivotAdditions.{HasAddedPivotRows, IsCleared, IsUncleared, PeelsRows, TakesPivots, TakesPivotsBy}
 use Rattle.rq_solver.specs.SecondPhase.{ClearsColumns, HasClearedColumns}

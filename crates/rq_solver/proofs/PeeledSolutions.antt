@@ -20,7 +20,8 @@ use Rattle.rq_algebra.proofs.Sums.{dot_same, dot_split, dot_zero, zero_mul}
 use Rattle.rq_standard.specs.OctetField.{octets}
 use Rattle.rq_parts.specs.DenseOctetMatrix.{entry_of}
 use Rattle.rq_solver.specs.FirstPhase.{HasPeeledPivots}
-use Rattle.rq_solver.specs.FourthPhase.{FinishesAllPivots, HasMark, HasNoMark, IsFinished, Sparsifies}
+use Rattle.rq_solver.specs.FourthPhase.{FinishesAllPivots, IsFinished}
+use Rattle.rq_solver.specs.ThirdPhase.{HasMark, HasNoMark, Sparsifies}
 use Rattle.rq_solver.specs.LeftRows.{ListsRows}
 use Rattle.rq_solver.specs.Peeled.{inactive_count, IsUnderWay}
 use Rattle.rq_solver.specs.PivotAdditions.{IsCleared}

@@ -13,3 +13,4 @@ pub mod SolverState
 pub mod Solved
 pub mod Solving
 pub mod TakenSteps
+pub mod ThirdPhase

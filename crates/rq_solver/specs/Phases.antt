@@ -14,7 +14,8 @@ use Rattle.rq_elimination.specs.RowSteps.{IsEchelon, IsStuck}
 use Rattle.rq_elimination.specs.declared.counts.PhaseEnds.{PhaseEnds}
 use Rattle.rq_elimination.specs.declared.recorded.RecordedRows.{RecordedRows}
 use Rattle.rq_solver.specs.FirstPhase.{HasPeeledPivots}
-use Rattle.rq_solver.specs.FourthPhase.{FinishesAllPivots, Sparsifies}
+use Rattle.rq_solver.specs.FourthPhase.{FinishesAllPivots}
+use Rattle.rq_solver.specs.ThirdPhase.{Sparsifies}
 use Rattle.rq_solver.specs.Peeled.{inactive_count}
 use Rattle.rq_solver.specs.SecondPhase.{SubstitutesBack}
 use Rattle.rq_solver.specs.declared.pi_solver.peeled.Peeled.{Peeled}

@@ -13,9 +13,11 @@ mod fourth_phase;
 mod peeled;
 mod phase_outcome;
 mod phases;
+mod redo_additions;
 mod second_phase;
 mod solved;
 mod stuck_column;
+mod third_phase;
 
 use phase_outcome::PhaseOutcome;
 use phases::run_phases;
@@ -166,8 +168,7 @@ impl<T: BinaryMatrix> IntermediateSymbolDecoder<T> {
     }
 
     /// How many symbols each of the five phases added, counting multiples that were added (RFC
-    /// 6330, sections 5.4.2.2 to 5.4.2.6). The fourth does the work of the third and of the fifth,
-    /// row by row, and it is counted there.
+    /// 6330, sections 5.4.2.2 to 5.4.2.6). What the third and the fifth do is counted as the fourth's.
     pub fn get_symbol_add_ops_by_phase(&self) -> [u64; 5]
         ensures counted { result ≡ (solver_state self.now).additions }
         ensures third { slice_index result 2 ≡ 0 }
@@ -177,8 +178,7 @@ impl<T: BinaryMatrix> IntermediateSymbolDecoder<T> {
     }
 
     /// How many symbols each of the five phases multiplied, counting multiples that were added (RFC
-    /// 6330, sections 5.4.2.2 to 5.4.2.6). The fourth does the work of the third and of the fifth,
-    /// row by row, and it is counted there.
+    /// 6330, sections 5.4.2.2 to 5.4.2.6). What the third and the fifth do is counted as the fourth's.
     pub fn get_symbol_mul_ops_by_phase(&self) -> [u64; 5]
         ensures counted { result ≡ (solver_state self.now).multiplications }
         ensures third { slice_index result 2 ≡ 0 }

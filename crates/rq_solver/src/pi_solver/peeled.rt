@@ -1,6 +1,6 @@
 //! `Peeled`: what the first phase leaves and no phase behind it changes (RFC 6330, section 5.4.2), and
 //! which row stands at a place (`row_at`). What the others change stands beside it: the list of the rows
-//! that have no pivot yet, and `RecordedRows` (of `rq_elimination`).
+//! that got no pivot in the first, and `RecordedRows` (of `rq_elimination`).
 ghost use Rattle.std.specs.Prelude.{◌≡◌, ◌+◌, ◌<◌, ◌≤◌, ◌++◌, length};
 ghost use Rattle.rq_algebra.specs.Systems.{at};
 

@@ -12,8 +12,8 @@ ghost use Rattle.rq_solver.specs.Phases.{AddsLater, FindsOrder, RunsLater, Shows
 ghost use Rattle.rq_solver.specs.Solved.{shown_of};
 
 use super::first_phase::first_phase;
-use super::fourth_phase::clear_inactive::clear_inactive;
-use super::fourth_phase::sparsify::sparsify;
+use super::fourth_phase::clear_inactive;
+use super::third_phase::sparsify;
 use super::peeled::{Peeled, row_at};
 use super::phase_outcome::PhaseOutcome;
 use super::second_phase::{back_substitute, eliminate};

@@ -1,12 +1,12 @@
--- What the check leaves to show of `pi_solver::fourth_phase::clear_inactive::take_word`.
+-- What the check leaves to show of `pi_solver::fourth_phase::take_word`.
 use Rattle.std.proofs.Common.{◌≡◌, ℕ, ◌+◌, ◌*◌, ◌-◌, ◌<◌, sym, arith, w64}
 use Rattle.std.specs.Prelude.{bit_and}
 use Rattle.std.specs.Int.{bit_at, trailing_zeros}
 use Rattle.rq_parts.specs.DenseOctetMatrix.{entry_of}
 use Rattle.rq_parts.proofs.LowestOnes.{ClearsLowest, clears_lowest}
 use Rattle.rq_solver.proofs.ReducedWords.{lowest_inside, takes_all, takes_lowest, takes_no_ones}
-use Rattle.rq_solver.proofs.pi_solver.fourth_phase.clear_inactive.take_word.Goals as goal
-use Rattle.rq_solver.proofs.pi_solver.fourth_phase.clear_inactive.take_word.Goals.{In-loop-rest}
+use Rattle.rq_solver.proofs.pi_solver.fourth_phase.take_word.Goals as goal
+use Rattle.rq_solver.proofs.pi_solver.fourth_phase.take_word.Goals.{In-loop-rest}
 
 module _ (c : In-loop-rest) where
   is : (f : ℕ) → f < c.args.end - 64 * c.args.word → entry_of c.args.recorded.now.table c.args.row (64 * c.args.word + f) ≡ bit_at c.in-Some.bits f

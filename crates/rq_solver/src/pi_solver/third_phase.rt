@@ -3,18 +3,18 @@
 ghost use Rattle.std.specs.Prelude.{◌≡◌, ◌+◌, ◌-◌, ◌*◌, ◌<◌, ◌≤◌, length, IsTrue, IfOk, OnOk};
 ghost use Rattle.rq_algebra.specs.Systems.{at};
 ghost use Rattle.rq_elimination.specs.RecordedRows.{AddsAtMost};
-ghost use Rattle.rq_solver.specs.FourthPhase.{Sparsifies, TookAtMost};
+ghost use Rattle.rq_solver.specs.ThirdPhase.{Sparsifies, TookAtMost};
 ghost use Rattle.rq_solver.specs.Peeled.{HasTakenPivots};
 
 use super::redo_additions::{OnRows, redo_additions};
-use crate::pi_solver::peeled::Peeled;
+use super::peeled::Peeled;
 use rq_elimination::recorded::RecordedRows;
 use std::alloc::{AllocError, Global};
 
 /// Adds to some of the pivots' rows, the last first, the pivots' rows again that they took in the first
 /// phase. So they are as they were handed in, and have few ones, where they came to have many in the
 /// inactive columns. Says which rows these are: each took `sparsify_limit` rows at most.
-pub(in crate::pi_solver) fn sparsify(
+pub(super) fn sparsify(
     alloc: Global,
     peeled: &Peeled,
     recorded: &mut RecordedRows,
@@ -58,8 +58,8 @@ fn sparsify_rows(
 
 // Whether the row of the pivot at a place took `sparsify_limit` rows at most, and it saves additions to
 // take them back: fewer than its entries in the inactive columns, which cost one addition each. Where
-// it took n rows and has m ones, n + m - 1 are spent on it then: n to take them back, and after the
-// fourth phase one for each of its ones but the pivot's.
+// it took n rows and has m ones, n + m - 1 are spent on it then: n to take them back, and in the fourth
+// phase and the fifth one for each of its ones but the pivot's.
 fn saves_additions(peeled: &Peeled, place: usize, recorded: &RecordedRows) -> bool
     requires taken { HasTakenPivots peeled.now recorded.now }
     requires place { place < length peeled.now.peeling.rows }

@@ -1,9 +1,9 @@
--- What the loops keep in `pi_solver::fourth_phase::sparsify::sparsify_rows`.
+-- What the loops keep in `pi_solver::third_phase::sparsify_rows`.
 use Rattle.std.proofs.Common.{◌≡◌, ℕ, ◌+◌, ◌-◌, ◌*◌, ◌<◌, ◌≤◌, true, false, get_or, length}
 use Rattle.rq_algebra.specs.Systems.{at}
-use Rattle.rq_solver.specs.FourthPhase.{Sparsifies}
+use Rattle.rq_solver.specs.ThirdPhase.{Sparsifies}
 use Rattle.rq_elimination.specs.OperationCounts.{additions}
-use Rattle.rq_solver.proofs.pi_solver.fourth_phase.sparsify.sparsify_rows.Given as goal
+use Rattle.rq_solver.proofs.pi_solver.third_phase.sparsify_rows.Given as goal
 
 abbrev pub invariant-loop-done : goal.invariant-loop-done
 invariant-loop-done l = record {

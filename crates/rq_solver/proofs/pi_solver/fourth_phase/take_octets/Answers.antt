@@ -1,8 +1,8 @@
--- What the check leaves to show of `pi_solver::fourth_phase::clear_inactive::take_octets`.
+-- What the check leaves to show of `pi_solver::fourth_phase::take_octets`.
 use Rattle.std.proofs.Common.{◌≡◌, ℕ, ◌<◌, ◌≤◌, sym, ap, ◌∙◌, arith}
 use Rattle.rq_parts.specs.DenseOctetMatrix.{entry_of}
 use Rattle.rq_solver.proofs.Substitution.{reduced_none, reduced_next}
-use Rattle.rq_solver.proofs.pi_solver.fourth_phase.clear_inactive.take_octets.Goals as goal
+use Rattle.rq_solver.proofs.pi_solver.fourth_phase.take_octets.Goals as goal
 
 pub loop-column-init : goal.loop-column-init
 loop-column-init c = record {

@@ -1,8 +1,8 @@
--- What the loop keeps in `pi_solver::fourth_phase::redo_additions::redo_additions`.
+-- What the loop keeps in `pi_solver::redo_additions::redo_additions`.
 use Rattle.std.proofs.Common.{◌+◌, ◌-◌, ◌≤◌}
 use Rattle.std.specs.List.{slice_range}
 use Rattle.rq_elimination.specs.OperationCounts.{additions}
-use Rattle.rq_solver.proofs.pi_solver.fourth_phase.redo_additions.redo_additions.Given as goal
+use Rattle.rq_solver.proofs.pi_solver.redo_additions.redo_additions.Given as goal
 
 abbrev pub invariant-loop-place : goal.invariant-loop-place
 invariant-loop-place g l = record {

@@ -1,9 +1,9 @@
--- What the loops keep in `pi_solver::fourth_phase::clear_inactive::take_octets`.
+-- What the loops keep in `pi_solver::fourth_phase::take_octets`.
 use Rattle.std.proofs.Common.{◌+◌, ◌-◌, ◌≤◌}
 use Rattle.rq_parts.specs.DenseOctetMatrix.{entry_of}
 use Rattle.rq_solver.specs.SecondPhase.{ClearsColumns}
 use Rattle.rq_elimination.specs.OperationCounts.{additions}
-use Rattle.rq_solver.proofs.pi_solver.fourth_phase.clear_inactive.take_octets.Given as goal
+use Rattle.rq_solver.proofs.pi_solver.fourth_phase.take_octets.Given as goal
 
 abbrev pub invariant-loop-column : goal.invariant-loop-column
 invariant-loop-column l = record {

@@ -1,4 +1,4 @@
--- What the check leaves to show of `pi_solver::fourth_phase::clear_inactive::clear_inactive`.
+-- What the check leaves to show of `pi_solver::fourth_phase::clear_inactive`.
 use Rattle.rq_solver.proofs.FinishedPivots.{finish_none, finish_plain, finish_again}
 use Rattle.std.proofs.Common.{◌≡◌, ◌≢◌, ◌+◌, ◌-◌, ◌<◌, ℕ, length, arith}
 use Rattle.std.proofs.lemmas.List.{get_or_read}
@@ -8,8 +8,8 @@ use Rattle.rq_solver.specs.PivotAdditions.{PivotsHaveTaken}
 use Rattle.rq_solver.proofs.CountLaws.{one_turn_more}
 use Rattle.rq_elimination.proofs.Performing.{logs_recorded}
 use Rattle.rq_solver.proofs.TakenAgain.{pivots_stay, sums_between, taken_between}
-use Rattle.rq_solver.proofs.pi_solver.fourth_phase.clear_inactive.clear_inactive.Goals as goal
-use Rattle.rq_solver.proofs.pi_solver.fourth_phase.clear_inactive.clear_inactive.Goals.{In_ok-clear_columns, then-sparse-place+in_ok-redo_additions, else-sparse-place}
+use Rattle.rq_solver.proofs.pi_solver.fourth_phase.clear_inactive.Goals as goal
+use Rattle.rq_solver.proofs.pi_solver.fourth_phase.clear_inactive.Goals.{In_ok-clear_columns, then-sparse-place+in_ok-redo_additions, else-sparse-place}
 
 pub loop-place-init : goal.loop-place-init
 loop-place-init c = record {

@@ -1,11 +1,11 @@
--- What the check leaves to show of `pi_solver::fourth_phase::redo_additions::redo_additions`.
+-- What the check leaves to show of `pi_solver::redo_additions::redo_additions`.
 use Rattle.std.proofs.Common.{◌≡◌, [], ◌∷◌, sym, ◌∙◌, arith}
 use Rattle.std.proofs.lemmas.Option.{none-some, same_Some}
 use Rattle.rq_algebra.specs.Operations.{AddAssign}
 use Rattle.rq_peeling.proofs.ListParts.{range_none}
 use Rattle.rq_solver.proofs.TakenAgain.{next_sum}
-use Rattle.rq_solver.proofs.pi_solver.fourth_phase.redo_additions.redo_additions.Goals as goal
-use Rattle.rq_solver.proofs.pi_solver.fourth_phase.redo_additions.redo_additions.Goals.{After-source, in-Some+in_ok-redo, in_default}
+use Rattle.rq_solver.proofs.pi_solver.redo_additions.redo_additions.Goals as goal
+use Rattle.rq_solver.proofs.pi_solver.redo_additions.redo_additions.Goals.{After-source, in-Some+in_ok-redo, in_default}
 
 pub loop-place-init : goal.loop-place-init
 loop-place-init g c = record {

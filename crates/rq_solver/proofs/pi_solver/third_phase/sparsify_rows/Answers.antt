@@ -1,4 +1,4 @@
--- What the check leaves to show of `pi_solver::fourth_phase::sparsify::sparsify_rows`.
+-- What the check leaves to show of `pi_solver::third_phase::sparsify_rows`.
 use Rattle.std.proofs.Common.{◌≡◌, ◌≢◌, ℕ, ◌+◌, ◌-◌, ◌<◌, ◌≤◌, List, Bool, true, false, get_or, set, length, sym, ◌∙◌, ap, arith, inl, inr}
 use Rattle.std.proofs.lemmas.Bool.{cases_eq}
 use Rattle.std.proofs.lemmas.List.{get_or-set_same, get_or-set_other, get_or_read}
@@ -7,8 +7,8 @@ use Rattle.rq_solver.proofs.CountLaws.{one_turn_more}
 use Rattle.rq_solver.proofs.FinishedPivots.{sparsifies_none, back_skipped, back_taken}
 use Rattle.rq_elimination.proofs.Performing.{logs_performed}
 use Rattle.rq_solver.proofs.TakenAgain.{pivots_stay, sums_between, taken_between, taken_stays}
-use Rattle.rq_solver.proofs.pi_solver.fourth_phase.sparsify.sparsify_rows.Goals as goal
-use Rattle.rq_solver.proofs.pi_solver.fourth_phase.sparsify.sparsify_rows.Goals.{then-saves+in_ok-redo_additions, else-saves}
+use Rattle.rq_solver.proofs.pi_solver.third_phase.sparsify_rows.Goals as goal
+use Rattle.rq_solver.proofs.pi_solver.third_phase.sparsify_rows.Goals.{then-saves+in_ok-redo_additions, else-saves}
 
 pub loop-done-init : goal.loop-done-init
 loop-done-init c =
