@@ -14,6 +14,9 @@ use rq_base::base::{ObjectTransmissionInformation, partition};
 use rq_bytes::symbol_slab::SymbolSlab;
 use std::alloc::{AllocError, Global};
 
+// How many bytes are copied at once.
+const PIECE: usize = 2048;
+
 /// The size of the sub-block that has this byte of a symbol, in bytes.
 pub(crate) fn sub_block_size(config: &ObjectTransmissionInformation, byte: usize) -> usize
     requires { 0 < config.now.alignment }
@@ -47,8 +50,22 @@ fn append_padded(
     let start = place.min(block.len());
     let end = (place + width).min(block.len());
     let whole = symbol.len() + width;
-    symbol.extend_from_slice(&block[start..end])?;
+    extend_by_pieces(symbol, &block[start..end])?;
     symbol.resize(whole, 0)
+}
+
+// Appends bytes, a piece at a time: a call that moves many more is slower in the C library.
+fn extend_by_pieces(bytes: &mut Vec<u8>, more: &[u8]) -> Result<(), AllocError>
+    ensures all { OnOk result (bytes.new.items ≡ bytes.old.items ++ more.now) }
+    ensures begun { OnErr result (KeepsFront bytes.old.items bytes.new.items) }
+{
+    let mut start = 0;
+    while start < more.len() {
+        let end = start + PIECE.min(more.len() - start);
+        bytes.extend_from_slice(&more[start..end])?;
+        start = end;
+    }
+    Ok(())
 }
 
 // The bytes that a sub-block has of each symbol: `width` of them from `start` on.
