@@ -111,7 +111,7 @@ pub by_phases : (a b d e f h : ℕ) → a ≡ e → b ≡ f → d ≡ h → a �
 by_phases a b d e f h first second fourth = ap (λ (n : ℕ). n ∷ b ∷ 0 ∷ d ∷ 0 ∷ []) first ∙ ap (λ (n : ℕ). e ∷ n ∷ 0 ∷ d ∷ 0 ∷ []) second ∙ ap (λ (n : ℕ). e ∷ f ∷ 0 ∷ n ∷ 0 ∷ []) fourth
 
 -- what a phase recorded ends where the next begins
-pub outcome_in_order : (system : System) (outcome : PhaseOutcome) → RunsPhases system outcome → AreInOrder outcome.ends (length outcome.recorded)
+pub outcome_in_order : (system : System) (outcome : PhaseOutcome) → RunsPhases system outcome → AreInOrder outcome.ends (length outcome.operations)
 outcome_in_order system outcome runs =
     let ran = runs.4 in
     rw runs.3 (ends_in_order runs.0 ran.before runs.1 ran.first runs.2 outcome.ends (found_of outcome.order) ran.later)
@@ -124,16 +124,16 @@ of_ordered recorded (Some rows) P p = p rows.items
 
 -- a solver that shows the counts of what the phases recorded over its equations counts the operations that it answers
 pub counts_operations : (old new : Solver) (found : PhaseOutcome) (counts : OperationCounts) (answer : Option (List Operation)) → RunsOverEquations old found
-    → AreCountsOf found.ends found.recorded counts → new.additions ≡ counts.additions.first ∷ counts.additions.second ∷ 0 ∷ counts.additions.fourth ∷ 0 ∷ []
+    → AreCountsOf found.ends found.operations counts → new.additions ≡ counts.additions.first ∷ counts.additions.second ∷ 0 ∷ counts.additions.fourth ∷ 0 ∷ []
     → new.multiplications ≡ counts.multiplications.first ∷ counts.multiplications.second ∷ 0 ∷ counts.multiplications.fourth ∷ 0 ∷ []
     → answer ≡ in_row_order found → CountsOperations old new answer
 counts_operations old new found counts answer runs are added multiplied is =
     let in_order = outcome_in_order runs.system found runs.phases in
     let a = are.additions_are in
     let m = are.multiplications_are in
-    let totals : (rows : List ℕ) → AreTotalsOf counts (found.recorded ++ Reorder rows ∷ []) = λ rows.
-    totals_of found.ends (found.recorded ++ Reorder rows ∷ []) counts (longer_in_order found.recorded rows found.ends in_order)
-    (counts_with_order found.recorded rows found.ends in_order counts are) in
+    let totals : (rows : List ℕ) → AreTotalsOf counts (found.operations ++ Reorder rows ∷ []) = λ rows.
+    totals_of found.ends (found.operations ++ Reorder rows ∷ []) counts (longer_in_order found.operations rows found.ends in_order)
+    (counts_with_order found.operations rows found.ends in_order counts are) in
     rw is (record {
       found = found;
       runs = runs;
@@ -141,8 +141,8 @@ counts_operations old new found counts answer runs are added multiplied is =
       in_order = in_order;
       added = added ∙ by_phases _ _ _ _ _ _ a.first a.second a.fourth;
       multiplied = multiplied ∙ by_phases _ _ _ _ _ _ m.first m.second m.fourth;
-      additions_are = of_ordered found.recorded (found_of found.order) _ (λ rows. let t = (totals rows).additions_are in rw added (omega (arith, t)));
-      multiplications_are = of_ordered found.recorded (found_of found.order) _
+      additions_are = of_ordered found.operations (found_of found.order) _ (λ rows. let t = (totals rows).additions_are in rw added (omega (arith, t)));
+      multiplications_are = of_ordered found.operations (found_of found.order) _
           (λ rows. let t = (totals rows).multiplications_are in rw multiplied (omega (arith, t)));
     })
 

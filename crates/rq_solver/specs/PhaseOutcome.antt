@@ -25,7 +25,7 @@ use Rattle.rq_solver.specs.declared.pi_solver.phase_outcome.PhaseOutcome.{PhaseO
 
 -- what was recorded and then puts the rows in order, where they are solved
 abbrev pub in_row_order : PhaseOutcome → Option (List Operation)
-in_row_order outcome = then_ordered outcome.recorded (found_of outcome.order)
+in_row_order outcome = then_ordered outcome.operations (found_of outcome.order)
 
 -- Columns that were left got pivots in rows of least degree of a system, the first phase cleared them, the others went on from there, and each
 -- recorded the operations up to its end.
@@ -46,7 +46,7 @@ pub record RunsOverSystem
 -- the phases ran over a system, one after another, and ended so
 abbrev pub RunsPhases : System → PhaseOutcome → Type 0
 RunsPhases system outcome =
-    (p : Peeled) × (left : List ℕ) × (last : RecordedRows) × (outcome.recorded ≡ last.operations)
+    (p : Peeled) × (left : List ℕ) × (last : RecordedRows) × (outcome.operations ≡ last.operations)
     × RunsOverSystem system p left last (outcome.ends, found_of outcome.order)
 
 -- The phases ran over the system of these rows and columns: the rows from `first_hdpc` on are HDPC rows, and the first columns are those of
@@ -75,12 +75,12 @@ pub record CountsOperations (old new : Solver) (answer : Option (List Operation)
   pub found : PhaseOutcome
   pub runs : RunsOverEquations old found
   pub answers : answer ≡ in_row_order found
-  pub in_order : AreInOrder found.ends (length found.recorded)
+  pub in_order : AreInOrder found.ends (length found.operations)
   pub added :
-      new.additions ≡ additions (first_of found.ends found.recorded) ∷ additions (second_of found.ends found.recorded) ∷ 0
-      ∷ additions (fourth_of found.ends found.recorded) ∷ 0 ∷ []
+      new.additions ≡ additions (first_of found.ends found.operations) ∷ additions (second_of found.ends found.operations) ∷ 0
+      ∷ additions (fourth_of found.ends found.operations) ∷ 0 ∷ []
   pub multiplied :
-      new.multiplications ≡ multiplications (first_of found.ends found.recorded) ∷ multiplications (second_of found.ends found.recorded) ∷ 0
-      ∷ multiplications (fourth_of found.ends found.recorded) ∷ 0 ∷ []
+      new.multiplications ≡ multiplications (first_of found.ends found.operations) ∷ multiplications (second_of found.ends found.operations) ∷ 0
+      ∷ multiplications (fourth_of found.ends found.operations) ∷ 0 ∷ []
   pub additions_are : IfSome answer (λ operations. sum new.additions ≡ additions operations)
   pub multiplications_are : IfSome answer (λ operations. sum new.multiplications ≡ multiplications operations)

@@ -10,13 +10,13 @@ ghost use Rattle.rq_solver.specs.Solving.{AreEquations, AreEquationsWithoutHdpc,
 
 mod first_phase;
 mod fourth_phase;
+mod homogeneous_solution;
 mod peeled;
 mod phase_outcome;
 mod phases;
 mod redo_additions;
 mod second_phase;
 mod solved;
-mod stuck_column;
 mod third_phase;
 
 use phase_outcome::PhaseOutcome;
@@ -208,7 +208,7 @@ impl<T: BinaryMatrix> IntermediateSymbolDecoder<T> {
             return Err(Error::AlreadyExecuted);
         };
         let found = self.solve_equations()?;
-        self.counts = found.recorded.counts(found.ends);
+        self.counts = found.operations.counts(found.ends);
         let Some(operations) = found.in_row_order().determined() else {
             return Ok(None);
         };
@@ -273,7 +273,7 @@ impl<T: BinaryMatrix> IntermediateSymbolDecoder<T> {
     fn solve_equations(&self) -> Result<PhaseOutcome, AllocError>
         ensures found { let s = solver_state self.now in IfOk result (λ found. SolvesRows s.height s.width s.rows (in_row_order found)) }
         ensures phases { IfOk result (RunsOverEquations (solver_state self.now)) }
-        ensures few { IfOk result (λ found. additions found.recorded ≤ 2 * (solver_state self.now).width * (solver_state self.now).height) }
+        ensures few { IfOk result (λ found. additions found.operations ≤ 2 * (solver_state self.now).width * (solver_state self.now).height) }
     {
         run_phases(self.alloc, self.to_system()?)
     }

@@ -11,7 +11,7 @@ use rq_operations::recorded::RecordedOperations;
 /// leave the column that solves them, or else a column that shows that they don't determine one.
 #[derive(Drop)]
 pub(super) struct PhaseOutcome {
-    pub recorded: OperationList,
+    pub operations: OperationList,
     pub ends: PhaseEnds,
     pub order: Solved<Vec<usize>>,
 }
@@ -27,13 +27,13 @@ impl PhaseOutcome {
         ensures shown { shown_of result ≡ shown_of self.order }
     {
         let PhaseOutcome {
-            recorded,
+            operations,
             order,
             ..
         } = self;
         match order {
             Solved::Determined(rows) => {
-                Solved::Determined(RecordedOperations::new(recorded.into_steps(), rows))
+                Solved::Determined(RecordedOperations::new(operations.into_steps(), rows))
             }
             Solved::Undetermined(column) => Solved::Undetermined(column),
         }

@@ -13,12 +13,12 @@ ghost use Rattle.rq_solver.specs.Solved.{shown_of};
 
 use super::first_phase::first_phase;
 use super::fourth_phase::clear_inactive;
-use super::third_phase::sparsify;
+use super::homogeneous_solution::homogeneous_solution;
 use super::peeled::{Peeled, row_at};
 use super::phase_outcome::PhaseOutcome;
 use super::second_phase::{back_substitute, eliminate};
 use super::solved::Solved;
-use super::stuck_column::stuck_column;
+use super::third_phase::sparsify;
 use rq_elimination::counts::PhaseEnds;
 use rq_elimination::recorded::RecordedRows;
 use rq_peeling::peeling::{Peeling, peel};
@@ -30,21 +30,21 @@ pub(super) fn run_phases(alloc: Global, system: System) -> Result<PhaseOutcome, 
     ensures found { IfOk result (λ outcome. SolvesSystem system (in_row_order outcome)) }
     ensures shown { IfOk result (λ outcome. IfSome (shown_of outcome.order) (λ column. ShowsSystem system column.items)) }
     ensures phases { IfOk result (RunsPhases system) }
-    ensures few { IfOk result (λ outcome. additions outcome.recorded ≤ 2 * system.width * length system.ones) }
+    ensures few { IfOk result (λ outcome. additions outcome.operations ≤ 2 * system.width * length system.ones) }
 {
     let peeling = peel(alloc, &system)?;
     let (peeled, mut left, mut recorded) = first_phase(alloc, system, peeling)?;
     let (ends, order) = later_phases(alloc, &peeled, left.as_mut_slice(), &mut recorded)?;
     let Some(order) = order else {
-        let column = stuck_column(alloc, &peeled, left.as_slice(), &recorded);
+        let column = homogeneous_solution(alloc, &peeled, left.as_slice(), &recorded);
         return Ok(PhaseOutcome {
-            recorded: recorded.operations,
+            operations: recorded.operations,
             ends,
             order: Solved::Undetermined(column.ok()),
         });
     };
     Ok(PhaseOutcome {
-        recorded: recorded.operations,
+        operations: recorded.operations,
         ends,
         order: Solved::Determined(order),
     })

@@ -6,8 +6,8 @@ ghost use Rattle.rq_elimination.specs.RecordedRows.{AddsAtMost};
 ghost use Rattle.rq_solver.specs.ThirdPhase.{Sparsifies, TookAtMost};
 ghost use Rattle.rq_solver.specs.Peeled.{HasTakenPivots};
 
-use super::redo_additions::{OnRows, redo_additions};
 use super::peeled::Peeled;
+use super::redo_additions::{OnRows, redo_additions};
 use rq_elimination::recorded::RecordedRows;
 use std::alloc::{AllocError, Global};
 

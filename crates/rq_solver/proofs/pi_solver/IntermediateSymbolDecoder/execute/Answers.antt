@@ -49,5 +49,5 @@ pub invariant_of-self-2-clause-few_additions : goal.invariant_of-self-2-clause-f
 invariant_of-self-2-clause-few_additions g c =
     let found = c.in_ok-found.found in
     let in_order = outcome_in_order c.in_ok-found.ensures.phases.system found c.in_ok-found.ensures.phases.phases in
-    let totals = totals_of found.ends found.recorded c.counts-self.result in_order c.counts-self.ensures in
+    let totals = totals_of found.ends found.operations c.counts-self.result in_order c.counts-self.ensures in
     omega (arith, totals.additions_are, c.in_ok-found.ensures.few)

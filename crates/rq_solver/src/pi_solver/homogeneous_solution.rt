@@ -20,7 +20,7 @@ use std::alloc::{AllocError, Global};
 /// A column that isn't all zeros and solves the rows with zeros as values. It has 1 in the first
 /// inactive column without a pivot, and zeros in those behind it. Those before it and then the pivots'
 /// columns are found by substitution.
-pub(super) fn stuck_column(
+pub(super) fn homogeneous_solution(
     alloc: Global,
     peeled: &Peeled,
     left: &[usize],
