@@ -180,7 +180,10 @@ fn block_encoders(
     let mut blocks = BlockwiseEncoder::new(alloc, table, object, config)?;
     let mut encoders = Vec::with_capacity(alloc, usize::from(config.source_blocks()))?;
     for number in 0..config.source_blocks() {
-        encoders.push(blocks.next_encoder(number)?)?;
+        let block = blocks.next_block(number)?;
+        let encoder =
+            SourceBlockEncoder::of_block(alloc, number, blocks.config, block, &blocks.plan)?;
+        encoders.push(encoder)?;
     }
     Ok(encoders)
 }

@@ -1,18 +1,16 @@
 //! An object is cut into its source blocks, which are encoded one after another (RFC 6330, section
 //! 4.4.1.2).
-ghost use Rattle.std.specs.Prelude.{◌≡◌, ◌<◌, length, IfOk, IfErr, OnOk};
+ghost use Rattle.std.specs.Prelude.{◌≡◌, ◌<◌, IfOk, IfErr, OnOk};
 ghost use Rattle.rq_standard.specs.Configuration.{IsAccepted, largest_block};
 ghost use Rattle.rq_standard.specs.Cutting.{block_symbols};
 ghost use Rattle.rq_standard.specs.Headline.{HasNonsingularRows, IsNonsingular, block_row};
 ghost use Rattle.rq_standard.specs.TableRows.{greatest_size, row_of};
 ghost use Rattle.rq_block.specs.BlockData.{block_by_plan, IsPlanFor};
-ghost use Rattle.rq_block.specs.BorrowedBlock.{borrowed_of};
-ghost use Rattle.rq_block.specs.SourceBlockEncoder.{block_encoded_of};
 ghost use Rattle.rq_block.specs.SourceBlockEncodingPlan.{plan_of};
 
 use crate::blocks::block_symbols;
 use rq_base::base::ObjectTransmissionInformation;
-use rq_block::encoder::{BorrowedBlock, SourceBlockEncoder, SourceBlockEncodingPlan};
+use rq_block::encoder::SourceBlockEncodingPlan;
 use rq_bytes::error::Error;
 use rq_tables::systematic_constants::SystematicTable;
 use std::alloc::Global;
@@ -20,11 +18,11 @@ use std::alloc::Global;
 /// What is left of an object, and the last block's plan: blocks of one size share it.
 #[derive(Drop)]
 pub(super) struct BlockwiseEncoder<'a> {
-    alloc: Global,
+    pub(super) alloc: Global,
     pub(super) table: &'a SystematicTable,
     pub(super) config: &'a ObjectTransmissionInformation,
     rest: &'a [u8],
-    plan: SourceBlockEncodingPlan,
+    pub(super) plan: SourceBlockEncodingPlan,
     pub ghost accepted: { IsAccepted (greatest_size table.now) config.now },
     pub ghost few: { largest_block config.now < 65536 },
     pub ghost planned: { (plan_of plan).row ≡ row_of table.now (plan_of plan).count },
@@ -58,44 +56,9 @@ impl<'a> BlockwiseEncoder<'a> {
         })
     }
 
-    /// Encodes the block with this number, which comes next.
-    pub(super) fn next_encoder(&mut self, number: u8) -> Result<SourceBlockEncoder, Error>
-        requires { number < self.old.config.now.source_blocks }
-        ensures encoded { IfOk result (λ encoder. CutsBlock number self.old (block_encoded_of encoder) self.new) }
-        ensures nonsingular { OnOk result (IsNonsingular (block_row self.old.table.now self.old.config.now number)) }
-        ensures table { self.new.table ≡ self.old.table }
-        ensures config { self.new.config ≡ self.old.config }
-        ensures refused { IfErr result (RefusesRows self.old.table.now self.old.config.now) }
-    {
-        let block = self.next_block(number)?;
-        let encoder = SourceBlockEncoder::of_block(
-            self.alloc,
-            number,
-            self.config,
-            block,
-            &self.plan,
-        )?;
-        Ok(encoder)
-    }
-
-    /// Encodes the block with this number, which comes next, without a copy of its symbols.
-    pub(super) fn next_borrowed(&mut self, number: u8) -> Result<BorrowedBlock<'a>, Error>
-        requires { number < self.old.config.now.source_blocks }
-        ensures encoded { IfOk result (λ block. CutsBlock number self.old (borrowed_of block) self.new) }
-        ensures symbols { IfOk result (λ block. length (borrowed_of block).source ≡ block_symbols self.old.config.now number) }
-        ensures nonsingular { OnOk result (IsNonsingular (block_row self.old.table.now self.old.config.now number)) }
-        ensures table { self.new.table ≡ self.old.table }
-        ensures config { self.new.config ≡ self.old.config }
-        ensures refused { IfErr result (RefusesRows self.old.table.now self.old.config.now) }
-    {
-        let block = self.next_block(number)?;
-        let borrowed = BorrowedBlock::new(self.alloc, number, self.config, block, &self.plan)?;
-        Ok(borrowed)
-    }
-
-    // Cuts the bytes of the block with this number, which comes next, off what is left of the object,
-    // and makes a plan for it, unless the last one is.
-    fn next_block(&mut self, number: u8) -> Result<&'a [u8], Error>
+    /// Cuts the bytes of the block with this number, which comes next, off what is left of the object,
+    /// and makes a plan for it, unless the last one is.
+    pub(super) fn next_block(&mut self, number: u8) -> Result<&'a [u8], Error>
         requires { number < self.old.config.now.source_blocks }
         ensures cut { IfOk result (λ block. CutsBlock number self.old (block_by_plan (plan_of self.new.plan) self.old.config.now number block.now) self.new) }
         ensures count { OnOk result ((plan_of self.new.plan).count ≡ block_symbols self.old.config.now number) }

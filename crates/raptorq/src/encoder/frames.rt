@@ -10,6 +10,7 @@ ghost use Rattle.raptorq.specs.Encoder.{packets_length, packets_refusal};
 use crate::blocks::check_repair;
 use crate::encoder::blockwise_encoder::BlockwiseEncoder;
 use rq_base::base::ObjectTransmissionInformation;
+use rq_block::encoder::BorrowedBlock;
 use rq_bytes::error::Error;
 use rq_tables::systematic_constants::SystematicTable;
 use std::alloc::Global;
@@ -70,8 +71,10 @@ fn append_blocks(
 {
     let count = blocks.config.source_blocks();
     for number in 0..count {
-        let block = blocks.next_borrowed(number)?;
-        block.append_packets(block.source_symbol_count() + repair, bytes)?;
+        let block = blocks.next_block(number)?;
+        let borrowed =
+            BorrowedBlock::new(blocks.alloc, number, blocks.config, block, &blocks.plan)?;
+        borrowed.append_packets(borrowed.source_symbol_count() + repair, bytes)?;
     }
     Ok(())
 }
