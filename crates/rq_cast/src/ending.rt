@@ -28,16 +28,20 @@ pub enum ProgramEnd {
 pub fn announce<W: Write>(sender: &Sender, out: &mut W) -> io::Result<()> {
     let head = sender.head();
     write!(out, "name ")?;
-    for byte in head.name {
-        write!(out, "{byte:02x}")?;
-    }
-    for byte in head.configuration.serialize() {
-        write!(out, "{byte:02x}")?;
-    }
+    write_hexadecimal(&head.name, out)?;
+    write_hexadecimal(&head.configuration.serialize(), out)?;
     writeln!(out, "")?;
     let blocks = head.configuration.source_blocks();
     writeln!(out, "blocks {blocks} of {}", sender.largest_block())?;
     writeln!(out, "cells {}", sender.cells())
+}
+
+// Writes two hexadecimal digits for each byte.
+fn write_hexadecimal<W: Write>(bytes: &[u8], out: &mut W) -> io::Result<()> {
+    for byte in bytes {
+        write!(out, "{:02x}", *byte)?;
+    }
+    Ok(())
 }
 
 /// Writes the lines that say how the program ended, and answers its status. A failed write is ignored.
