@@ -14,7 +14,8 @@ use rq_base::base::{ObjectTransmissionInformation, partition};
 use rq_bytes::symbol_slab::SymbolSlab;
 use std::alloc::{AllocError, Global};
 
-// How many bytes are copied at once.
+// How many bytes one call copies at most: in longer ones the GNU C library for x86-64 uses an
+// instruction that is slower.
 const PIECE: usize = 2048;
 
 /// The size of the sub-block that has this byte of a symbol, in bytes.
@@ -54,7 +55,7 @@ fn append_padded(
     symbol.resize(whole, 0)
 }
 
-// Appends bytes, a piece at a time: a call that moves many more is slower in the C library.
+// Appends bytes, a piece at a time.
 fn extend_by_pieces(bytes: &mut Vec<u8>, more: &[u8]) -> Result<(), AllocError>
     ensures all { OnOk result (bytes.new.items ≡ bytes.old.items ++ more.now) }
     ensures begun { OnErr result (KeepsFront bytes.old.items bytes.new.items) }

@@ -87,8 +87,8 @@ fn count_steps(steps: &[Step]) -> (u64, u64)
 }
 
 /// Where the stretches of operations end that the phases record, one behind the other (RFC 6330,
-/// sections 5.4.2.2 to 5.4.2.6). The third's stands between the two of the second, and is counted as the
-/// fourth's, as the fifth's work is, which ends with the list.
+/// sections 5.4.2.2 to 5.4.2.6). The third's stands between the two of the second. The last is the
+/// fourth's, with the fifth's in it, and ends with the list.
 #[derive(Clone, Copy)]
 pub struct PhaseEnds {
     /// The end of the first phase.

@@ -1,5 +1,5 @@
--- The fourth phase: the pivots' rows get zeros in the inactive columns. In turn, and this is the fifth, those that were made sparse take the pivots' rows again.
-use Rattle.std.specs.Prelude.{◌≡◌, ℕ, ◌+◌, ◌-◌, ◌*◌, ◌<◌, ◌≤◌, Bool, true, false, List, length, slice_index_or}
+-- The fourth phase: the pivots' rows get zeros in the inactive columns. Those made sparse then take rows again, which is the fifth.
+use Rattle.std.specs.Prelude.{◌≡◌, ℕ, ◌+◌, ◌*◌, ◌<◌, Bool, List, length}
 use Rattle.rq_algebra.specs.Systems.{at}
 use Rattle.rq_parts.specs.DenseOctetMatrix.{OctetTable, entry_of}
 use Rattle.rq_peeling.specs.Peeling.{Pivots}

@@ -70,7 +70,7 @@ abbrev pub answered_operations : Option (Slab × Vec SymbolOps Global) → Optio
 answered_operations answer = option_map (λ found. map operation_of found.1.items) answer
 
 -- A solver that has run answers the operations that the phases found. Each phase's counts are those of the stretches that it recorded:
--- the first one, then two of the second phase and two of the fourth in turn.
+-- the first's, then two of the second phase and in turn the third's and the fourth's, which are both counted as the fourth's.
 pub record CountsOperations (old new : Solver) (answer : Option (List Operation)) : Type 0 where
   pub found : PhaseOutcome
   pub runs : RunsOverEquations old found

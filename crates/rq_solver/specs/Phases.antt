@@ -65,7 +65,7 @@ pub record LacksPivots (p : Peeled) (before after : List ℕ) (old new : Recorde
         substituted = length new.operations;
       }
 
--- The second phase worked on the rows that are left among themselves until each inactive column had its pivot in one of them. The fourth
+-- The second phase worked on the rows that are left among themselves until each inactive column had its pivot in one of them. The third
 -- made some of the pivots' rows sparse, the second substituted back, and the fourth cleared the inactive columns. What each recorded stands
 -- between its ends.
 pub record SolvesInactive (p : Peeled) (before after : List ℕ) (old new : RecordedRows) (ends : PhaseEnds) : Type 0 where

@@ -8,16 +8,16 @@ use Rattle.rq_solver.specs.PivotAdditions.{IsCleared, IsUncleared}
 use Rattle.rq_solver.specs.TakenSteps.{TakesSteps}
 use Rattle.rq_solver.specs.declared.pi_solver.peeled.Peeled.{Peeled}
 
--- each row with a mark took `limit` rows at most
-abbrev pub TookAtMost : ℕ → List Bool → List ℕ → Type 0
-TookAtMost limit marks bounds = (p : ℕ) → p < length marks → slice_index_or marks p false ≡ true → at bounds (p + 1) - at bounds p ≤ limit
-
 -- the row of a pivot has a mark, or has none
 abbrev pub HasMark : List Bool → ℕ → Type 0
 HasMark marks p = slice_index_or marks p false ≡ true
 
 abbrev pub HasNoMark : List Bool → ℕ → Type 0
 HasNoMark marks p = slice_index_or marks p false ≡ false
+
+-- each row with a mark took `limit` rows at most
+abbrev pub TookAtMost : ℕ → List Bool → List ℕ → Type 0
+TookAtMost limit marks bounds = (p : ℕ) → p < length marks → HasMark marks p → at bounds (p + 1) - at bounds p ≤ limit
 
 -- the row of one of the pivots from place `low` on, which has a mark
 abbrev pub IsMarkedFrom : Pivots → List Bool → ℕ → ℕ → Type 0

@@ -21,7 +21,7 @@ impl PhaseOutcome {
     ghost use Rattle.rq_solver.specs.Solved.{found_of, shown_of};
 
     /// The operations that take values of the rows to the column that solves the rows with them, or else
-    /// the column that shows that there are none.
+    /// a column that shows that there are none, if there was memory for it.
     pub(super) fn in_row_order(self) -> Solved<RecordedOperations>
         ensures found { option_map operations_of (found_of result) ≡ in_row_order self }
         ensures shown { shown_of result ≡ shown_of self.order }

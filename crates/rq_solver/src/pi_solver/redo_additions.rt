@@ -61,7 +61,7 @@ impl Redo for OnRows {
     ghost height = { λ steps old new done. done.height };
 }
 
-/// An addition is recorded for the symbols alone: no entry of the row is read any more.
+/// An addition is recorded for the symbols alone: the row's stored entries stay as they are.
 #[derive(Drop)]
 pub(super) struct OnSymbols;
 

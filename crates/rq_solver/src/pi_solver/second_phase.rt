@@ -13,7 +13,7 @@ use rq_elimination::pivot_search::find_pivot;
 use rq_elimination::recorded::RecordedRows;
 use std::alloc::AllocError;
 
-/// Gives each of the `count` inactive columns a pivot: a row with 1 there, where the rows behind
+/// Gives each of the first `count` inactive columns a pivot: a row with 1 there, where the rows behind
 /// it have 0. Works on these rows alone. The list is put in the order of the pivots' columns. Where a
 /// column is left without a pivot the answer is false: those before it have theirs.
 pub(super) fn eliminate(
