@@ -181,8 +181,13 @@ fn block_encoders(
     let mut encoders = Vec::with_capacity(alloc, usize::from(config.source_blocks()))?;
     for number in 0..config.source_blocks() {
         let block = blocks.next_block(number)?;
-        let encoder =
-            SourceBlockEncoder::of_block(alloc, number, blocks.config, block, &blocks.plan)?;
+        let encoder = SourceBlockEncoder::of_block(
+            alloc,
+            number,
+            blocks.config,
+            block,
+            &blocks.plan,
+        )?;
         encoders.push(encoder)?;
     }
     Ok(encoders)

@@ -1,11 +1,19 @@
-//! Buffers of symbols, with the room that makes the next block's cheap.
+//! What suits the GNU C library's way with memory: results are the same without it.
 ghost use Rattle.std.specs.Prelude.{◌≡◌, ◌^◌, ◌<◌, ◌≤◌, [], IfOk};
 
 use std::alloc::{AllocError, Global};
 
+/// From how many bytes on a block takes over the buffer of its intermediate symbols: one of 32 MiB or
+/// more goes back to the system, and a smaller one is kept for the next block.
+pub(crate) const LARGE_BLOCK: usize = 1 << 25;
+
+/// How many bytes one call copies at most: in longer ones an instruction is used that is slower on
+/// x86-64.
+pub(crate) const PIECE: usize = 2048;
+
 /// An empty buffer with room for `count` symbols of `size` bytes, and for a block's source symbols
-/// beside them: an allocator that takes a buffer from the system and is handed it back then keeps as
-/// much for the next block, whose pages it needs not ask for anew.
+/// beside them: once such a buffer was taken from the system and handed back, as much is kept for the
+/// next block, whose pages aren't asked for anew.
 pub(crate) fn symbol_buffer(
     alloc: Global,
     count: usize,

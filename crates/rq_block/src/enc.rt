@@ -5,12 +5,9 @@ ghost use Rattle.rq_standard.specs.Equations.{tuple_sum};
 ghost use Rattle.rq_block.specs.BlockSolutions.{HasIntermediate};
 
 use rq_base::indices::Indices;
-use rq_bytes::symbol_slab::SymbolSlab;
+use rq_bytes::symbol_slab::{ADDED_AT_ONCE, SymbolSlab};
 use rq_tables::systematic_constants::CheckedRow;
 use std::alloc::{AllocError, Global};
-
-// How many intermediate symbols are listed before they are added: as many as one pass adds.
-const TERMS: usize = 8;
 
 /// The encoding symbol of an internal symbol id: the sum of the intermediate symbols at its indices
 /// (RFC 6330, section 5.3.5.3).
@@ -25,7 +22,8 @@ pub(crate) fn encoding_symbol(
 {
     let mut symbol = vec![in alloc; 0u8; intermediate.symbol_size()]?;
     let mut indices = Indices::of_id(row, internal_symbol_id);
-    let mut terms = [0; TERMS];
+    // As many are listed as one pass adds.
+    let mut terms = [0; ADDED_AT_ONCE];
     let mut count = next_terms(&mut indices, &mut terms);
     while count > 0 {
         intermediate.add_symbols_to(&terms[..count], symbol.as_mut_slice());

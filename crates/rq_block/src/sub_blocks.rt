@@ -8,15 +8,11 @@ ghost use Rattle.rq_block.specs.AppendedBlock.{KeepsFront};
 ghost use Rattle.rq_block.specs.SourceSymbols.{source_symbol};
 ghost use Rattle.rq_block.specs.SubBlocks.{AreSymbols, IsCutInto};
 
-use crate::buffer::symbol_buffer;
+use crate::buffer::{PIECE, symbol_buffer};
 use crate::decoder::source_symbols::SourceSymbols;
 use rq_base::base::{ObjectTransmissionInformation, partition};
 use rq_bytes::symbol_slab::SymbolSlab;
 use std::alloc::{AllocError, Global};
-
-// How many bytes one call copies at most: in longer ones the GNU C library for x86-64 uses an
-// instruction that is slower.
-const PIECE: usize = 2048;
 
 /// The size of the sub-block that has this byte of a symbol, in bytes.
 pub(crate) fn sub_block_size(config: &ObjectTransmissionInformation, byte: usize) -> usize

@@ -10,7 +10,7 @@ use crate::slices::range;
 use std::simd::prelude::*;
 
 /// How many rows are added at most in one pass.
-pub(crate) const ROWS: usize = 8;
+pub const ADDED_AT_ONCE: usize = 8;
 
 /// Adds several rows to a row, in one pass over it. It is compiled anew for each known number of them.
 #[inline(always)]
@@ -92,7 +92,7 @@ fn add_rows_beside<'a, const C: usize>(
     // A start behind the row is counted from `end` in one step, as that part was cut off, so that the
     // compiler sees that both branches find one address, and makes no choice between them.
     let end = front.len() + len;
-    let mut rows = [front; ROWS];
+    let mut rows = [front; ADDED_AT_ONCE];
     for i in 0..C {
         rows[i] = if starts[i] < front.len() {
             range(front, starts[i], len)

@@ -20,6 +20,7 @@ use crate::marks::marks_of;
 use crate::octet::Octet;
 use crate::octets;
 use crate::row_multiples::{add_row_multiple, multiply_row};
+pub use crate::row_sums::ADDED_AT_ONCE;
 use crate::slices::range;
 use crate::symbol::{Symbol, zeros};
 use crate::util::{get_range_pair, swap_ranges};

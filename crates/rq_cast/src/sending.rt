@@ -133,7 +133,8 @@ impl Sender {
         let packet = self
             .encoder
             .packet(PayloadId::new((number % blocks) as u8, id)?)?;
-        fill_cell(head, &packet, cell)
+        fill_cell(head, &packet, cell)?;
+        Ok(())
     }
 
     /// Writes its cells, one of each block for each id, and flushes then. Answers how many were lost.

@@ -8,7 +8,7 @@ ghost use Rattle.rq_cells.specs.Found.{has_head};
 use crate::head::{HEAD_LENGTH, Head, check_of};
 use rq_base::base::EncodingPacket;
 use rq_bytes::error::Error;
-use std::alloc::Global;
+use std::alloc::{AllocError, Global};
 
 // How many bytes stand behind a packet, by which damage shows.
 pub(crate) const CHECK_LENGTH: usize = 8;
@@ -52,18 +52,19 @@ impl Cell {
 
 /// Puts a cell into a buffer, in place of what it holds: the one of a packet behind the bytes of its
 /// object's head ([`Head::serialize`]). One buffer does for many cells, and the head is hashed once.
-/// Refuses [`Error::OutOfMemory`] alone.
-pub fn fill_cell(head: &[u8], packet: &EncodingPacket, bytes: &mut Vec<u8>) -> Result<(), Error>
-    ensures value { OnOk result (bytes.new.items ≡ with_check 8 (head.now ++ packet_bytes packet.now)) }
-    ensures memory { IfErr result (λ e. e ≡ Error.OutOfMemory) }
+pub fn fill_cell(
+    head: &[u8],
+    packet: &EncodingPacket,
+    bytes: &mut Vec<u8>,
+) -> Result<(), AllocError>
+    ensures { OnOk result (bytes.new.items ≡ with_check 8 (head.now ++ packet_bytes packet.now)) }
 {
     bytes.clear();
     bytes.extend_from_slice(head)?;
     bytes.extend_from_slice(&packet.payload_id().serialize())?;
     bytes.extend_from_slice(packet.data())?;
     let check: [u8; CHECK_LENGTH] = check_of(bytes.as_slice());
-    bytes.extend_from_slice(&check)?;
-    Ok(())
+    bytes.extend_from_slice(&check)
 }
 
 /// The cell whose bytes these begin with, if they do, where they begin with its head.

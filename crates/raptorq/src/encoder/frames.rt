@@ -72,8 +72,13 @@ fn append_blocks(
     let count = blocks.config.source_blocks();
     for number in 0..count {
         let block = blocks.next_block(number)?;
-        let borrowed =
-            BorrowedBlock::new(blocks.alloc, number, blocks.config, block, &blocks.plan)?;
+        let borrowed = BorrowedBlock::new(
+            blocks.alloc,
+            number,
+            blocks.config,
+            block,
+            &blocks.plan,
+        )?;
         borrowed.append_packets(borrowed.source_symbol_count() + repair, bytes)?;
     }
     Ok(())

@@ -5,7 +5,7 @@ ghost use Rattle.rq_bytes.specs.SymbolSlab.{after_all, HasPlace, Allows, with_sy
 
 use super::SymbolSlab;
 use crate::octets::add_assign;
-use crate::row_sums::{ROWS, add_ranges, add_rows};
+use crate::row_sums::{ADDED_AT_ONCE, add_ranges, add_rows};
 
 impl SymbolSlab {
     /// Adds several symbols to another one: in one pass over its octets where they are at most eight,
@@ -84,7 +84,7 @@ impl SymbolSlab {
         requires len { length row.old ≡ self.now.symbol_size }
         ensures { row.new ≡ with_symbols_added self.now row.old places.now }
     {
-        let mut rows = [self.data.as_slice(); ROWS];
+        let mut rows = [self.data.as_slice(); ADDED_AT_ONCE];
         for i in 0..C {
             rows[i] = self.get(places[i]);
         }

@@ -12,13 +12,11 @@ ghost use Rattle.rq_solver.specs.Phases.{AddsLater, FindsOrder, RunsLater, Shows
 ghost use Rattle.rq_solver.specs.Solved.{shown_of};
 
 use super::first_phase::first_phase;
-use super::fourth_phase::clear_inactive;
 use super::homogeneous_solution::homogeneous_solution;
 use super::peeled::{Peeled, row_at};
 use super::phase_outcome::PhaseOutcome;
-use super::second_phase::{back_substitute, eliminate};
 use super::solved::Solved;
-use super::third_phase::sparsify;
+use super::{fourth_phase, second_phase, third_phase};
 use rq_elimination::counts::PhaseEnds;
 use rq_elimination::recorded::RecordedRows;
 use rq_peeling::peeling::{Peeling, peel};
@@ -68,7 +66,7 @@ fn later_phases(
 {
     let inactive = peeled.peeling.width() - peeled.peeling.pivots();
     let cleared = recorded.operations.len();
-    let found = eliminate(recorded, left, inactive)?;
+    let found = second_phase::eliminate(recorded, left, inactive)?;
     let eliminated = recorded.operations.len();
     if !found {
         let ends = PhaseEnds {
@@ -79,11 +77,11 @@ fn later_phases(
         };
         return Ok((ends, None));
     }
-    let sparse = sparsify(alloc, peeled, recorded)?;
+    let sparse = third_phase::sparsify(alloc, peeled, recorded)?;
     let sparsified = recorded.operations.len();
-    back_substitute(recorded, left, inactive)?;
+    second_phase::back_substitute(recorded, left, inactive)?;
     let substituted = recorded.operations.len();
-    clear_inactive(peeled, left, sparse.as_slice(), recorded)?;
+    fourth_phase::clear_inactive(peeled, left, sparse.as_slice(), recorded)?;
     let order = rows_in_order(alloc, &peeled.peeling, left)?;
     let ends = PhaseEnds {
         cleared,

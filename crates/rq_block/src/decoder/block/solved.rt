@@ -3,6 +3,7 @@
 ghost use Rattle.std.specs.Prelude.{◌≡◌, [], IfOk, IfErr};
 
 use super::SourceBlockDecoder;
+use crate::buffer::LARGE_BLOCK;
 use crate::decoder::fitting::solves_all;
 use crate::decoder::known::{known_symbol_ids, known_symbol_values};
 use crate::decoder::payloads::keep_first;
@@ -14,10 +15,6 @@ use rq_bytes::symbol_slab::SymbolSlab;
 use rq_solver::pi_solver::Solved;
 use std::alloc::AllocError;
 use std::collections::BTreeMap;
-
-// From how many bytes on a block takes over the buffer of its intermediate symbols. The GNU C library
-// hands one of 32 MiB or more back to the system, and keeps a smaller one for the next block.
-const LARGE_BLOCK: usize = 1 << 25;
 
 impl SourceBlockDecoder {
     ghost use Rattle.rq_standard.specs.ReceivedBlock.{IsBlockWith};
