@@ -393,10 +393,10 @@ uint8_t reamertan_write_object(struct reamertan_handle *handle, uint8_t *object,
                                size_t object_length);
 
 /* Fills `bytes` with the object's bytes in source block `block`, where the packets that were taken determine
- * the block. So a receiver writes each block to its place, from `start` of `reamertan_block_range` on, by a buffer for
- * one block; the decoder keeps all that it has. `length` has to be their number, `end` - `start`, but they end where the object does, and a block
- * behind it has none. Those of all blocks one behind another are what `reamertan_write_object` writes. The
- * decoder stays as it is.
+ * the block. So a receiver writes each block to its place, from `start` of `reamertan_block_range` on, by a buffer
+ * for one block. The decoder itself holds all blocks until it is closed. `length` has to be their number,
+ * `end` - `start`, but they end where the object does, and a block behind it has none. Those of all blocks one
+ * behind another are what `reamertan_write_object` writes. The decoder stays as it is.
  *
  * Refuses, in this order: NO_CODER where the handle holds no decoder, UNKNOWN_BLOCK, INCOMPLETE, WRONG_BUFFER.
  * Never OUT_OF_MEMORY. */
