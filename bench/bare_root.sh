@@ -19,19 +19,10 @@ listing() {
         -not -name 'ld.so.cache*' -print | sort
 }
 
-# Prints the program or the output in README.md that begins so: WORDS.
-block() {
-    awk -v wanted="$1" 'function end() { if (index(block, wanted) == 1) printf "%s", block; block = gap = "" }
-        /^    / { block = block gap substr($0, 5) "\n"; gap = ""; next }
-        /^$/ { gap = gap (block == "" ? "" : "\n"); next }
-        { end() }
-        END { end() }' README.md
-}
-
-# Asks that README's commands that begin so print what it says: WORDS SENTENCE.
-prints() {
-    block "$1" >commands
-    [ -s commands ] && [ "$(bash -euo pipefail commands)" = "$2" ] || failed "README's commands don't print $2"
+# Writes a file that stands in a page: PAGE FILE.
+take() {
+    mkdir -p "$(dirname "$2")"
+    awk -v file="$2" '/^```/ { inside = !inside && $2 == file; next } inside' "$1" >"$2"
 }
 
 # Sends the licence, loses each tenth frame, and receives it: RQ..
@@ -50,10 +41,12 @@ cell_demo() {
     cmp LICENSE back
 }
 
-# README's program in C.
+# The page's program in C.
 first_in_c() {
-    block '#include <reamertan.h>' >hello.c
-    prints 'cc hello.c' 'it came back'
+    take C.md hello.c
+    # shellcheck disable=SC2046 # flags of pkg-config
+    cc hello.c $(pkg-config --cflags --libs reamertan) -o hello
+    [ "$(./hello)" = "it came back" ] || failed "the page's program in C prints something else"
 }
 
 # Compiles an example in C and runs it: COMPILER.. -- FLAGS..
@@ -110,7 +103,6 @@ on_processors() {
 
 by_apt() {
     apt-get install --yes --quiet=2 ./out/reamertan_*.deb ./out/libreamertan*_amd64.deb >/dev/null
-    prints printf "$(block ' 00')"
     first_in_c
     loss_demo reamertan-rq
     cell_demo reamertan-rqcast
@@ -156,8 +148,8 @@ data = open("LICENSE", "rb").read()
 packets = raptorq.Encoder.with_defaults(data, 1280).get_encoded_packets(3)
 decoder = raptorq.Decoder.with_defaults(len(data), 1280)
 assert [decoder.decode(packet) for packet in packets[3:]][-1] == data'
-    block 'import reamertan' >hello.py
-    [ "$(venv/bin/python hello.py)" = "it came back" ] || failed "README's program in Python prints something else"
+    take PYTHON.md hello.py
+    [ "$(venv/bin/python hello.py)" = "it came back" ] || failed "the page's program in Python prints something else"
     venv/bin/pip uninstall --quiet --yes reamertan
     ! venv/bin/python -c 'import reamertan' 2>/dev/null || failed "pip leaves the module"
     say "the wheel, its tests and a script"
@@ -171,16 +163,15 @@ in_rust() {
     rustc=${rustc#rustc 1.}
     [ "${rustc%%.*}" -ge 85 ] || { say "passed over: there is no Rust 1.85" && return; }
     tar -xzf out/raptorq-*.crate
-    mkdir -p program/src
-    printf '[package]\nname = "program"\nversion = "0.0.0"\nedition = "2024"\n' >program/Cargo.toml
-    block '[dependencies]' >>program/Cargo.toml
-    block 'use raptorq::' >program/src/main.rs
-    cat >program/Cargo.lock <<'TEXT'
+    rm -f hello
+    take RUST.md hello/Cargo.toml
+    take RUST.md hello/src/main.rs
+    cat >hello/Cargo.lock <<'TEXT'
 version = 4
 
 [[package]]
-name = "program"
-version = "0.0.0"
+name = "hello"
+version = "0.1.0"
 dependencies = ["raptorq"]
 
 [[package]]
@@ -191,7 +182,7 @@ checksum = "0000000000000000000000000000000000000000000000000000000000000000"
 TEXT
     for words in --offline "--offline --locked"; do
         # shellcheck disable=SC2086 # options of cargo
-        [ "$(cd program && cargo run --quiet $words)" = "it came back" ] || failed "README's program in Rust prints something else"
+        [ "$(cd hello && cargo run --quiet $words)" = "it came back" ] || failed "the page's program in Rust prints something else"
     done
     (cd raptorq-2.0.1 && cargo test --quiet --release --offline >/dev/null)
     say "a program in Rust, over the package and an old lock, and the package's tests"
