@@ -1,4 +1,4 @@
-//! What suits the GNU C library's way with memory: results are the same without it.
+//! What suits the GNU C library's way with the memory of a block: results are the same without it.
 ghost use Rattle.std.specs.Prelude.{◌≡◌, ◌^◌, ◌<◌, ◌≤◌, [], IfOk};
 
 use std::alloc::{AllocError, Global};
@@ -7,8 +7,8 @@ use std::alloc::{AllocError, Global};
 /// more goes back to the system, and a smaller one is kept for the next block.
 pub(crate) const LARGE_BLOCK: usize = 1 << 25;
 
-/// How many bytes one call copies at most: in longer ones an instruction is used that is slower on
-/// x86-64.
+/// How many bytes one call copies at most: in longer ones the C library's copy for x86-64 uses an
+/// instruction that is slower.
 pub(crate) const PIECE: usize = 2048;
 
 /// An empty buffer with room for `count` symbols of `size` bytes, and for a block's source symbols

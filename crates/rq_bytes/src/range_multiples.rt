@@ -48,7 +48,8 @@ fn add_multiples_of_piece(bytes: &mut [u8], src: usize, targets: &[Target], at: 
     }
 }
 
-// Adds the multiples of one octet, the one at `at` of each range.
+// Adds the multiples of one octet, the one at `at` of each range. They are looked up: halves pay for a
+// vector of octets.
 #[inline(always)]
 fn add_multiples_of_octet(bytes: &mut [u8], src: usize, targets: &[Target], at: usize)
     requires src { src + at < length bytes.old }

@@ -9,7 +9,9 @@ use crate::lanes::{LaneOperation, change_row};
 use crate::slices::range;
 use std::simd::prelude::*;
 
-/// How many rows are added at most in one pass.
+/// How many symbols [`SymbolSlab::add_all`](crate::symbol_slab::SymbolSlab::add_all) and
+/// [`SymbolSlab::add_symbols_to`](crate::symbol_slab::SymbolSlab::add_symbols_to) add at most in one
+/// pass. Not in the Rust crate.
 pub const ADDED_AT_ONCE: usize = 8;
 
 /// Adds several rows to a row, in one pass over it. It is compiled anew for each known number of them.

@@ -114,6 +114,7 @@ impl BinaryMatrix for SparseBinaryMatrix {
             boundary: width - trailing_dense_column_hint,
             rows: empty_rows(alloc, height)?,
             tail: DenseTail::new(alloc, height, trailing_dense_column_hint)?,
+            // Made here, since swaps answer nothing and so can't be refused memory.
             row_order: Order::new((0..height as u32).collect(alloc)?)?,
             column_order: Order::new((0..width as u16).collect(alloc)?)?,
             index: None,

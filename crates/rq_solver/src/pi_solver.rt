@@ -10,7 +10,7 @@ ghost use Rattle.rq_solver.specs.Solving.{AreEquations, AreEquationsWithoutHdpc,
 
 mod first_phase;
 mod fourth_phase;
-mod homogeneous_solution;
+mod homogeneous_column;
 mod peeled;
 mod phase_outcome;
 mod phases;

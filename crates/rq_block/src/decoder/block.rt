@@ -174,7 +174,8 @@ impl SourceBlockDecoder {
     /// id is kept.
     ///
     /// Refuses [`Error::Contradiction`] where what was received determines the block and no block
-    /// fits all of it. The packets stay recorded, and each later call is refused so too.
+    /// fits all of it. The packets stay recorded, and each later call whose packets pass these
+    /// tests is refused so too.
     pub fn decode<I: IntoIterator<Item = EncodingPacket>>(
         &mut self,
         packets: I,

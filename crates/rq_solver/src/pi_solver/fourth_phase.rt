@@ -39,7 +39,7 @@ pub(super) fn clear_inactive(
     let inactive = peeling.width() - peeling.pivots();
     for place in 0..peeling.pivots() {
         let row = peeling.row_of(place);
-        clear_row(row, left, inactive, recorded)?;
+        clear_inactive_of_row(row, left, inactive, recorded)?;
         if sparse[place] {
             redo_additions(&OnSymbols, row, bounds[place], bounds[place + 1], recorded)?;
         }
@@ -50,7 +50,7 @@ pub(super) fn clear_inactive(
 // Adds to a row multiples of the rows with the inactive columns' pivots, so that it gets 0 in these
 // columns. What it has there is not read again, and stays stored.
 #[inline(always)]
-fn clear_row(
+fn clear_inactive_of_row(
     row: usize,
     inactive_rows: &[usize],
     inactive: usize,

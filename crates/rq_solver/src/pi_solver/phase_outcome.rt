@@ -8,7 +8,8 @@ use rq_elimination::counts::{OperationList, PhaseEnds};
 use rq_operations::recorded::RecordedOperations;
 
 /// What was recorded, where the stretches of each phase end in it, and the order in which the rows then
-/// leave the column that solves them, or else a column that shows that they don't determine one.
+/// leave the column that solves them, or else a column that shows that they don't determine one. The
+/// first two stand here in both cases, for `execute` counts what was tried.
 #[derive(Drop)]
 pub(super) struct PhaseOutcome {
     pub operations: OperationList,

@@ -12,7 +12,7 @@ ghost use Rattle.rq_solver.specs.Phases.{AddsLater, FindsOrder, RunsLater, Shows
 ghost use Rattle.rq_solver.specs.Solved.{shown_of};
 
 use super::first_phase::first_phase;
-use super::homogeneous_solution::homogeneous_solution;
+use super::homogeneous_column::homogeneous_column;
 use super::peeled::{Peeled, row_at};
 use super::phase_outcome::PhaseOutcome;
 use super::solved::Solved;
@@ -34,7 +34,7 @@ pub(super) fn run_phases(alloc: Global, system: System) -> Result<PhaseOutcome, 
     let (peeled, mut left, mut recorded) = first_phase(alloc, system, peeling)?;
     let (ends, order) = later_phases(alloc, &peeled, left.as_mut_slice(), &mut recorded)?;
     let Some(order) = order else {
-        let column = homogeneous_solution(alloc, &peeled, left.as_slice(), &recorded);
+        let column = homogeneous_column(alloc, &peeled, left.as_slice(), &recorded);
         return Ok(PhaseOutcome {
             operations: recorded.operations,
             ends,

@@ -1,4 +1,4 @@
-//! `Solved`: what was found, or a column that shows that symbols are left open (RFC 6330, section 5.4.2).
+//! `Solved`: what was found, or a column that shows what the equations leave open (RFC 6330, section 5.4.2).
 ghost use Rattle.std.specs.Prelude.{◌≡◌};
 
 /// What equations give: what finds the intermediate symbols, or else what shows that they don't

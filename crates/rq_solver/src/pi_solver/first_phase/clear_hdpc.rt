@@ -24,12 +24,12 @@ struct HdpcPlaces<'a> {
 }
 
 /// Gives the HDPC rows 0 in the pivots' columns. The first row takes all others, so that it is their
-/// sum. Then, column by column, the other rows take multiples of the sum so that they have 0 there,
-/// unless the sum itself has. Where the column has a pivot, each HDPC row that isn't 0 there, mostly the
-/// first alone, takes a multiple of the pivot's row. This serves any octets, and takes few products for
-/// those of RFC 6330 (section 5.3.3.3): each of their columns is alpha times the next, but for ones in
-/// two rows. So once a column is cleared, two rows at most have to take the sum to clear the next.
-/// Where the HDPC rows have 0 in all of the pivots' columns from the start, nothing is done.
+/// sum. Then, column by column, unless the sum has 0 there, it is multiplied to have 1, and the others
+/// take multiples of it, so that they have 0. Where the column has a pivot, each HDPC row that isn't 0
+/// there, mostly the first alone, takes a multiple of the pivot's row. This serves any octets, and takes
+/// few products for those of RFC 6330 (section 5.3.3.3): each of their columns is alpha times the next,
+/// but for ones in two rows. So once a column is cleared, two rows at most have to take the sum to clear
+/// the next. Where the HDPC rows have 0 in all of the pivots' columns from the start, nothing is done.
 pub(super) fn clear_octets(
     hdpc: DenseOctetMatrix,
     first_hdpc: usize,

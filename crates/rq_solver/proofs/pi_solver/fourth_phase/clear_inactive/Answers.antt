@@ -9,7 +9,7 @@ use Rattle.rq_solver.proofs.CountLaws.{one_turn_more}
 use Rattle.rq_elimination.proofs.Performing.{logs_recorded}
 use Rattle.rq_solver.proofs.TakenAgain.{pivots_stay, sums_between, taken_between}
 use Rattle.rq_solver.proofs.pi_solver.fourth_phase.clear_inactive.Goals as goal
-use Rattle.rq_solver.proofs.pi_solver.fourth_phase.clear_inactive.Goals.{In_ok-clear_row, then-sparse-place+in_ok-redo_additions, else-sparse-place}
+use Rattle.rq_solver.proofs.pi_solver.fourth_phase.clear_inactive.Goals.{In_ok-clear_inactive_of_row, then-sparse-place+in_ok-redo_additions, else-sparse-place}
 
 pub loop-place-init : goal.loop-place-init
 loop-place-init c = record {
@@ -17,8 +17,8 @@ loop-place-init c = record {
   few = omega arith;
 }
 
-pub clear_row-requires-clause-rows : goal.clear_row-requires-clause-rows
-clear_row-requires-clause-rows c =
+pub clear_inactive_of_row-requires-clause-rows : goal.clear_inactive_of_row-requires-clause-rows
+clear_inactive_of_row-requires-clause-rows c =
     let under = c.requires.under_way in
     let t = c.loop-place.place in
     let inside : t < length c.args.peeled.now.peeling.rows = omega (arith, c.loop-place-test.true, c.pivots-place-end.ensures) in
@@ -29,18 +29,18 @@ clear_row-requires-clause-rows c =
     })
 
 -- what the pivots' rows took still stands in the operations
-module _ (c : In_ok-clear_row) where
+module _ (c : In_ok-clear_inactive_of_row) where
   in_rows : c.loop-place.place < length c.args.peeled.now.peeling.rows
   in_rows = omega (arith, c.loop-place-test.true, c.pivots-place-end.ensures)
 
-  stands : PivotsHaveTaken c.args.peeled.now.ones c.args.peeled.now.peeling c.args.peeled.now.bounds.items c.clear_row.new.recorded
+  stands : PivotsHaveTaken c.args.peeled.now.ones c.args.peeled.now.peeling c.args.peeled.now.bounds.items c.clear_inactive_of_row.new.recorded
   stands =
       let first = pivots_stay c.requires.under_way.pivots (logs_recorded c.loop-place.invariant.finished.done) in
-      (pivots_stay first (logs_recorded c.in_ok-clear_row.ensures.taken.done)).taken
+      (pivots_stay first (logs_recorded c.in_ok-clear_inactive_of_row.ensures.taken.done)).taken
 
 pub redo_additions-requires-clause-sums : goal.redo_additions-requires-clause-sums
 redo_additions-requires-clause-sums c =
-    let before = (goal.at.redo_additions-requires-clause-sums c).In_ok-clear_row in
+    let before = (goal.at.redo_additions-requires-clause-sums c).In_ok-clear_inactive_of_row in
     let p = c.args.peeled.now in
     let bounds = p.bounds.items in
     let t = c.loop-place.place in
@@ -51,7 +51,7 @@ redo_additions-requires-clause-sums c =
 
 pub loop-place-preserved : goal.loop-place-preserved
 loop-place-preserved c =
-    let before = (goal.at.loop-place-preserved c).In_ok-clear_row in
+    let before = (goal.at.loop-place-preserved c).In_ok-clear_inactive_of_row in
     let v = c.loop-place.invariant in
     let p = c.args.peeled.now in
     let rows = p.peeling.rows in
@@ -63,8 +63,8 @@ loop-place-preserved c =
     let inside = in_rows before in
     let within : t + 1 < length bounds = omega (arith, has.taken.many, inside) in
     let counted : c.width.result - c.pivots.result ≡ count = omega (arith, c.width.ensures, c.pivots.ensures) in
-    let sums = rw counted at c.in_ok-clear_row.ensures.few in
-    let turn = rw (c.row_of-row.ensures, counted) at c.in_ok-clear_row.ensures.taken in
+    let sums = rw counted at c.in_ok-clear_inactive_of_row.ensures.few in
+    let turn = rw (c.row_of-row.ensures, counted) at c.in_ok-clear_inactive_of_row.ensures.taken in
     let apart : (q f : ℕ) → q < length rows → f < count → at rows q ≢ at left f =
     (λ (q f : ℕ) (l : q < length rows) (n : f < count). c.requires.under_way.apart q f l (omega (arith, c.requires.many))) in
     elim c.if-sparse-place.branch [

@@ -115,13 +115,13 @@ module _ (c : After-as_slice) where
       ∙ take_at left (drop (length left) c.in_ok-peeled.left.items) c.in_ok-peeled.left.len
       (omega (arith, c.later_phases.auto.left, c.as_mut_slice.ensures.len))
 
-pub homogeneous_solution-column-requires-clause-under_way : goal.homogeneous_solution-column-requires-clause-under_way
-homogeneous_solution-column-requires-clause-under_way c =
-    rw (all_left (goal.at.homogeneous_solution-column-requires-clause-under_way c).After-as_slice) (rw c.in_default.is at c.in_ok-ends.ensures.left)
+pub homogeneous_column-column-requires-clause-under_way : goal.homogeneous_column-column-requires-clause-under_way
+homogeneous_column-column-requires-clause-under_way c =
+    rw (all_left (goal.at.homogeneous_column-column-requires-clause-under_way c).After-as_slice) (rw c.in_default.is at c.in_ok-ends.ensures.left)
 
-pub homogeneous_solution-column-requires-clause-stuck : goal.homogeneous_solution-column-requires-clause-stuck
-homogeneous_solution-column-requires-clause-stuck c =
-    let before = goal.at.homogeneous_solution-column-requires-clause-stuck c in
+pub homogeneous_column-column-requires-clause-stuck : goal.homogeneous_column-column-requires-clause-stuck
+homogeneous_column-column-requires-clause-stuck c =
+    let before = goal.at.homogeneous_column-column-requires-clause-stuck c in
     rw (all_left before.After-as_slice) (lacks before.In_ok-ends c.in_default.is).later.stuck
 
 pub returns-in_default-clause-found : goal.returns-in_default-clause-found
@@ -132,9 +132,9 @@ returns-in_default-clause-shown c =
     let before = goal.at.returns-in_default-clause-shown c in
     let shown = shows_system c.args.system c.in_ok-peeled.peeled c.later_phases.new.left c.later_phases.new.recorded c.in_ok-ends.ends
     (lacks before.In_ok-ends c.in_default.is) in
-    let made = c.homogeneous_solution-column.ensures in
+    let made = c.homogeneous_column-column.ensures in
     rw c.ok.ensures.value
-    (if_made c.homogeneous_solution-column.result _ _ _ _ (λ column elements left pivots. shown column.items elements left pivots) made.elements
+    (if_made c.homogeneous_column-column.result _ _ _ _ (λ column elements left pivots. shown column.items elements left pivots) made.elements
     (rw (all_left before.After-as_slice) at made.left) made.pivots)
 
 pub returns-in_default-clause-phases : goal.returns-in_default-clause-phases

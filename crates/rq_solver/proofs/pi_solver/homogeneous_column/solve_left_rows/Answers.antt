@@ -1,4 +1,4 @@
--- What the check leaves to show of `pi_solver::homogeneous_solution::solve_left_rows`.
+-- What the check leaves to show of `pi_solver::homogeneous_column::solve_left_rows`.
 use Rattle.std.proofs.Common.{◌≡◌, ◌+◌, ◌-◌, ℕ, ap, ◌∙◌, arith, inl, inr}
 use Rattle.std.proofs.lemmas.Bool.{cases_eq, cases_lt}
 use Rattle.rq_algebra.specs.Systems.{at}
@@ -8,8 +8,8 @@ use Rattle.rq_parts.specs.DenseOctetMatrix.{entry_of}
 use Rattle.rq_solver.specs.Peeled.{inactive_count}
 use Rattle.rq_solver.specs.HomogeneousColumns.{inactive_entry}
 use Rattle.rq_solver.proofs.SetColumns.{solves_first, solves_next}
-use Rattle.rq_solver.proofs.pi_solver.homogeneous_solution.solve_left_rows.Goals as goal
-use Rattle.rq_solver.proofs.pi_solver.homogeneous_solution.solve_left_rows.Goals.{After-free_column-free}
+use Rattle.rq_solver.proofs.pi_solver.homogeneous_column.solve_left_rows.Goals as goal
+use Rattle.rq_solver.proofs.pi_solver.homogeneous_column.solve_left_rows.Goals.{After-free_column-free}
 
 -- where the elimination stopped
 module _ (c : After-free_column-free) where

@@ -1,4 +1,4 @@
--- What the check leaves to show of `pi_solver::homogeneous_solution::sum_at`.
+-- What the check leaves to show of `pi_solver::homogeneous_column::sum_at`.
 use Rattle.std.proofs.Common.{refl, sym, ap, ◌∙◌, List, ℕ, bit_xor}
 use Rattle.std.proofs.lemmas.List.{take_more}
 use Rattle.rq_algebra.specs.Operations.{plain}
@@ -6,7 +6,7 @@ use Rattle.rq_algebra.specs.Parities.{sum_listed}
 use Rattle.rq_algebra.specs.Systems.{at}
 use Rattle.rq_standard.specs.OctetField.{octets}
 use Rattle.rq_solver.proofs.ChangedColumns.{sum_plain-push}
-use Rattle.rq_solver.proofs.pi_solver.homogeneous_solution.sum_at.Goals as goal
+use Rattle.rq_solver.proofs.pi_solver.homogeneous_column.sum_at.Goals as goal
 
 pub loop-index-init : goal.loop-index-init
 unfolding sum_listed

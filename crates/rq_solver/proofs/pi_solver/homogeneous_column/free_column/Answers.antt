@@ -1,9 +1,9 @@
--- What the check leaves to show of `pi_solver::homogeneous_solution::free_column`.
+-- What the check leaves to show of `pi_solver::homogeneous_column::free_column`.
 use Rattle.std.proofs.Common.{ap, ℕ, sym, ◌∙◌, arith, inl, inr}
 use Rattle.std.proofs.lemmas.Bool.{cases_eq, cases_lt}
 use Rattle.rq_algebra.specs.Systems.{at}
 use Rattle.rq_parts.specs.DenseOctetMatrix.{entry_of}
-use Rattle.rq_solver.proofs.pi_solver.homogeneous_solution.free_column.Goals as goal
+use Rattle.rq_solver.proofs.pi_solver.homogeneous_column.free_column.Goals as goal
 
 pub loop-column-preserved : goal.loop-column-preserved
 loop-column-preserved c =

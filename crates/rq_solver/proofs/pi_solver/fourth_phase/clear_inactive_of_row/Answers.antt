@@ -1,11 +1,11 @@
--- What the check leaves to show of `pi_solver::fourth_phase::clear_row`.
+-- What the check leaves to show of `pi_solver::fourth_phase::clear_inactive_of_row`.
 use Rattle.std.proofs.Common.{◌≡◌, ℕ, ◌+◌, ◌*◌, ◌<◌, min, subst, arith}
 use Rattle.std.proofs.lemmas.Grind.{div_ceil_times}
 use Rattle.rq_parts.specs.DenseOctetMatrix.{entry_of}
 use Rattle.rq_solver.specs.SecondPhase.{ClearsColumns}
 use Rattle.rq_solver.proofs.Substitution.{reduced_none}
 use Rattle.rq_solver.proofs.ReducedWords.{reduced_join}
-use Rattle.rq_solver.proofs.pi_solver.fourth_phase.clear_row.Goals as goal
+use Rattle.rq_solver.proofs.pi_solver.fourth_phase.clear_inactive_of_row.Goals as goal
 
 pub loop-word-init : goal.loop-word-init
 loop-word-init c =

@@ -1,9 +1,9 @@
--- What the loop keeps in `pi_solver::homogeneous_solution::solve_pivot_rows`.
+-- What the loop keeps in `pi_solver::homogeneous_column::solve_pivot_rows`.
 use Rattle.std.proofs.Common.{length}
 use Rattle.rq_algebra.specs.Systems.{at, IsColumn}
 use Rattle.rq_standard.specs.OctetField.{octets}
 use Rattle.rq_solver.specs.HomogeneousColumns.{HasZerosAtPivots, SolvesLeftRows, SolvesPivotRows}
-use Rattle.rq_solver.proofs.pi_solver.homogeneous_solution.solve_pivot_rows.Given as goal
+use Rattle.rq_solver.proofs.pi_solver.homogeneous_column.solve_pivot_rows.Given as goal
 
 abbrev pub invariant-loop-pivot : goal.invariant-loop-pivot
 invariant-loop-pivot l = record {

@@ -1,4 +1,4 @@
--- What the check leaves to show of `pi_solver::homogeneous_solution::sum_behind`.
+-- What the check leaves to show of `pi_solver::homogeneous_column::sum_behind`.
 use Rattle.std.proofs.Common.{◌≡◌, ◌+◌, ◌<◌, ℕ, suc, length, sym, ap, ◌∙◌, arith, bit_xor}
 use Rattle.rq_algebra.specs.Systems.{at, dot}
 use Rattle.rq_algebra.proofs.Sums.{dot_zero, dot-suc, mul_zero}
@@ -8,7 +8,7 @@ use Rattle.rq_parts.specs.DenseOctetMatrix.{entry_of}
 use Rattle.rq_elimination.proofs.ChangedEntries.{mul_is}
 use Rattle.rq_solver.specs.Peeled.{inactive_count}
 use Rattle.rq_solver.specs.HomogeneousColumns.{inactive_entry}
-use Rattle.rq_solver.proofs.pi_solver.homogeneous_solution.sum_behind.Goals as goal
+use Rattle.rq_solver.proofs.pi_solver.homogeneous_column.sum_behind.Goals as goal
 
 pub loop-f-init : goal.loop-f-init
 loop-f-init c =

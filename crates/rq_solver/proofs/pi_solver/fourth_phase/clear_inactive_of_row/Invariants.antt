@@ -1,9 +1,9 @@
--- What the loop keeps in `pi_solver::fourth_phase::clear_row`.
+-- What the loop keeps in `pi_solver::fourth_phase::clear_inactive_of_row`.
 use Rattle.std.proofs.Common.{◌+◌, ◌*◌, ◌≤◌, min}
 use Rattle.rq_parts.specs.DenseOctetMatrix.{entry_of}
 use Rattle.rq_solver.specs.SecondPhase.{ClearsColumns}
 use Rattle.rq_elimination.specs.OperationCounts.{additions}
-use Rattle.rq_solver.proofs.pi_solver.fourth_phase.clear_row.Given as goal
+use Rattle.rq_solver.proofs.pi_solver.fourth_phase.clear_inactive_of_row.Given as goal
 
 abbrev pub invariant-loop-word : goal.invariant-loop-word
 invariant-loop-word l = record {

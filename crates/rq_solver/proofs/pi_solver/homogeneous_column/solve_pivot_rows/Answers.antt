@@ -1,4 +1,4 @@
--- What the check leaves to show of `pi_solver::homogeneous_solution::solve_pivot_rows`.
+-- What the check leaves to show of `pi_solver::homogeneous_column::solve_pivot_rows`.
 use Rattle.std.proofs.Common.{◌≡◌, ◌<◌, List, ℕ, length, ap, ◌∙◌, arith}
 use Rattle.rq_algebra.specs.Operations.{plain}
 use Rattle.rq_algebra.specs.Parities.{sum_listed}
@@ -6,7 +6,7 @@ use Rattle.rq_algebra.specs.Systems.{at}
 use Rattle.rq_standard.specs.OctetField.{octets}
 use Rattle.rq_peeling.specs.RowOnes.{ones_of}
 use Rattle.rq_solver.proofs.SetColumns.{pivot_left, pivot_solves, pivot_zeros, set_elements}
-use Rattle.rq_solver.proofs.pi_solver.homogeneous_solution.solve_pivot_rows.Goals as goal
+use Rattle.rq_solver.proofs.pi_solver.homogeneous_column.solve_pivot_rows.Goals as goal
 
 pub loop-pivot-preserved : goal.loop-pivot-preserved
 loop-pivot-preserved c =

@@ -1,4 +1,4 @@
-//! A null vector, which shows what equations leave open, and for which the RFC has no phase: where an
+//! A homogeneous column, which shows what equations leave open; the RFC has no phase for it: where an
 //! inactive column is left without a pivot, the rows that are left, as the second phase left them (RFC
 //! 6330, section 5.4.2.3), and then the pivots' rows, as they were handed in, are solved with zeros as
 //! values.
@@ -20,7 +20,7 @@ use std::alloc::{AllocError, Global};
 /// A column that isn't all zeros and solves the rows with zeros as values. It has 1 in the first
 /// inactive column without a pivot, and zeros in those behind it. Those before it and then the pivots'
 /// columns are found by substitution.
-pub(super) fn homogeneous_solution(
+pub(super) fn homogeneous_column(
     alloc: Global,
     peeled: &Peeled,
     left: &[usize],
