@@ -21,15 +21,14 @@ BATCH = 1 << 16
 _add_packet, _is_complete, _INCOMPLETE = calls.add_packet, calls.is_complete, int(Answer.INCOMPLETE)
 
 _Any = TypeVar("_Any", bound="Coder")
-# How often this process was forked off. Coders from before are looked at when they are next used.
-_forks = 0
+# How often this process was forked off, and by which thread at last. Coders from before are looked at when they are next used.
+_forks = _forker = 0
 _meeting = threading.Lock()
 
 
 def _count_fork() -> None:
-    global _forks, _meeting
-    _forks += 1
-    _meeting = threading.Lock()
+    global _forks, _forker, _meeting
+    _forks, _forker, _meeting = _forks + 1, threading.get_ident(), threading.Lock()
 
 
 os.register_at_fork(after_in_child=_count_fork)
@@ -65,7 +64,9 @@ class Coder:
         with _meeting:
             if self._forks == _forks:
                 return
-            if not self._lock.acquire(blocking=False):
+            # The lock takes a new thread for one of before that had its number. The thread that forked is itself.
+            is_own = self._forks + 1 == _forks and threading.get_ident() == _forker
+            if self._lock._is_owned() and not is_own or not self._lock.acquire(blocking=False):
                 raise RuntimeError("another thread was using this coder when the process was forked")
             self._forks = _forks
             self._lock.release()
@@ -80,9 +81,9 @@ class Coder:
     def __exit__(self, *reason: object) -> None:
         self.close()
 
-    # Nobody else has the coder any more: where its lock is held, that is by a thread of another process.
+    # Nobody else has the coder any more: where its lock is held, that is by a thread of another process, whose number a new one may have.
     def __del__(self, close: Callable[[Any], None] = calls.close) -> None:
-        if self._lock.acquire(blocking=False):
+        if not self._lock._is_owned() and self._lock.acquire(blocking=False):
             close(self._handle)
 
     def __reduce__(self) -> tuple[object, ...]:
@@ -220,9 +221,10 @@ class Decoder(Coder):
     True
     """
 
-    __slots__ = ("_config", "_handed", "_least")
+    __slots__ = ("_config", "_handed", "_is_late", "_least")
     _config: ObjectTransmissionInformation
     _handed: itertools.count[int]
+    _is_late: bool
     _least: int
 
     def __init__(self, config: ObjectTransmissionInformation) -> None:
@@ -231,7 +233,7 @@ class Decoder(Coder):
         must(self._ask(lambda handle: calls.open_decoder(*ROWS, config_bytes, handle)))
         # Fewer packets than there are source symbols determine no object. A count is taken in one step, whoever interrupts.
         self._handed, self._least = itertools.count(1), -(-config.transfer_length // config.symbol_size)
-        self._config = config
+        self._config, self._is_late = config, False
 
     @staticmethod
     def with_defaults(transfer_length: int, maximum_transmission_unit: int) -> Decoder:
@@ -252,10 +254,12 @@ class Decoder(Coder):
             packet = exact(packet)
         if self._forks != _forks:
             self._meet()
-        is_early = next(self._handed) < self._least
         with self._lock:
-            answer = _add_packet(self._handle, packet, len(packet)) or not is_early and _is_complete(self._handle)
-        if is_early and not answer:
+            # Who counts enough of them says so to all: a handler may add packets between this count and this call.
+            if next(self._handed) >= self._least:
+                self._is_late = True
+            answer = _add_packet(self._handle, packet, len(packet)) or self._is_late and _is_complete(self._handle)
+        if answer is False:
             return None
         return self.get_result() if self._is_there(answer) else None
 
@@ -268,7 +272,8 @@ class Decoder(Coder):
         packets = exact(packets)
         # Counted before they are taken, and where one is refused too many: then `decode` asks sooner.
         for _ in range(len(packets) // (PAYLOAD_ID_BYTES + self._config.symbol_size)):
-            next(self._handed)
+            if next(self._handed) >= self._least:
+                self._is_late = True
         must(self._ask(calls.add_packets, packets, len(packets)))
 
     def is_complete(self) -> bool:
@@ -291,7 +296,7 @@ class Decoder(Coder):
 
     def block_bytes(self, block: int) -> bytes | None:
         """The object's bytes in a source block, where the packets that were taken determine the block."""
-        number(block, 8, "a source block")
+        block = number(block, 8, "a source block")
         # A block's bytes end where the object does. One that isn't there has none, and is refused by the call.
         is_there = block < self._config.source_blocks
         place = self._config.block_range(block) if is_there else range(0)

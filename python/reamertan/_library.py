@@ -42,7 +42,7 @@ def loaded(path: str) -> SimpleNamespace:
     for name, (result, *parameters) in CALLS.items():
         call = getattr(calls, name)
         call.restype, call.argtypes = result, parameters
-    if spelled(calls.version()).rpartition(".")[0] != INTERFACE:
+    if not spelled(calls.version()).startswith(f"{INTERFACE}."):
         raise ImportError(f"{path} has version {spelled(calls.version())}, and this module is for {INTERFACE}")
     return calls
 

@@ -132,6 +132,10 @@ class Refusals(unittest.TestCase):
 
             __lt__ = __ge__ = __gt__ = __le__
 
+        class Index:
+            def __index__(self):
+                return 0
+
         class Config(reamertan.ObjectTransmissionInformation):
             def serialize(self):
                 return b""
@@ -141,6 +145,7 @@ class Refusals(unittest.TestCase):
         encoder = reamertan.Encoder(bytes(500), Config(500, 50, 1, 1, 1))
         self.assertRaises(reamertan.Error, encoder.get_encoded_packets, 2)
         self.assertRaises(OverflowError, reamertan.Decoder.with_defaults, Number(-1), 64)
+        self.assertIsNone(reamertan.Decoder.with_defaults(500, 64).block_bytes(Index()))
         data, packets = lying(), reamertan.Encoder.with_defaults(lying(), 64).get_encoded_packets(2)
         self.assertEqual(received(reamertan.Decoder.with_defaults(500, 64), packets), object_of(500))
         self.assertRaises(reamertan.Error, reamertan.Decoder.with_defaults(500, 64).decode, data)

@@ -101,12 +101,17 @@ class Sharing(unittest.TestCase):
             while not ending.is_set():
                 encoder.packets(0, 0, 1000)
 
-        def work():
-            self.assertEqual(len(free.packets(0, 0, 1000)), 1000)
+        def ask():
             try:
                 self.assertEqual(len(encoder.packets(0, 0, 1000)), 1000)
             except RuntimeError as error:
                 self.assertIn("when the process was forked", str(error))
+
+        def work():
+            self.assertEqual(len(free.packets(0, 0, 1000)), 1000)
+            # A new thread may have the number of the one that isn't there any more.
+            in_threads(ask)
+            ask()
 
         def fork():
             try:
@@ -140,6 +145,22 @@ class Sharing(unittest.TestCase):
         self.signals(handler, lambda: [received(decoder, packets[:1000]) for _ in range(20)])
         self.assertTrue(handled)
         self.assertTrue(received(decoder, packets) == data)
+
+    def test_packets_between_a_count_and_its_call(self):
+        data = object_of(128)
+        encoder = reamertan.Encoder.with_defaults(data, 64)
+        first, second = encoder.packets(0, 0, 2)
+        decoder, answers = reamertan.Decoder(encoder.get_config()), []
+        counted = decoder._handed
+
+        def count():
+            decoder._handed, at = counted, next(counted)
+            answers.append(decoder.decode(second))
+            return at
+
+        decoder._handed = iter(count, None)
+        answers.append(decoder.decode(first))
+        self.assertIn(data, answers)
 
     def test_handlers_that_raise(self):
         class Stop(Exception):
