@@ -45,6 +45,13 @@ def whole_numbers(words, usage):
     return list(map(int, words))
 
 
+def whole_number(words, usage, otherwise, least=1):
+    """The number that the first of these words is, and this one where there is none. Where it is less than the least one this ends the
+    script too."""
+    number = (whole_numbers(words[:1], usage) or [otherwise])[0]
+    return number if number >= least else misused(usage)
+
+
 def take_seed(usage, otherwise):
     """The seed that two of a script's words say, and this one where none is said. `arguments` has the other words then."""
     if "--seed" not in sys.argv:

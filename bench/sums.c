@@ -45,9 +45,13 @@ static double now(void) {
 }
 
 int main(int count, char **words) {
-    if (count != 4) return 2;
-    size_t symbols = atol(words[1]);
-    int times = atoi(words[2]), sums = atoi(words[3]);
+    int is_help = count == 2 && (strcmp(words[1], "--help") == 0 || strcmp(words[1], "-h") == 0);
+    size_t symbols = count == 4 ? strtoul(words[1], NULL, 10) : 0;
+    int times = count == 4 ? atoi(words[2]) : 0, sums = count == 4 ? atoi(words[3]) : 0;
+    if (symbols == 0 || times < 1 || sums < 1) {
+        fputs("usage: sums SYMBOLS TIMES SUMS\n", is_help ? stdout : stderr);
+        return is_help ? 0 : 2;
+    }
     uint8_t *bytes = malloc(symbols * SIZE);
     uint32_t *chosen = malloc(symbols * sums * sizeof *chosen);
     if (!bytes || !chosen) return 1;
