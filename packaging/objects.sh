@@ -139,16 +139,15 @@ make_program() {
         -Wl,--gc-sections,-z,relro,-z,now "${linker_flags[@]}"
 }
 
-# The number N of x86-64-vN of this machine, and 0 where it is another one.
-level() {
-    local asks
+# The number N of x86-64-vN of this machine, and 0 where it is another one. A shell of its own takes its folder away, also where it is ended.
+level() (
     [ "$(uname -m)" = x86_64 ] || { echo 0 && return; }
     asks=$(mktemp -d)
+    trap 'rm -r "$asks"' EXIT
     printf '#include "processor.h"\n#include <stdio.h>\nint main(void) { printf("%%d\\n", processor_level()); }\n' >"$asks/level.c"
-    "${compiler[@]}" -I "$top/packaging" "$asks/level.c" -o "$asks/level"
-    "$asks/level"
-    rm -r "$asks"
-}
+    "${compiler[@]}" -I "$top/packaging" "$asks/level.c" -o "$asks/level" && "$asks/level" ||
+        fail "a program that asks for the processor can't be built, or not run in $asks: TMPDIR names another folder"
+)
 
 # Refuses a library that answers another version than the header's: MADE.
 try_library() {
@@ -162,13 +161,14 @@ TEXT
 
 # Makes the library and programs for x86-64, and tries them where this machine has a processor for them: BUILT MADE SONAME.
 make_all() {
-    local program words
+    local program words found
     make_archive "$1" "$2"
     make_shared "$2" "$3"
     for program in "${PROGRAMS[@]}"; do
         make_program "$1" "$2" "${program%% *}"
     done
-    [ "$(level)" -ge "${processors[0]##*-v}" ] || return 0
+    found=$(level)
+    [ "$found" -ge "${processors[0]##*-v}" ] || return 0
     try_library "$2"
     three_bytes >"$2/three"
     for program in "${PROGRAMS[@]}"; do

@@ -5,7 +5,8 @@
 # that a call which was ended in the midst is undone by the next one: PLACING until all files are in place, and from then on PLACED,
 # until those that went aside are gone.
 
-: "${made:?a scratch folder}"
+: "${made:?a scratch folder}" "${root?the folder that is to be undone where a call fails}"
+lock=''
 readonly OLD=.reamertan-old NEW=.reamertan-new
 readonly DOCUMENTS=share/doc/reamertan
 readonly MANIFEST=$DOCUMENTS/MANIFEST
@@ -23,8 +24,22 @@ earlier() {
 
 # Loops are the shell's own, and not a pipe's: who is killed does nothing more.
 
+# Waits for the calls that are putting files in place: what their journals say is to be undone by them alone. Everyone may open what is
+# locked, on whatever machine and disk PREFIX is. Without the lock nothing is undone: there is no `root` any more.
+lock() {
+    [ -n "$lock" ] || exec {lock}>/dev/null
+    flock -w 60 "$lock" || { root='' && fail "another call of install is at work"; }
+}
+
+# Lets others in, for as long as nothing below PREFIX is changed. Programs that are begun then, and go on, hold no lock.
+unlock() {
+    exec {lock}>&-
+    lock=''
+}
+
 # Undoes what was begun below ROOT, or ends what was nearly done.
 recover() {
+    lock
     # Of a journal that wasn't begun nothing was done.
     rm -f "$1/$PLACING$NEW"
     if [ -f "$1/$PLACING" ]; then
@@ -116,11 +131,20 @@ write_journal() {
     cat "$made/new_folders"
 }
 
-# Refuses what is in the way: folders, and where there is no earlier version, files: ROOT.
+# Whether a file is an earlier version's: one of its manifest, and where that is lost any: ROOT FILE.
+is_earlier() {
+    if [ -f "$1/$MANIFEST" ]; then
+        earlier "$1" file | grep -xF -- "$2" >/dev/null
+    else
+        [ -f "$1/$DOCUMENTS/LINKED" ]
+    fi
+}
+
+# Refuses what is in the way: folders, and files that aren't an earlier version's: ROOT.
 refuse_foreign() {
     local file
     while read -r file; do
-        [ -f "$1/$DOCUMENTS/LINKED" ] && { [ ! -d "$1/$file" ] || [ -L "$1/$file" ]; } || fail "$1/$file is there, and isn't Reamertan's"
+        is_earlier "$1" "$file" && { [ ! -d "$1/$file" ] || [ -L "$1/$file" ]; } || fail "$1/$file is there, and isn't Reamertan's"
     done < <(listed "$made/journal" there)
 }
 

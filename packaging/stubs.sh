@@ -11,9 +11,9 @@ unset CC LD OBJCOPY AR NM CFLAGS LDFLAGS LIBDIR DESTDIR
 need() {
     local program
     for program in "$@"; do
-        command -v "$program" >/dev/null || { echo "passed over: $program isn't installed" && exit 1; }
+        command -v "$program" >/dev/null || { echo "passed over: $program isn't installed" && exit 0; }
     done
-    [ "$(uname -m)" = x86_64 ] || { echo "passed over: this machine isn't x86-64" && exit 1; }
+    [ "$(uname -m)" = x86_64 ] || { echo "passed over: this machine isn't x86-64" && exit 0; }
 }
 
 failed() {
