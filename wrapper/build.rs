@@ -1,6 +1,7 @@
 //! Links the codec's static library: the one in the folder or the PREFIX that `REAMERTAN_LIB` names, or else the one
-//! that a release puts into this package, or else the one that pkg-config knows. Where there is none of this package's
-//! version, `src/calls.rs` gets a sentence to end the build with, since `cargo check` and `cargo doc` need none.
+//! that a release puts into this package, or else the one that pkg-config knows. Where there is none of the target's
+//! architecture and this package's version, `src/calls.rs` gets a sentence to end the build with, since `cargo check`
+//! and `cargo doc` need none.
 
 use std::env;
 use std::fs;
@@ -31,7 +32,7 @@ fn main() {
     let fault = match &folder {
         Some(folder) => {
             link(folder);
-            other_version(folder).unwrap_or_default()
+            unfit(folder).unwrap_or_default()
         }
         None => missing(named.as_deref()),
     };
@@ -44,18 +45,24 @@ fn link(folder: &Path) {
     println!("cargo:rustc-link-lib=static=reamertan");
 }
 
-// What is wrong with a folder's library of another version, by its file for pkg-config where it was put in place with one.
-fn other_version(folder: &Path) -> Option<String> {
+// What is wrong with a folder's library for this build, by its file for pkg-config where it was put in place with one.
+fn unfit(folder: &Path) -> Option<String> {
     let file = folder.join("pkgconfig/reamertan.pc");
     let text = fs::read_to_string(&file).ok()?;
     println!("cargo:rerun-if-changed={}", file.display());
-    let mut versions = text
-        .lines()
-        .filter_map(|line| line.strip_prefix("Version: "));
-    let other = versions.next().filter(|&version| version != VERSION)?;
+    let said = |word| text.lines().find_map(|line| line.strip_prefix(word));
+    let place = folder.display();
+    let wanted = env::var("CARGO_CFG_TARGET_ARCH").ok()?.replace('_', "-");
+    let processor =
+        said("processor=").filter(|found| found.split("-v").next() != Some(wanted.as_str()));
+    if let Some(processor) = processor {
+        return Some(format!(
+            "{LIBRARY} in {place} is for {processor}, and this build is for {wanted}"
+        ));
+    }
+    let version = said("Version: ").filter(|&found| found != VERSION)?;
     Some(format!(
-        "{LIBRARY} in {} has version {other}, and this package is for version {VERSION}",
-        folder.display()
+        "{LIBRARY} in {place} has version {version}, and this package is for version {VERSION}"
     ))
 }
 
