@@ -13,7 +13,7 @@ use Rattle.rq_standard.specs.Standing.{StandsForNone, LeavesBlockLate}
 use Rattle.rq_standard.specs.TableRows.{greatest_size}
 use Rattle.rq_base.specs.RefusedInput.{new_id, read_packet}
 use Rattle.raptorq.specs.BlockBytes.{answered_part, AnswersPart, PartsMakeObject}
-use Rattle.raptorq.specs.Decoder.{state_of, IsAnswerOf}
+use Rattle.raptorq.specs.Decoder.{state_of, missing_of, IsAnswerOf}
 use Rattle.raptorq.specs.Encoder.{Encoded, encoded_of, id_in, IsEncoderOf, IsPacketIn}
 use Rattle.rq_block.specs.MissingPackets.{NeedsMore}
 use Rattle.rq_block.specs.SourceBlockEncoder.{BlockEncoded, block_encoded_of}
@@ -185,6 +185,14 @@ pub record FillsWithPacket (held : Option Encoded) (block esi answer : ℕ) (bef
   pub packet : answer ≡ 0 → IsSomeAnd held (λ e. IsPacketAt e block esi after)
   pub no_room : answer ≡ 24 → IsSomeAnd held (λ e. HasNoRoom e block esi (length before))
   pub kept : answer ≢ 0 → after ≡ before
+
+-- how many packets more a decoder says that a block needs, no number being said of a contradictory one; another coder says nothing
+abbrev pub missing_in_coder : ℕ → Coder → Option (Option ℕ)
+missing_in_coder block (Receiver d) = Some (missing_of d block)
+missing_in_coder block _ = None
+
+abbrev pub missing_of_handle : Handle → ℕ → Option (Option ℕ)
+missing_of_handle h block = option_and_then (missing_in_coder block) (coder_of h)
 
 -- What a call answers and writes of a block of the decoder that is held: how many packets it needs (0), or nothing.
 -- 14 says that there is no such block, 22 that it is contradictory, and 26 that no decoder is held.

@@ -6,8 +6,8 @@ use Rattle.raptorq_c.specs.declared.call_end.CallEnd.{CallEnd}
 use Rattle.raptorq_c.specs.declared.call_end.CallEnd.TheVariants.{Refused, WrongBuffer, Incomplete, NoCoder}
 
 -- 0 where a call is done, the number of what the codec refuses, or one of the library for C
-abbrev pub number_of : Result (Unit {0}) CallEnd → ℕ
-number_of (Ok x) = 0
+abbrev pub number_of : {Y : Type 0} → Result Y CallEnd → ℕ
+number_of (Ok y) = 0
 number_of (Err (Refused e)) = code_of e
 number_of (Err WrongBuffer) = 24
 number_of (Err Incomplete) = 25

@@ -1,9 +1,9 @@
 //! Many packets taken in one call.
-ghost use Rattle.std.specs.Prelude.{◌≡◌, ◌<◌};
+ghost use Rattle.std.specs.Prelude.{◌≡◌, ◌<◌, None};
 ghost use Rattle.rq_standard.specs.Streams.{frames_in};
 ghost use Rattle.raptorq.specs.Decoder.{state_of};
 ghost use Rattle.raptorq_c.specs.Frames.{AddsFrames, AreAdded, TakesFrames};
-ghost use Rattle.raptorq_c.specs.Handles.{decoder_in, decoder_of, encoder_in, encoder_of};
+ghost use Rattle.raptorq_c.specs.Handles.{coder_of, decoder_in, decoder_of};
 ghost use Rattle.raptorq_c.specs.Numbers.{number_of, refusal_number};
 
 use crate::call_end::{CallEnd, number};
@@ -44,7 +44,7 @@ fn add_whole(alloc: Global, decoder: &mut Decoder, packets: &[u8]) -> Result<(),
 // Takes them where the coder is a decoder.
 fn add_all(alloc: Global, coder: &mut Coder, packets: &[u8]) -> Result<(), CallEnd>
     ensures takes { TakesFrames packets.now (number_of result) (decoder_in coder.old) (decoder_in coder.new) }
-    ensures other { encoder_in coder.new ≡ encoder_in coder.old }
+    ensures other { decoder_in coder.old ≡ None → coder.new ≡ coder.old }
 {
     match coder {
         Coder::Receiver(decoder) => Ok(add_whole(alloc, decoder, packets)?),
@@ -60,7 +60,7 @@ fn add_all(alloc: Global, coder: &mut Coder, packets: &[u8]) -> Result<(), CallE
 #[unsafe(no_mangle)]
 pub extern "C" fn reamertan_add_packets(alloc: Global, handle: &mut Handle, packets: &[u8]) -> u8
     ensures takes { TakesFrames packets.now result (decoder_of handle.old) (decoder_of handle.new) }
-    ensures other { encoder_of handle.new ≡ encoder_of handle.old }
+    ensures other { decoder_of handle.old ≡ None → coder_of handle.new ≡ coder_of handle.old }
 {
     number(handle.change(alloc, |coder| add_all(alloc, coder, packets)))
 }

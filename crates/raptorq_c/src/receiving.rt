@@ -1,8 +1,9 @@
 //! A decoder that C keeps: packets one at a time, and the object once they determine it.
-ghost use Rattle.std.specs.Prelude.{◌≡◌, IsSomeAnd, IfOk};
+ghost use Rattle.std.specs.Prelude.{◌≡◌, Some, None, IsSomeAnd, IfOk};
+ghost use Rattle.std.specs.Result.{result_unwrap_or};
 ghost use Rattle.rq_bytes.specs.Refusals.{Answers};
 ghost use Rattle.raptorq.specs.Decoder.{state_of};
-ghost use Rattle.raptorq_c.specs.Handles.{coder_of, decoder_in, decoder_of, encoder_in, encoder_of, FillsWithAnswer, FillsWithBlock, IsAdded, IsNewDecoder, OpensDecoder, TakesBytes, TellsComplete, WritesMissing};
+ghost use Rattle.raptorq_c.specs.Handles.{coder_of, decoder_in, decoder_of, missing_in_coder, missing_of_handle, FillsWithAnswer, FillsWithBlock, IsAdded, IsNewDecoder, OpensDecoder, TakesBytes, TellsComplete, WritesMissing};
 ghost use Rattle.raptorq_c.specs.Numbers.{number_of, refusal_number};
 ghost use Rattle.raptorq_c.specs.Headers.{checked_header};
 
@@ -71,7 +72,7 @@ pub(crate) fn add_bytes(alloc: Global, decoder: &mut Decoder, packet: &[u8]) -> 
 // Takes a packet, where the coder is a decoder.
 fn add(alloc: Global, coder: &mut Coder, packet: &[u8]) -> Result<(), CallEnd>
     ensures takes { TakesBytes packet.now (number_of result) (decoder_in coder.old) (decoder_in coder.new) }
-    ensures other { encoder_in coder.new ≡ encoder_in coder.old }
+    ensures other { decoder_in coder.old ≡ None → coder.new ≡ coder.old }
 {
     match coder {
         Coder::Receiver(decoder) => Ok(add_bytes(alloc, decoder, packet)?),
@@ -88,7 +89,7 @@ fn add(alloc: Global, coder: &mut Coder, packet: &[u8]) -> Result<(), CallEnd>
 #[unsafe(no_mangle)]
 pub extern "C" fn reamertan_add_packet(alloc: Global, handle: &mut Handle, packet: &[u8]) -> u8
     ensures takes { TakesBytes packet.now result (decoder_of handle.old) (decoder_of handle.new) }
-    ensures other { encoder_of handle.new ≡ encoder_of handle.old }
+    ensures other { decoder_of handle.old ≡ None → coder_of handle.new ≡ coder_of handle.old }
 {
     number(handle.change(alloc, |coder| add(alloc, coder, packet)))
 }
@@ -153,9 +154,12 @@ pub extern "C" fn reamertan_write_block(
     number(handle.fill(alloc, bytes, |coder, bytes| write_part(coder, block, bytes)))
 }
 
-// Writes how many packets more a block needs at least, where the coder is a decoder.
-fn count_missing(coder: &Coder, block: u8, missing: &mut u32) -> Result<(), CallEnd>
-    ensures { WritesMissing (decoder_in coder.now) block (number_of result) missing.old missing.new }
+// How many packets more a block needs at least, where the coder is a decoder.
+fn missing_count(coder: &Coder, block: u8) -> Result<u32, CallEnd>
+    // What a call does that writes it over a 0.
+    ensures writes { WritesMissing (decoder_in coder.now) block (number_of result) 0 (result_unwrap_or result 0) }
+    ensures value { IfOk result (λ count. missing_in_coder block coder.now ≡ Some (Some count)) }
+    ensures contradicted { number_of result ≡ 22 → missing_in_coder block coder.now ≡ Some None }
 {
     let Coder::Receiver(decoder) = coder else {
         return Err(CallEnd::NoCoder);
@@ -163,8 +167,7 @@ fn count_missing(coder: &Coder, block: u8, missing: &mut u32) -> Result<(), Call
     let Some(count) = decoder.missing_packets(block)? else {
         return Err(CallEnd::Refused(Error::Contradiction));
     };
-    *missing = count;
-    Ok(())
+    Ok(count)
 }
 
 /// Writes how many packets more source block `block` needs at least, of ids that weren't taken yet:
@@ -180,14 +183,11 @@ pub extern "C" fn reamertan_missing_packets(
     missing: &mut u32,
 ) -> u8
     ensures writes { WritesMissing (decoder_of handle.old) block result missing.old missing.new }
+    ensures value { result ≡ 0 → missing_of_handle handle.old block ≡ Some (Some missing.new) }
+    ensures contradicted { result ≡ 22 → missing_of_handle handle.old block ≡ Some None }
     ensures same { coder_of handle.new ≡ coder_of handle.old }
 {
-    let answer = handle.ask(alloc, |coder| {
-        let mut count = 0;
-        count_missing(coder, block, &mut count)?;
-        Ok(count)
-    });
-    match answer {
+    match handle.ask(alloc, |coder| missing_count(coder, block)) {
         Ok(count) => {
             *missing = count;
             0
