@@ -49,11 +49,15 @@ pub record IsBlockEncoderIn (rows : List Row) (header : List ℕ) (number : ℕ)
 abbrev pub RefusesByPlan : List Row → List ℕ → List ℕ → Plan → Error → Type 0
 RefusesByPlan rows header block plan e = RefusesOver rows (λ table. RefusesPlanned table (configuration_of_bytes header) (length block) plan) e
 
+-- why a call doesn't answer 0 that makes it: for want of memory (21), or for what is refused
+abbrev pub StopsByPlan : List Row → List ℕ → List ℕ → ℕ → Plan → Type 0
+StopsByPlan rows header block answer plan = answer ≢ 0 → (answer ≡ 21) ⊎ IsCodeWhere (RefusesByPlan rows header block plan) answer
+
 -- What a call answers and does to a handle: it holds an encoder of the block, by the plan that another holds (0), or what it held.
 -- 26 says that the other holds no plan.
 pub record OpensBlockEncoder (rows : List Row) (header : List ℕ) (number : ℕ) (block : List ℕ) (plan : Option Plan) (answer : ℕ) (before after : Handle) : Type 0 where
   pub none : (answer ≡ 26) ↔ (plan ≡ None)
-  pub refused : IfSome plan (λ p. answer ≢ 0 → (answer ≡ 21) ⊎ IsCodeWhere (RefusesByPlan rows header block p) answer)
+  pub refused : IfSome plan (StopsByPlan rows header block answer)
   pub fits : answer ≡ 0 → IsSomeAnd plan (FitsBlock rows header block)
   pub encoder : answer ≡ 0 → IsSomeAnd (block_encoder_of after) (IsBlockEncoderIn rows header number block)
   pub kept : answer ≢ 0 → coder_of after ≡ coder_of before

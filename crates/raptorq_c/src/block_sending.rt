@@ -1,9 +1,9 @@
 //! The encoder of one block that C keeps, made by a plan.
-ghost use Rattle.std.specs.Prelude.{◌≡◌, ◌⊎◌, IsSomeAnd, IfOk, IfErr, OnOk};
+ghost use Rattle.std.specs.Prelude.{◌≡◌, ◌⊎◌, ◌↔◌, None, IfSome, IsSomeAnd, IfOk, IfErr, OnOk};
 ghost use Rattle.rq_block.specs.SourceBlockEncodingPlan.{plan_of};
 ghost use Rattle.raptorq_c.specs.Handles.{block_encoder_in, coder_of, plan_in, plan_of_handle};
 ghost use Rattle.raptorq_c.specs.Numbers.{number_of};
-ghost use Rattle.raptorq_c.specs.Plans.{FitsBlock, IsBlockEncoderIn, OpensBlockEncoder, RefusesByPlan};
+ghost use Rattle.raptorq_c.specs.Plans.{FitsBlock, IsBlockEncoderIn, OpensBlockEncoder, RefusesByPlan, StopsByPlan};
 
 use crate::call_end::{CallEnd, number};
 use crate::handle::Handle;
@@ -50,22 +50,23 @@ fn block_sender(
     Ok(Coder::BlockSender(Arc::new(alloc, encoder)?).boxed(alloc)?)
 }
 
-// Puts a new encoder of a block into the handle, where the coder is a plan.
-fn open(
+// The encoder of a block by the plan that a coder is, if it is one.
+fn block_encoder_by(
     alloc: Global,
     rows: &[Row],
     block: Block<'_>,
-    planner: &Coder,
-    handle: &mut Handle,
-) -> Result<(), CallEnd>
-    ensures { OpensBlockEncoder rows.now block.entry.configuration.now block.entry.number block.entry.bytes.now
-        (plan_in planner.now) (number_of result) handle.old handle.new }
+    coder: &Coder,
+) -> Result<Box<Coder>, CallEnd>
+    ensures none { (number_of result ≡ 26) ↔ (plan_in coder.now ≡ None) }
+    ensures refused { IfSome (plan_in coder.now) (StopsByPlan rows.now block.entry.configuration.now block.entry.bytes.now (number_of result)) }
+    ensures fits { OnOk result (IsSomeAnd (plan_in coder.now) (FitsBlock rows.now block.entry.configuration.now block.entry.bytes.now)) }
+    ensures encoder { IfOk result (λ b. IsSomeAnd (block_encoder_in b.value)
+        (IsBlockEncoderIn rows.now block.entry.configuration.now block.entry.number block.entry.bytes.now)) }
 {
-    let Coder::Planner(plan) = planner else {
+    let Coder::Planner(plan) = coder else {
         return Err(CallEnd::NoCoder);
     };
-    handle.replace(alloc, block_sender(alloc, rows, block, plan.deref())?);
-    Ok(())
+    Ok(block_sender(alloc, rows, block, plan.deref())?)
 }
 
 /// Makes the encoder of a source block by the plan that a handle holds, which the other handle then
@@ -87,15 +88,13 @@ pub extern "C" fn reamertan_open_block_encoder(
     ensures opens { OpensBlockEncoder rows.now configuration.now block bytes.now (plan_of_handle plan.old) result handle.old handle.new }
     ensures same { coder_of plan.new ≡ coder_of plan.old }
 {
-    let Some(planner) = plan.take(alloc) else {
-        return number(Err(CallEnd::NoCoder));
-    };
-    let block = Block {
-        configuration,
-        number: block,
-        bytes,
-    };
-    let ended = open(alloc, rows, block, planner.as_ref(), handle);
-    plan.put(planner);
-    number(ended)
+    number(handle.replace_by(alloc, plan, |coder| {
+        // For the proof: nothing is known of a closure that takes in a struct of references.
+        let block = Block {
+            configuration,
+            number: block,
+            bytes,
+        };
+        block_encoder_by(alloc, rows, block, coder)
+    }))
 }

@@ -30,10 +30,7 @@ fn copy_of(alloc: Global, coder: &Coder) -> Result<Box<Coder>, CallEnd>
     let Coder::Receiver(decoder) = coder else {
         return Err(CallEnd::NoCoder);
     };
-    match copied(alloc, decoder) {
-        Ok(boxed) => Ok(boxed),
-        Err(_) => Err(CallEnd::Refused(Error::OutOfMemory)),
-    }
+    Ok(copied(alloc, decoder)?)
 }
 
 /// Makes a further decoder that stands where the one does that a handle holds, which the further handle

@@ -1,10 +1,10 @@
 //! The encoder of one block by a plan alone, for blocks of one size one after another.
-ghost use Rattle.std.specs.Prelude.{◌≡◌, ◌<◌, length, IsSomeAnd, IfOk, OnOk};
+ghost use Rattle.std.specs.Prelude.{◌≡◌, ◌<◌, ◌↔◌, length, None, IfSome, IsSomeAnd, IfOk, OnOk};
 ghost use Rattle.rq_bytes.specs.Refusals.{Answers};
 ghost use Rattle.rq_standard.specs.Configuration.{configuration_of_bytes, IsAligned};
 ghost use Rattle.rq_block.specs.SourceBlockEncodingPlan.{plan_of};
 ghost use Rattle.raptorq_c.specs.Handles.{block_encoder_in, coder_of, plan_in, plan_of_handle};
-ghost use Rattle.raptorq_c.specs.Numbers.{number_of};
+ghost use Rattle.raptorq_c.specs.Numbers.{number_of, IsNumber};
 ghost use Rattle.raptorq_c.specs.Plans.{planned_refusal, IsPlannedEncoder, OpensPlannedEncoder};
 
 use crate::block_sending::Block;
@@ -56,21 +56,18 @@ fn planned_sender(
     Ok(Coder::BlockSender(Arc::new(alloc, encoder)?).boxed(alloc)?)
 }
 
-// Puts it into the handle, where the coder is a plan.
-fn open(
-    alloc: Global,
-    block: Block<'_>,
-    planner: &Coder,
-    handle: &mut Handle,
-) -> Result<(), CallEnd>
-    ensures { OpensPlannedEncoder block.entry.configuration.now block.entry.number block.entry.bytes.now
-        (plan_in planner.now) (number_of result) handle.old handle.new }
+// The encoder of a block by the plan that a coder is, if it is one.
+fn planned_encoder_by(alloc: Global, block: Block<'_>, coder: &Coder) -> Result<Box<Coder>, CallEnd>
+    ensures none { (number_of result ≡ 26) ↔ (plan_in coder.now ≡ None) }
+    ensures refused { IfSome (plan_in coder.now) (λ p. IsNumber (number_of result)
+        (planned_refusal (configuration_of_bytes block.entry.configuration.now) (length block.entry.bytes.now) p)) }
+    ensures encoder { IfOk result (λ b. IsSomeAnd (plan_in coder.now) (λ p. IsSomeAnd (block_encoder_in b.value)
+        (IsPlannedEncoder block.entry.configuration.now block.entry.number block.entry.bytes.now p))) }
 {
-    let Coder::Planner(plan) = planner else {
+    let Coder::Planner(plan) = coder else {
         return Err(CallEnd::NoCoder);
     };
-    handle.replace(alloc, planned_sender(alloc, block, plan.deref())?);
-    Ok(())
+    Ok(planned_sender(alloc, block, plan.deref())?)
 }
 
 /// Makes the encoder of a source block by the plan that a handle holds, which the other handle then
@@ -93,15 +90,13 @@ pub extern "C" fn reamertan_open_planned_encoder(
     ensures opens { OpensPlannedEncoder configuration.now block bytes.now (plan_of_handle plan.old) result handle.old handle.new }
     ensures same { coder_of plan.new ≡ coder_of plan.old }
 {
-    let Some(planner) = plan.take(alloc) else {
-        return number(Err(CallEnd::NoCoder));
-    };
-    let block = Block {
-        configuration,
-        number: block,
-        bytes,
-    };
-    let ended = open(alloc, block, planner.as_ref(), handle);
-    plan.put(planner);
-    number(ended)
+    number(handle.replace_by(alloc, plan, |coder| {
+        // For the proof: nothing is known of a closure that takes in a struct of references.
+        let block = Block {
+            configuration,
+            number: block,
+            bytes,
+        };
+        planned_encoder_by(alloc, block, coder)
+    }))
 }

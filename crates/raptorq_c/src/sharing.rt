@@ -78,10 +78,7 @@ fn twin_of(alloc: Global, coder: &Coder) -> Result<Box<Coder>, CallEnd>
         Coder::BlockSender(encoder) => twin_block(alloc, encoder),
         _ => return Err(CallEnd::NoCoder),
     };
-    match twin {
-        Ok(boxed) => Ok(boxed),
-        Err(_) => Err(CallEnd::Refused(Error::OutOfMemory)),
-    }
+    Ok(twin?)
 }
 
 /// Makes a further handle on the encoder or the plan that a handle holds. What it held before is freed.
