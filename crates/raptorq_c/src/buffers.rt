@@ -1,5 +1,5 @@
 //! Buffers of the caller's, which are filled whole or left as they are.
-ghost use Rattle.std.specs.Prelude.{◌≡◌, ◌≢◌, length, option_map, vec_items, OnOk, OnErr};
+ghost use Rattle.std.specs.Prelude.{◌≡◌, ◌≢◌, length, OnOk, OnErr};
 ghost use Rattle.std.specs.Option.{option_copied};
 ghost use Rattle.raptorq_c.specs.ObjectBuffers.{Answered, IsFilled};
 ghost use Rattle.raptorq_c.specs.Numbers.{number_of};
@@ -22,22 +22,13 @@ pub(crate) fn fill(buffer: &mut [u8], bytes: &[u8]) -> Result<(), CallEnd>
 }
 
 /// Fills a buffer with bytes that a decoder answers, where it does.
-pub(crate) fn fill_part(buffer: &mut [u8], part: Option<&[u8]>) -> Result<(), CallEnd>
-    ensures answered { Answered (number_of result) buffer.old buffer.new (λ r. r ≡ option_copied part.entry) }
+pub(crate) fn fill_answer(buffer: &mut [u8], answer: Option<&[u8]>) -> Result<(), CallEnd>
+    ensures answered { Answered (number_of result) buffer.old buffer.new (λ r. r ≡ option_copied answer.entry) }
     ensures number { IsFilled (number_of result) }
     ensures kept { OnErr result (buffer.new ≡ buffer.old) }
 {
-    match part {
+    match answer {
         Some(bytes) => fill(buffer, bytes),
         None => Err(CallEnd::Incomplete),
     }
-}
-
-/// Fills a buffer with the object that a decoder answers.
-pub(crate) fn fill_answer(object: &mut [u8], answer: &Option<Vec<u8>>) -> Result<(), CallEnd>
-    ensures answered { Answered (number_of result) object.old object.new (λ r. r ≡ option_map vec_items answer.now) }
-    ensures number { IsFilled (number_of result) }
-    ensures kept { OnErr result (object.new ≡ object.old) }
-{
-    fill_part(object, answer.as_deref())
 }

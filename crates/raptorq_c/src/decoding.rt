@@ -47,7 +47,7 @@ fn decode(
     let config = ObjectTransmissionInformation::deserialize(configuration);
     let steps = steps(alloc, config.frame_size(), packets)?;
     let answer = decode_all(alloc, &table, config, steps)?;
-    fill_answer(object, &answer)
+    fill_answer(object, answer.as_deref())
 }
 
 /// Fills a buffer with the object of packets, in any order, each any number of times, where they

@@ -7,7 +7,7 @@ ghost use Rattle.raptorq_c.specs.Handles.{coder_of, decoder_in, decoder_of, miss
 ghost use Rattle.raptorq_c.specs.Numbers.{number_of, refusal_number};
 ghost use Rattle.raptorq_c.specs.Headers.{checked_header};
 
-use crate::buffers::{fill_answer, fill_part};
+use crate::buffers::fill_answer;
 use crate::call_end::{CallEnd, number};
 use crate::handle::Handle;
 use crate::owned::Coder;
@@ -102,7 +102,7 @@ fn write(coder: &Coder, object: &mut [u8]) -> Result<(), CallEnd>
         return Err(CallEnd::NoCoder);
     };
     let answer = decoder.get_result()?;
-    fill_answer(object, &answer)
+    fill_answer(object, answer.as_deref())
 }
 
 /// Fills a buffer with the object, where its packets determine it.
@@ -132,7 +132,7 @@ fn write_part(coder: &Coder, block: u8, bytes: &mut [u8]) -> Result<(), CallEnd>
     if block >= decoder.get_config().source_blocks() {
         return Err(CallEnd::Refused(Error::UnknownBlock));
     }
-    fill_part(bytes, decoder.block_bytes(block))
+    fill_answer(bytes, decoder.block_bytes(block))
 }
 
 /// Fills a buffer with the object's bytes in source block `block`, where its packets determine the

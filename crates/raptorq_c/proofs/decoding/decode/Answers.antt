@@ -94,12 +94,13 @@ returns c =
     let table = c.in_ok-table.table in
     let k = configuration_of_bytes c.args.configuration.now in
     let number = number_of c.fill_answer.result in
-    let after = c.fill_answer.new.object in
+    let after = c.fill_answer.new.buffer in
+    let answered = subst (λ answer. Answered number c.args.object.now after (λ r. r ≡ answer)) c.as_deref.ensures.value c.fill_answer.ensures.answered in
     let passed = subst (λ d. IsRunRefusal table d (packets_of c.in_ok-steps.steps.items) (Ok tt)) c.deserialize-config.ensures c.in_ok-answer.ensures.in_order in
     record {
       refused = filled_run c.args.rows.now table c.args.configuration.now c.args.packets.now c.in_ok-table.ensures number (spelled read) (subst (λ ps. IsRunRefusal table k ps (Ok tt)) (came read) passed) (inr c.fill_answer.ensures.number);
-      answered = filled at IsAnswerAfter c.in_ok-answer.ensures.answer number after c.fill_answer.ensures.answered;
-      headline = filled at AnswersExactly c.in_ok-answer.ensures.headline number after c.fill_answer.ensures.answered;
-      only_object = filled at AnswersWhereAnyCan c.in_ok-answer.ensures.only_object number after c.fill_answer.ensures.answered;
+      answered = filled at IsAnswerAfter c.in_ok-answer.ensures.answer number after answered;
+      headline = filled at AnswersExactly c.in_ok-answer.ensures.headline number after answered;
+      only_object = filled at AnswersWhereAnyCan c.in_ok-answer.ensures.only_object number after answered;
       kept = is_stopped c.fill_answer.result (after ≡ c.args.object.now) c.fill_answer.ensures.kept;
     }

@@ -1,4 +1,5 @@
-use Rattle.std.proofs.Common.{sym, subst, option_map, vec_items}
+use Rattle.std.proofs.Common.{sym, subst}
+use Rattle.std.specs.Option.{option_copied}
 use Rattle.raptorq.specs.Decoder.{state_of, IsAnswerOf}
 use Rattle.raptorq_c.specs.Handles.{FillsWithAnswer, decoder_in}
 use Rattle.raptorq_c.specs.Numbers.{number_of}
@@ -9,6 +10,8 @@ pub returns : goal.returns
 returns c =
     let n = number_of c.fill_answer.result in
     let s = state_of c.in-Receiver.decoder in
-    let answered = answered_by (IsAnswerOf s) (option_map vec_items c.in_ok-answer.answer) n c.args.object.now c.fill_answer.new.object c.in_ok-answer.ensures.answer c.fill_answer.ensures.answered in
-    subst (λ k. FillsWithAnswer (decoder_in k) n c.args.object.now c.fill_answer.new.object) (sym c.in-Receiver.is)
-    (fills_answer s c.fill_answer.result c.args.object.now c.fill_answer.new.object c.fill_answer.ensures.number answered c.fill_answer.ensures.kept)
+    let answer = option_copied c.as_deref.result in
+    let is = subst (IsAnswerOf s) (sym c.as_deref.ensures.value) c.in_ok-answer.ensures.answer in
+    let answered = answered_by (IsAnswerOf s) answer n c.args.object.now c.fill_answer.new.buffer is c.fill_answer.ensures.answered in
+    subst (λ k. FillsWithAnswer (decoder_in k) n c.args.object.now c.fill_answer.new.buffer) (sym c.in-Receiver.is)
+    (fills_answer s c.fill_answer.result c.args.object.now c.fill_answer.new.buffer c.fill_answer.ensures.number answered c.fill_answer.ensures.kept)
