@@ -100,6 +100,7 @@ impl Handle {
         ensures same { coder_of self.new ≡ coder_of self.old }
         ensures none { coder_of self.old ≡ None → result ≡ Err CallEnd.NoCoder }
         ensures kept { coder_of self.old ≡ None → buffer.new ≡ buffer.old }
+        // The call was made at the coder that is held, and left the buffer as it is now.
         ensures filled { IfSome (coder_of self.old) (λ k.
             (x : _) × (x.now ≡ k) × ((y : _) × (y.now ≡ buffer.old) × ((z : _) × (z.now ≡ buffer.new) × F.post call x y result z))) }
     {
@@ -140,6 +141,7 @@ impl Handle {
         requires { F.IsAlwaysCallable make }
         ensures same { coder_of other.new ≡ coder_of other.old }
         ensures none { coder_of other.old ≡ None → result ≡ Err CallEnd.NoCoder }
+        // What this one holds is what `make` made of the other's coder.
         ensures made { OnOk result (IsSomeAnd (coder_of other.old) (λ k. IsSomeAnd (coder_of self.new) (λ made.
             (b : _) × (b.value ≡ made) × FnOnceReturnsAt F.FnOnce make k (Ok b)))) }
         ensures refused { IfErr result (λ e. IfSome (coder_of other.old) (λ k. FnOnceReturnsAt F.FnOnce make k (Err e))) }

@@ -81,9 +81,9 @@ fn twin_of(alloc: Global, coder: &Coder) -> Result<Box<Coder>, CallEnd>
     Ok(twin?)
 }
 
-/// Makes a further handle on the encoder or the plan that a handle holds. What it held before is freed.
-/// Each of the two goes on when the other is closed, and either may be used while another thread uses
-/// the other.
+/// Makes a further handle on the encoder or the plan that a handle holds. What the further handle held
+/// before is freed. Each of the two goes on when the other is closed, and either may be used while
+/// another thread uses the other.
 ///
 /// Answers 26 where the first handle holds neither, as where it holds a decoder. Else the one refusal is
 /// want of memory. Where it refuses, the further handle holds what it held.
