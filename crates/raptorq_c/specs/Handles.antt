@@ -26,7 +26,7 @@ use Rattle.raptorq_c.specs.Numbers.{refusal_number, IsNumber}
 use Rattle.raptorq_c.specs.Headers.{checked_header}
 use Rattle.raptorq_c.specs.declared.handle.Handle.{Handle}
 use Rattle.raptorq_c.specs.declared.owned.Coder.{Coder}
-use Rattle.raptorq_c.specs.declared.owned.Coder.TheVariants.{Sender, Receiver, Planner, BlockSender}
+use Rattle.raptorq_c.specs.declared.owned.Coder.TheVariants.{Encoder, Decoder, Plan as PlanCoder, BlockEncoder}
 use Rattle.raptorq_c.specs.declared.rows.Row.{Row}
 use Rattle.raptorq_c.specs.FurtherRows.{HoldsOver, RefusesOver}
 
@@ -34,19 +34,19 @@ abbrev pub coder_of : Handle → Option Coder
 coder_of h = h.owned.value
 
 abbrev pub decoder_in : Coder → Option State
-decoder_in (Receiver d) = Some (state_of d)
+decoder_in (Decoder d) = Some (state_of d)
 decoder_in _ = None
 
 abbrev pub encoder_in : Coder → Option Encoded
-encoder_in (Sender a) = Some (encoded_of (arc_value a))
+encoder_in (Encoder a) = Some (encoded_of (arc_value a))
 encoder_in _ = None
 
 abbrev pub plan_in : Coder → Option Plan
-plan_in (Planner a) = Some (plan_of (arc_value a))
+plan_in (PlanCoder a) = Some (plan_of (arc_value a))
 plan_in _ = None
 
 abbrev pub block_encoder_in : Coder → Option BlockEncoded
-block_encoder_in (BlockSender a) = Some (block_encoded_of (arc_value a))
+block_encoder_in (BlockEncoder a) = Some (block_encoded_of (arc_value a))
 block_encoder_in _ = None
 
 -- the decoder that a handle holds, if it holds one
@@ -152,8 +152,8 @@ pub record IsEncoderIn (rows : List Row) (header object : List ℕ) (e : Encoded
   pub encoder : HoldsOver rows (λ table. IsEncoderOf table object e)
 
 -- what an encoder of this object, in the configuration that a header has, is refused for
-abbrev pub RefusesSender : List Row → List ℕ → List ℕ → Error → Type 0
-RefusesSender rows header object e = RefusesOver rows (λ table. RefusesEncoder table (configuration_of_bytes header) (length object)) e
+abbrev pub RefusesEncoderOver : List Row → List ℕ → List ℕ → Error → Type 0
+RefusesEncoderOver rows header object e = RefusesOver rows (λ table. RefusesEncoder table (configuration_of_bytes header) (length object)) e
 
 -- the number of a refusal of which P
 pub record IsCodeWhere (P : Error → Type 0) (number : ℕ) : Type 0 where
@@ -163,7 +163,7 @@ pub record IsCodeWhere (P : Error → Type 0) (number : ℕ) : Type 0 where
 
 -- What a call answers and does to a handle: it holds an encoder of the object (0), or what it held.
 pub record OpensEncoder (rows : List Row) (header object : List ℕ) (answer : ℕ) (before after : Handle) : Type 0 where
-  pub refused : answer ≢ 0 → (answer ≡ 21) ⊎ IsCodeWhere (RefusesSender rows header object) answer
+  pub refused : answer ≢ 0 → (answer ≡ 21) ⊎ IsCodeWhere (RefusesEncoderOver rows header object) answer
   pub encoder : answer ≡ 0 → IsSomeAnd (encoder_of after) (IsEncoderIn rows header object)
   pub kept : answer ≢ 0 → coder_of after ≡ coder_of before
 
@@ -188,7 +188,7 @@ pub record FillsWithPacket (held : Option Encoded) (block esi answer : ℕ) (bef
 
 -- how many packets more a decoder says that a block needs, no number being said of a contradictory one; another coder says nothing
 abbrev pub missing_in_coder : ℕ → Coder → Option (Option ℕ)
-missing_in_coder block (Receiver d) = Some (missing_of d block)
+missing_in_coder block (Decoder d) = Some (missing_of d block)
 missing_in_coder block _ = None
 
 abbrev pub missing_of_handle : Handle → ℕ → Option (Option ℕ)

@@ -27,12 +27,12 @@ pub record IsPlanIn (rows : List Row) (count : ℕ) (p : Plan) : Type 0 where
   pub plan : HoldsOver rows (λ table. IsPlanOf (row_of table count) p.operations)
 
 -- what such a plan is refused for
-abbrev pub RefusesPlanner : List Row → ℕ → Error → Type 0
-RefusesPlanner rows count e = RefusesOver rows (λ table. RefusesPlan table count) e
+abbrev pub RefusesPlanOver : List Row → ℕ → Error → Type 0
+RefusesPlanOver rows count e = RefusesOver rows (λ table. RefusesPlan table count) e
 
 -- What a call answers and does to a handle: it holds a plan (0), or what it held.
 pub record OpensPlan (rows : List Row) (count answer : ℕ) (before after : Handle) : Type 0 where
-  pub refused : answer ≢ 0 → (answer ≡ 21) ⊎ IsCodeWhere (RefusesPlanner rows count) answer
+  pub refused : answer ≢ 0 → (answer ≡ 21) ⊎ IsCodeWhere (RefusesPlanOver rows count) answer
   pub plan : answer ≡ 0 → IsSomeAnd (plan_of_handle after) (IsPlanIn rows count)
   pub kept : answer ≢ 0 → coder_of after ≡ coder_of before
 

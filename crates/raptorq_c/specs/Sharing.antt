@@ -5,13 +5,13 @@ use Rattle.raptorq.specs.Decoder.{solving_of_blocks}
 use Rattle.raptorq_c.specs.Handles.{coder_of, decoder_of, encoder_of, block_encoder_of, plan_of_handle}
 use Rattle.raptorq_c.specs.declared.handle.Handle.{Handle}
 use Rattle.raptorq_c.specs.declared.owned.Coder.{Coder}
-use Rattle.raptorq_c.specs.declared.owned.Coder.TheVariants.{Sender, Receiver, Planner, BlockSender}
+use Rattle.raptorq_c.specs.declared.owned.Coder.TheVariants.{Encoder, Decoder, Plan, BlockEncoder}
 
 -- whether several handles may hold it: encoders and plans, which no call changes
 abbrev pub is_shared : Coder → Bool
-is_shared (Sender a) = true
-is_shared (Planner a) = true
-is_shared (BlockSender a) = true
+is_shared (Encoder a) = true
+is_shared (Plan a) = true
+is_shared (BlockEncoder a) = true
 is_shared _ = false
 
 abbrev pub holds_shared : Option Coder → Bool
@@ -29,7 +29,7 @@ pub record Shares (answer : ℕ) (held before after : Handle) : Type 0 where
 
 -- how the blocks of a decoder are solved: their sparse thresholds, and what the last attempts found
 abbrev pub solving_in : Coder → Option (List Solving)
-solving_in (Receiver d) = Some (solving_of_blocks d)
+solving_in (Decoder d) = Some (solving_of_blocks d)
 solving_in _ = None
 
 abbrev pub solving_of_handle : Handle → Option (List Solving)

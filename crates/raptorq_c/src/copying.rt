@@ -16,7 +16,7 @@ fn copied(alloc: Global, decoder: &Decoder) -> Result<Box<Coder>, AllocError>
     ensures decoder { IfOk result (λ b. decoder_in b.value ≡ Some (state_of decoder.now)) }
     ensures solving { IfOk result (λ b. solving_in b.value ≡ Some (solving_of_blocks decoder.now)) }
 {
-    Coder::Receiver(decoder.clone()?).boxed(alloc)
+    Coder::Decoder(decoder.clone()?).boxed(alloc)
 }
 
 // A clone of the decoder that a coder is, if it is one.
@@ -27,7 +27,7 @@ fn copy_of(alloc: Global, coder: &Coder) -> Result<Box<Coder>, CallEnd>
     ensures refused { IfErr result (λ end. ((end ≡ CallEnd.NoCoder) × (decoder_in coder.now ≡ None))
         ⊎ ((end ≡ CallEnd.Refused Error.OutOfMemory) × IsSome (decoder_in coder.now))) }
 {
-    let Coder::Receiver(decoder) = coder else {
+    let Coder::Decoder(decoder) = coder else {
         return Err(CallEnd::NoCoder);
     };
     Ok(copied(alloc, decoder)?)

@@ -7,9 +7,9 @@ ghost use Rattle.raptorq_c.specs.Handles.{coder_of, decoder_in, decoder_of};
 ghost use Rattle.raptorq_c.specs.Numbers.{number_of, refusal_number};
 
 use crate::call_end::{CallEnd, number};
+use crate::decoders::add_bytes;
 use crate::handle::Handle;
 use crate::owned::Coder;
-use crate::receiving::add_bytes;
 use raptorq::Decoder;
 use raptorq::error::Error;
 use std::alloc::Global;
@@ -47,7 +47,7 @@ fn add_all(alloc: Global, coder: &mut Coder, packets: &[u8]) -> Result<(), CallE
     ensures other { decoder_in coder.old ≡ None → coder.new ≡ coder.old }
 {
     match coder {
-        Coder::Receiver(decoder) => Ok(add_whole(alloc, decoder, packets)?),
+        Coder::Decoder(decoder) => Ok(add_whole(alloc, decoder, packets)?),
         _ => Err(CallEnd::NoCoder),
     }
 }

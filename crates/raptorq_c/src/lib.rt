@@ -10,49 +10,49 @@
 //! refuse what `SystematicTable::with_rows` refuses of these (19).
 #![tactic(auto)]
 
-mod block_sending;
+mod block_encoders;
 mod buffers;
 mod call_end;
 mod closing;
 mod configurations;
 mod copying;
+mod decoders;
 mod decoding;
+mod encoders;
 mod encoding;
 mod frames;
 mod handle;
 mod owned;
-mod planned_sending;
-mod planning;
-mod receiving;
+mod planned_encoders;
+mod plans;
 mod rows;
 mod runs;
-mod sending;
 mod sharing;
 mod sizes;
 #[cfg(test)]
 mod tests;
 mod version;
 
-pub use block_sending::reamertan_open_block_encoder;
+pub use block_encoders::reamertan_open_block_encoder;
 pub use closing::reamertan_close;
 pub use configurations::{
     Parameters, reamertan_check_configuration, reamertan_derive_configuration,
     reamertan_read_configuration, reamertan_write_configuration,
 };
 pub use copying::reamertan_copy_decoder;
-pub use decoding::reamertan_decode;
-pub use encoding::reamertan_encode;
-pub use frames::reamertan_add_packets;
-pub use handle::{Handle, crosses_threads};
-pub use planned_sending::reamertan_open_planned_encoder;
-pub use planning::reamertan_open_plan;
-pub use receiving::{
+pub use decoders::{
     reamertan_add_packet, reamertan_is_complete, reamertan_missing_packets, reamertan_open_decoder,
     reamertan_write_block, reamertan_write_object,
 };
+pub use decoding::reamertan_decode;
+pub use encoders::{reamertan_open_encoder, reamertan_write_packet};
+pub use encoding::reamertan_encode;
+pub use frames::reamertan_add_packets;
+pub use handle::{Handle, crosses_threads};
+pub use planned_encoders::reamertan_open_planned_encoder;
+pub use plans::reamertan_open_plan;
 pub use rows::{Row, no_rows};
 pub use runs::{reamertan_write_block_packets, reamertan_write_packets};
-pub use sending::{reamertan_open_encoder, reamertan_write_packet};
 pub use sharing::{crosses_threads_shared, reamertan_share};
 pub use sizes::{Range, reamertan_block_range, reamertan_packets_length};
 pub use version::reamertan_version;

@@ -12,13 +12,13 @@ use std::sync::Arc;
 #[derive(Drop)]
 pub enum Coder {
     /// Makes packets of an object.
-    Sender(Arc<Encoder, Global>),
+    Encoder(Arc<Encoder, Global>),
     /// Takes packets of an object.
-    Receiver(Decoder),
-    /// Makes encoders of blocks.
-    Planner(Arc<SourceBlockEncodingPlan, Global>),
+    Decoder(Decoder),
+    /// Solves the equations of blocks of one size, whatever their bytes.
+    Plan(Arc<SourceBlockEncodingPlan, Global>),
     /// Makes packets of a block.
-    BlockSender(Arc<SourceBlockEncoder, Global>),
+    BlockEncoder(Arc<SourceBlockEncoder, Global>),
 }
 
 impl Coder {

@@ -97,7 +97,7 @@ fn write(
 ) -> Result<(), CallEnd>
     ensures { FillsHeldRun (run_of_object block ids.first ids.count) (encoder_in coder.now) ids.first ids.count (number_of result) packets.old packets.new }
 {
-    let Coder::Sender(encoder) = coder else {
+    let Coder::Encoder(encoder) = coder else {
         return Err(CallEnd::NoCoder);
     };
     let end = ids.end()?;
@@ -135,7 +135,7 @@ pub extern "C" fn reamertan_write_packets(
 fn write_of_block(alloc: Global, coder: &Coder, ids: Ids, packets: &mut [u8]) -> Result<(), CallEnd>
     ensures { FillsHeldRun (run_of_block ids.first ids.count) (block_encoder_in coder.now) ids.first ids.count (number_of result) packets.old packets.new }
 {
-    let Coder::BlockSender(encoder) = coder else {
+    let Coder::BlockEncoder(encoder) = coder else {
         return Err(CallEnd::NoCoder);
     };
     let end = ids.end()?;

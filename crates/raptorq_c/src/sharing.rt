@@ -36,7 +36,7 @@ fn twin_encoder(alloc: Global, encoder: &Arc<Encoder, Global>) -> Result<Box<Cod
     ensures no_block { IfOk result (λ b. block_encoder_in b.value ≡ None) }
     ensures no_plan { IfOk result (λ b. plan_in b.value ≡ None) }
 {
-    Coder::Sender(Arc::try_clone(encoder)?).boxed(alloc)
+    Coder::Encoder(Arc::try_clone(encoder)?).boxed(alloc)
 }
 
 // A further owner of a plan.
@@ -48,7 +48,7 @@ fn twin_plan(
     ensures no_block { IfOk result (λ b. block_encoder_in b.value ≡ None) }
     ensures no_encoder { IfOk result (λ b. encoder_in b.value ≡ None) }
 {
-    Coder::Planner(Arc::try_clone(plan)?).boxed(alloc)
+    Coder::Plan(Arc::try_clone(plan)?).boxed(alloc)
 }
 
 // A further owner of a block's encoder.
@@ -60,7 +60,7 @@ fn twin_block(
     ensures no_plan { IfOk result (λ b. plan_in b.value ≡ None) }
     ensures no_encoder { IfOk result (λ b. encoder_in b.value ≡ None) }
 {
-    Coder::BlockSender(Arc::try_clone(encoder)?).boxed(alloc)
+    Coder::BlockEncoder(Arc::try_clone(encoder)?).boxed(alloc)
 }
 
 // A further owner of what a coder shares, if it does.
@@ -73,9 +73,9 @@ fn twin_of(alloc: Global, coder: &Coder) -> Result<Box<Coder>, CallEnd>
         ⊎ ((end ≡ CallEnd.Refused Error.OutOfMemory) × (is_shared coder.now ≡ true))) }
 {
     let twin = match coder {
-        Coder::Sender(encoder) => twin_encoder(alloc, encoder),
-        Coder::Planner(plan) => twin_plan(alloc, plan),
-        Coder::BlockSender(encoder) => twin_block(alloc, encoder),
+        Coder::Encoder(encoder) => twin_encoder(alloc, encoder),
+        Coder::Plan(plan) => twin_plan(alloc, plan),
+        Coder::BlockEncoder(encoder) => twin_block(alloc, encoder),
         _ => return Err(CallEnd::NoCoder),
     };
     Ok(twin?)

@@ -285,7 +285,7 @@ fn shares(rt: HostRuntime) -> Result<(), Fail> {
     let none = reamertan_share(rt.alloc(), &mut handle, &mut twin);
     let opened = reamertan_open_encoder(rt.alloc(), &[], &HEADER, &[7, 8, 9], &mut handle);
     let shared = reamertan_share(rt.alloc(), &mut handle, &mut twin);
-    let receiver = reamertan_open_decoder(rt.alloc(), &[], &HEADER, &mut handle);
+    let replaced = reamertan_open_decoder(rt.alloc(), &[], &HEADER, &mut handle);
     let unknown = reamertan_write_packets(rt.alloc(), &mut twin, 1, 0, 2, &mut packets);
     let written = reamertan_write_packets(rt.alloc(), &mut twin, 0, 0, 2, &mut packets);
     let of_decoder = reamertan_share(rt.alloc(), &mut handle, &mut twin);
@@ -293,7 +293,7 @@ fn shares(rt: HostRuntime) -> Result<(), Fail> {
     reamertan_close(rt.alloc(), &mut handle);
     twin.let_go();
     handle.let_go();
-    assert!(rt; [none, opened, shared, receiver] == [26, 0, 0, 0]);
+    assert!(rt; [none, opened, shared, replaced] == [26, 0, 0, 0]);
     assert!(rt; [unknown, written, of_decoder] == [14, 0, 26]);
     assert!(rt; packets == [0, 0, 0, 0, 7, 8, 0, 0, 0, 1, 9, 0]);
     Ok(())

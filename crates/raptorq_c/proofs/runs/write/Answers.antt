@@ -15,8 +15,8 @@ returns c =
     let count = c.args.ids.count in
     let block = c.args.block in
     let n = number_of c.fill_run.result in
-    let e = encoded_of (arc_value c.in-Sender.encoder) in
+    let e = encoded_of (arc_value c.in-Encoder.encoder) in
     let b = block_encoded_of c.in_ok-found.found.now in
     let found = subst (λ d. block_in (encoded_of d) block ≡ ok_of b) c.deref.ensures c.in_ok-found.ensures.found in
-    subst (λ k. FillsHeldRun (run_of_object block first count) (encoder_in k) first count n c.args.packets.now c.fill_run.new.packets) (sym c.in-Sender.is)
+    subst (λ k. FillsHeldRun (run_of_object block first count) (encoder_in k) first count n c.args.packets.now c.fill_run.new.packets) (sym c.in-Encoder.is)
     (run_as_wanted (λ held. block_in held block) e b first count c.in_ok-end.end n c.args.packets.now c.fill_run.new.packets (sym c.in_ok-end.ensures) found c.fill_run.ensures)

@@ -14,7 +14,7 @@ returns c =
     let count = c.args.ids.count in
     let end = c.in_ok-end.end in
     let n = number_of c.fill_run.result in
-    let b = block_encoded_of (arc_value c.in-BlockSender.encoder) in
+    let b = block_encoded_of (arc_value c.in-BlockEncoder.encoder) in
     let fills = subst (λ d. FillsRun (ok_of (block_encoded_of d)) first (end - first) n c.args.packets.now c.fill_run.new.packets) c.deref.ensures c.fill_run.ensures in
-    subst (λ k. FillsHeldRun (run_of_block first count) (block_encoder_in k) first count n c.args.packets.now c.fill_run.new.packets) (sym c.in-BlockSender.is)
+    subst (λ k. FillsHeldRun (run_of_block first count) (block_encoder_in k) first count n c.args.packets.now c.fill_run.new.packets) (sym c.in-BlockEncoder.is)
     (run_as_wanted (λ held. ok_of held) b b first count end n c.args.packets.now c.fill_run.new.packets (sym c.in_ok-end.ensures) refl fills)

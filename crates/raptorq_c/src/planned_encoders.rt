@@ -7,7 +7,7 @@ ghost use Rattle.raptorq_c.specs.Handles.{block_encoder_in, coder_of, plan_in, p
 ghost use Rattle.raptorq_c.specs.Numbers.{number_of, IsNumber};
 ghost use Rattle.raptorq_c.specs.Plans.{planned_refusal, IsPlannedEncoder, OpensPlannedEncoder};
 
-use crate::block_sending::Block;
+use crate::block_encoders::Block;
 use crate::call_end::{CallEnd, number};
 use crate::handle::Handle;
 use crate::owned::Coder;
@@ -40,7 +40,7 @@ fn check_planned(
 }
 
 // The encoder of a block, by a plan for as many symbols.
-fn planned_sender(
+fn planned_encoder(
     alloc: Global,
     block: Block<'_>,
     plan: &SourceBlockEncodingPlan,
@@ -53,7 +53,7 @@ fn planned_sender(
     let config = ObjectTransmissionInformation::deserialize(block.configuration);
     check_planned(&config, block.bytes.len(), plan)?;
     let encoder = SourceBlockEncoder::of_block(alloc, block.number, &config, block.bytes, plan)?;
-    Ok(Coder::BlockSender(Arc::new(alloc, encoder)?).boxed(alloc)?)
+    Ok(Coder::BlockEncoder(Arc::new(alloc, encoder)?).boxed(alloc)?)
 }
 
 // The encoder of a block by the plan that a coder is, if it is one.
@@ -64,10 +64,10 @@ fn planned_encoder_by(alloc: Global, block: Block<'_>, coder: &Coder) -> Result<
     ensures encoder { IfOk result (λ b. IsSomeAnd (plan_in coder.now) (λ p. IsSomeAnd (block_encoder_in b.value)
         (IsPlannedEncoder block.entry.configuration.now block.entry.number block.entry.bytes.now p))) }
 {
-    let Coder::Planner(plan) = coder else {
+    let Coder::Plan(plan) = coder else {
         return Err(CallEnd::NoCoder);
     };
-    Ok(planned_sender(alloc, block, plan.deref())?)
+    Ok(planned_encoder(alloc, block, plan.deref())?)
 }
 
 /// Makes the encoder of a source block by the plan that a handle holds, which the other handle then

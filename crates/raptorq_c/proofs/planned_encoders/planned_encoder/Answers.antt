@@ -6,7 +6,7 @@ use Rattle.rq_block.specs.SourceBlockEncodingPlan.{plan_of}
 use Rattle.raptorq_c.specs.Handles.{block_encoder_in}
 use Rattle.raptorq_c.specs.Plans.{planned_refusal, IsPlannedEncoder}
 use Rattle.raptorq_c.proofs.PlannedBlocks.{planned_over}
-use Rattle.raptorq_c.proofs.planned_sending.planned_sender.Goals as goal
+use Rattle.raptorq_c.proofs.planned_encoders.planned_encoder.Goals as goal
 
 pub returns-clause-encoder : goal.returns-clause-encoder
 returns-clause-encoder c =

@@ -1,7 +1,7 @@
 use Rattle.std.proofs.lemmas.Result.{err_from_is_err_and}
 use Rattle.raptorq.specs.Decoder.{state_of}
 use Rattle.raptorq_c.proofs.HandleAnswers.{taken_bytes, unread_bytes}
-use Rattle.raptorq_c.proofs.receiving.add_bytes.Goals as goal
+use Rattle.raptorq_c.proofs.decoders.add_bytes.Goals as goal
 
 pub returns-in_err-deserialize : goal.returns-in_err-deserialize
 returns-in_err-deserialize c =

@@ -6,17 +6,17 @@ use Rattle.raptorq.proofs.AnsweredParts.{parts_of_decoder}
 use Rattle.raptorq_c.specs.Handles.{FillsWithBlock, IsPartOf, decoder_in}
 use Rattle.raptorq_c.specs.Numbers.{number_of}
 use Rattle.raptorq_c.proofs.HandleAnswers.{fills_block}
-use Rattle.raptorq_c.proofs.receiving.write_part.Goals as goal
+use Rattle.raptorq_c.proofs.decoders.write_part.Goals as goal
 
 pub returns : goal.returns
 returns c =
     let n = number_of c.fill_answer.result in
-    let s = state_of c.in-Receiver.decoder in
+    let s = state_of c.in-Decoder.decoder in
     let blocks : c.source_blocks.result ≡ s.configuration.source_blocks = c.source_blocks.ensures ∙ ap (λ (k : Configuration). k.source_blocks) c.get_config.ensures in
     let known = subst (λ k. c.args.block < k) blocks c.if-block-source_blocks.false in
     let part = option_copied c.block_bytes.result in
     let lent = c.block_bytes.ensures in
-    let is : IsPartOf s c.args.block part = record { value = lent.bytes; object = lent.object; whole = parts_of_decoder c.in-Receiver.decoder } in
+    let is : IsPartOf s c.args.block part = record { value = lent.bytes; object = lent.object; whole = parts_of_decoder c.in-Decoder.decoder } in
     let filled = c.fill_answer.ensures in
-    subst (λ k. FillsWithBlock (decoder_in k) c.args.block n c.args.bytes.now c.fill_answer.new.buffer) (sym c.in-Receiver.is)
+    subst (λ k. FillsWithBlock (decoder_in k) c.args.block n c.args.bytes.now c.fill_answer.new.buffer) (sym c.in-Decoder.is)
     (fills_block s c.args.block part c.fill_answer.result c.args.bytes.now c.fill_answer.new.buffer known is filled.number filled.answered filled.kept)

@@ -18,7 +18,7 @@ use raptorq::{Decoder, EncodingPacket, ObjectTransmissionInformation};
 use std::alloc::Global;
 
 // The decoder of an object in this configuration.
-fn receiver(
+fn decoder(
     alloc: Global,
     rows: &[Row],
     configuration: &[u8; CONFIGURATION_LENGTH],
@@ -29,7 +29,7 @@ fn receiver(
     let table = table_with(alloc, rows)?;
     let config = ObjectTransmissionInformation::deserialize(configuration);
     let decoder = Decoder::new(alloc, &table, config)?;
-    Ok(Coder::Receiver(decoder).boxed(alloc)?)
+    Ok(Coder::Decoder(decoder).boxed(alloc)?)
 }
 
 // Puts a new decoder into the handle, once it is made.
@@ -41,7 +41,7 @@ fn open(
 ) -> Result<(), CallEnd>
     ensures { OpensDecoder rows.now configuration.now (number_of result) handle.old handle.new }
 {
-    handle.replace(alloc, receiver(alloc, rows, configuration)?);
+    handle.replace(alloc, decoder(alloc, rows, configuration)?);
     Ok(())
 }
 
@@ -75,7 +75,7 @@ fn add(alloc: Global, coder: &mut Coder, packet: &[u8]) -> Result<(), CallEnd>
     ensures other { decoder_in coder.old ≡ None → coder.new ≡ coder.old }
 {
     match coder {
-        Coder::Receiver(decoder) => Ok(add_bytes(alloc, decoder, packet)?),
+        Coder::Decoder(decoder) => Ok(add_bytes(alloc, decoder, packet)?),
         _ => Err(CallEnd::NoCoder),
     }
 }
@@ -98,7 +98,7 @@ pub extern "C" fn reamertan_add_packet(alloc: Global, handle: &mut Handle, packe
 fn write(coder: &Coder, object: &mut [u8]) -> Result<(), CallEnd>
     ensures { FillsWithAnswer (decoder_in coder.now) (number_of result) object.old object.new }
 {
-    let Coder::Receiver(decoder) = coder else {
+    let Coder::Decoder(decoder) = coder else {
         return Err(CallEnd::NoCoder);
     };
     let answer = decoder.get_result()?;
@@ -126,7 +126,7 @@ pub extern "C" fn reamertan_write_object(
 fn write_part(coder: &Coder, block: u8, bytes: &mut [u8]) -> Result<(), CallEnd>
     ensures { FillsWithBlock (decoder_in coder.now) block (number_of result) bytes.old bytes.new }
 {
-    let Coder::Receiver(decoder) = coder else {
+    let Coder::Decoder(decoder) = coder else {
         return Err(CallEnd::NoCoder);
     };
     if block >= decoder.get_config().source_blocks() {
@@ -161,7 +161,7 @@ fn missing_count(coder: &Coder, block: u8) -> Result<u32, CallEnd>
     ensures value { IfOk result (λ count. missing_in_coder block coder.now ≡ Some (Some count)) }
     ensures contradicted { number_of result ≡ 22 → missing_in_coder block coder.now ≡ Some None }
 {
-    let Coder::Receiver(decoder) = coder else {
+    let Coder::Decoder(decoder) = coder else {
         return Err(CallEnd::NoCoder);
     };
     let Some(count) = decoder.missing_packets(block)? else {
@@ -200,7 +200,7 @@ pub extern "C" fn reamertan_missing_packets(
 fn tell_complete(coder: &Coder) -> Result<(), CallEnd>
     ensures { TellsComplete (decoder_in coder.now) (number_of result) }
 {
-    let Coder::Receiver(decoder) = coder else {
+    let Coder::Decoder(decoder) = coder else {
         return Err(CallEnd::NoCoder);
     };
     if decoder.is_complete() {

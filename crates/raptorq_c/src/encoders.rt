@@ -2,7 +2,7 @@
 ghost use Rattle.std.specs.Prelude.{◌≡◌, ◌⊎◌, Ok, IsSomeAnd, IfOk, IfErr, OnOk};
 ghost use Rattle.rq_bytes.specs.Refusals.{IsRefusal};
 ghost use Rattle.raptorq.specs.Encoder.{encoded_of};
-ghost use Rattle.raptorq_c.specs.Handles.{coder_of, encoder_in, encoder_of, wanted_id, FillsWithPacket, IsEncoderIn, IsPacketAt, OpensEncoder, RefusesSender};
+ghost use Rattle.raptorq_c.specs.Handles.{coder_of, encoder_in, encoder_of, wanted_id, FillsWithPacket, IsEncoderIn, IsPacketAt, OpensEncoder, RefusesEncoderOver};
 ghost use Rattle.raptorq_c.specs.Numbers.{number_of};
 
 use crate::buffers::fill;
@@ -18,19 +18,19 @@ use std::ops::Deref;
 use std::sync::Arc;
 
 // The encoder of an object in this configuration.
-fn sender(
+fn encoder(
     alloc: Global,
     rows: &[Row],
     configuration: &[u8; CONFIGURATION_LENGTH],
     object: &[u8],
 ) -> Result<Box<Coder>, Error>
-    ensures refused { IfErr result (λ e. (e ≡ Error.OutOfMemory) ⊎ RefusesSender rows.now configuration.now object.now e) }
+    ensures refused { IfErr result (λ e. (e ≡ Error.OutOfMemory) ⊎ RefusesEncoderOver rows.now configuration.now object.now e) }
     ensures encoder { IfOk result (λ b. IsSomeAnd (encoder_in b.value) (IsEncoderIn rows.now configuration.now object.now)) }
 {
     let table = table_with(alloc, rows)?;
     let config = ObjectTransmissionInformation::deserialize(configuration);
     let encoder = Encoder::new(alloc, &table, object, config)?;
-    Ok(Coder::Sender(Arc::new(alloc, encoder)?).boxed(alloc)?)
+    Ok(Coder::Encoder(Arc::new(alloc, encoder)?).boxed(alloc)?)
 }
 
 // Puts a new encoder into the handle, once it is made.
@@ -43,7 +43,7 @@ fn open(
 ) -> Result<(), CallEnd>
     ensures { OpensEncoder rows.now configuration.now object.now (number_of result) handle.old handle.new }
 {
-    handle.replace(alloc, sender(alloc, rows, configuration, object)?);
+    handle.replace(alloc, encoder(alloc, rows, configuration, object)?);
     Ok(())
 }
 
@@ -85,7 +85,7 @@ fn write(
 ) -> Result<(), CallEnd>
     ensures { FillsWithPacket (encoder_in coder.now) block esi (number_of result) packet.old packet.new }
 {
-    let Coder::Sender(encoder) = coder else {
+    let Coder::Encoder(encoder) = coder else {
         return Err(CallEnd::NoCoder);
     };
     let bytes = packet_bytes(alloc, encoder.deref(), block, esi)?;

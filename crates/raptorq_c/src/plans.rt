@@ -2,7 +2,7 @@
 ghost use Rattle.std.specs.Prelude.{◌≡◌, ◌⊎◌, IsSomeAnd, IfOk, IfErr};
 ghost use Rattle.raptorq_c.specs.Handles.{plan_in};
 ghost use Rattle.raptorq_c.specs.Numbers.{number_of};
-ghost use Rattle.raptorq_c.specs.Plans.{IsPlanIn, OpensPlan, RefusesPlanner};
+ghost use Rattle.raptorq_c.specs.Plans.{IsPlanIn, OpensPlan, RefusesPlanOver};
 
 use crate::call_end::{CallEnd, number};
 use crate::handle::Handle;
@@ -14,13 +14,13 @@ use std::alloc::Global;
 use std::sync::Arc;
 
 // The plan of blocks of so many source symbols.
-fn planner(alloc: Global, rows: &[Row], source_symbols: u16) -> Result<Box<Coder>, Error>
-    ensures refused { IfErr result (λ e. (e ≡ Error.OutOfMemory) ⊎ RefusesPlanner rows.now source_symbols e) }
+fn plan(alloc: Global, rows: &[Row], source_symbols: u16) -> Result<Box<Coder>, Error>
+    ensures refused { IfErr result (λ e. (e ≡ Error.OutOfMemory) ⊎ RefusesPlanOver rows.now source_symbols e) }
     ensures plan { IfOk result (λ b. IsSomeAnd (plan_in b.value) (IsPlanIn rows.now source_symbols)) }
 {
     let table = table_with(alloc, rows)?;
     let plan = SourceBlockEncodingPlan::generate(alloc, &table, source_symbols)?;
-    Ok(Coder::Planner(Arc::new(alloc, plan)?).boxed(alloc)?)
+    Ok(Coder::Plan(Arc::new(alloc, plan)?).boxed(alloc)?)
 }
 
 // Puts a new plan into the handle, once it is made.
@@ -32,7 +32,7 @@ fn open(
 ) -> Result<(), CallEnd>
     ensures { OpensPlan rows.now source_symbols (number_of result) handle.old handle.new }
 {
-    handle.replace(alloc, planner(alloc, rows, source_symbols)?);
+    handle.replace(alloc, plan(alloc, rows, source_symbols)?);
     Ok(())
 }
 

@@ -25,7 +25,7 @@ pub(crate) struct Block<'a> {
 }
 
 // The encoder of a block by a plan.
-fn block_sender(
+fn block_encoder(
     alloc: Global,
     rows: &[Row],
     block: Block<'_>,
@@ -47,7 +47,7 @@ fn block_sender(
         &table,
         plan,
     )?;
-    Ok(Coder::BlockSender(Arc::new(alloc, encoder)?).boxed(alloc)?)
+    Ok(Coder::BlockEncoder(Arc::new(alloc, encoder)?).boxed(alloc)?)
 }
 
 // The encoder of a block by the plan that a coder is, if it is one.
@@ -63,10 +63,10 @@ fn block_encoder_by(
     ensures encoder { IfOk result (λ b. IsSomeAnd (block_encoder_in b.value)
         (IsBlockEncoderIn rows.now block.entry.configuration.now block.entry.number block.entry.bytes.now)) }
 {
-    let Coder::Planner(plan) = coder else {
+    let Coder::Plan(plan) = coder else {
         return Err(CallEnd::NoCoder);
     };
-    Ok(block_sender(alloc, rows, block, plan.deref())?)
+    Ok(block_encoder(alloc, rows, block, plan.deref())?)
 }
 
 /// Makes the encoder of a source block by the plan that a handle holds, which the other handle then

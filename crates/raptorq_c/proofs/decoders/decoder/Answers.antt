@@ -5,7 +5,7 @@ use Rattle.raptorq.specs.Decoder.{state_of}
 use Rattle.raptorq_c.specs.Handles.{IsNewDecoder, decoder_in}
 use Rattle.raptorq_c.specs.FurtherRows.{table_of}
 use Rattle.raptorq_c.proofs.Tables.{holds_over}
-use Rattle.raptorq_c.proofs.receiving.receiver.Goals as goal
+use Rattle.raptorq_c.proofs.decoders.decoder.Goals as goal
 
 pub returns-clause-decoder : goal.returns-clause-decoder
 returns-clause-decoder c =

@@ -8,7 +8,7 @@ use Rattle.raptorq.specs.Refused.{new_encoder, RefusesEncoder}
 use Rattle.raptorq_c.specs.Handles.{IsEncoderIn, encoder_in}
 use Rattle.raptorq_c.specs.FurtherRows.{table_of}
 use Rattle.raptorq_c.proofs.Tables.{holds_over, refused_over, row_refused}
-use Rattle.raptorq_c.proofs.sending.sender.Goals as goal
+use Rattle.raptorq_c.proofs.encoders.encoder.Goals as goal
 
 pub returns-in_err-table-clause-refused : goal.returns-in_err-table-clause-refused
 returns-in_err-table-clause-refused c =
