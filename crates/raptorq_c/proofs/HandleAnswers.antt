@@ -33,7 +33,7 @@ use Rattle.raptorq_c.proofs.Tables.{refused_over, row_refused}
 pub answered_by : (P : Option (List ℕ) → Type 0) (answer : Option (List ℕ)) (number : ℕ) (before after : List ℕ) → P answer → Answered number before after (λ r. r ≡ answer) → Answered number before after P
 answered_by P answer number before after holds a = record {
   written = λ zero. subst P (sym (a.written zero)) holds;
-  no_room = λ other. let found = a.no_room other in (found.0, subst P (sym found.1) holds, found.2);
+  other_length = λ other. let found = a.other_length other in (found.0, subst P (sym found.1) holds, found.2);
   incomplete = λ none. subst P (sym (a.incomplete none)) holds;
 }
 
@@ -41,13 +41,13 @@ answered_by P answer number before after holds a = record {
 pub unanswered : (e : Error) (before after : List ℕ) (P : Option (List ℕ) → Type 0) → Answered (code_of e) before after P
 unanswered e before after P = record {
   written = λ is. absurd (omega (arith, is, code_positive e));
-  no_room = λ is. absurd (code_no_call e (omega (arith, is), omega (arith, is)));
+  other_length = λ is. absurd (code_no_call e (omega (arith, is), omega (arith, is)));
   incomplete = λ is. absurd (code_no_call e (omega (arith, is), omega (arith, is)));
 }
 
 filled_small : (number : ℕ) → IsFilled number → number < 26
 filled_small number (inl done) = omega (arith, done)
-filled_small number (inr (inl no_room)) = omega (arith, no_room)
+filled_small number (inr (inl other_length)) = omega (arith, other_length)
 filled_small number (inr (inr incomplete)) = omega (arith, incomplete)
 
 -- the decoder that is held answers
@@ -63,7 +63,7 @@ fills_answer s ended before after number answered kept =
 
 filled_known : (number : ℕ) → IsFilled number → number ≢ 14
 filled_known number (inl done) is = omega (arith, done, is)
-filled_known number (inr (inl no_room)) is = omega (arith, no_room, is)
+filled_known number (inr (inl other_length)) is = omega (arith, other_length, is)
 filled_known number (inr (inr incomplete)) is = omega (arith, incomplete, is)
 
 -- the decoder that is held has the block's bytes, or none yet

@@ -7,6 +7,6 @@ pub mod PacketFrames
 pub mod PacketLengths
 pub mod PlannedBlocks
 pub mod Pointers
-pub mod RunSteps
 pub mod Sized
+pub mod StretchSteps
 pub mod Tables

@@ -175,15 +175,15 @@ pub record IsPacketAt (e : Encoded) (block esi : ℕ) (bytes : List ℕ) : Type 
   pub spelled : bytes ≡ packet_bytes packet
 
 -- the packet has another length than the buffer
-abbrev pub HasNoRoom : Encoded → ℕ → ℕ → ℕ → Type 0
-HasNoRoom e block esi room = (bytes : List ℕ) × IsPacketAt e block esi bytes × (length bytes ≢ room)
+abbrev pub HasOtherLength : Encoded → ℕ → ℕ → ℕ → Type 0
+HasOtherLength e block esi room = (bytes : List ℕ) × IsPacketAt e block esi bytes × (length bytes ≢ room)
 
 -- What a call answers and does to a buffer: it is filled with a packet of the encoder that is held (0), or is as it was. 26 says that none is held.
 pub record FillsWithPacket (held : Option Encoded) (block esi answer : ℕ) (before after : List ℕ) : Type 0 where
   pub none : (answer ≡ 26) ↔ (held ≡ None)
   pub number : IfSome held (λ e. IsPacketNumber (wanted_id e.configuration block esi) answer)
   pub packet : answer ≡ 0 → IsSomeAnd held (λ e. IsPacketAt e block esi after)
-  pub no_room : answer ≡ 24 → IsSomeAnd held (λ e. HasNoRoom e block esi (length before))
+  pub other_length : answer ≡ 24 → IsSomeAnd held (λ e. HasOtherLength e block esi (length before))
   pub kept : answer ≢ 0 → after ≡ before
 
 -- how many packets more a decoder says that a block needs, no number being said of a contradictory one; another coder says nothing

@@ -8,5 +8,5 @@ pub mod Owned
 pub mod Handles
 pub mod Frames
 pub mod Plans
-pub mod Runs
+pub mod Stretches
 pub mod Sharing

@@ -49,7 +49,7 @@ IsDecoded number rows header bytes =
 -- P of what a call answers of any packets: the object that is written (0), one of another length than the buffer (24), or none (25)
 pub record Answered (number : ℕ) (before after : List ℕ) (P : Option (List ℕ) → Type 0) : Type 0 where
   pub written : number ≡ 0 → P (Some after)
-  pub no_room : number ≡ 24 → (object : List ℕ) × P (Some object) × (length object ≢ length before)
+  pub other_length : number ≡ 24 → (object : List ℕ) × P (Some object) × (length object ≢ length before)
   pub incomplete : number ≡ 25 → P None
 
 -- what is answered of packets in a buffer, whoever sent them

@@ -18,7 +18,8 @@ pub data StopsEncoding (rows : List Row) (c : Configuration) (object : List ℕ)
   no_memory : number ≡ 21 → StopsEncoding rows c object repair room number
   refused : (e : Error) → RefusesOver rows (λ table. RefusesPackets table c (length object) repair) e
       → number ≡ code_of e → StopsEncoding rows c object repair room number
-  no_room : (bytes : List ℕ) → AreFramesOf rows c object repair bytes → room ≢ length bytes → number ≡ 24 → StopsEncoding rows c object repair room number
+  other_length : (bytes : List ℕ) → AreFramesOf rows c object repair bytes → room ≢ length bytes
+      → number ≡ 24 → StopsEncoding rows c object repair room number
 
 -- the bytes in a buffer are packets of the object in the configuration of these twelve bytes
 abbrev pub IsEncoding : List Row → List ℕ → List ℕ → ℕ → List ℕ → Type 0

@@ -5,7 +5,7 @@ use Rattle.rq_bytes.specs.Error.{code_of}
 use Rattle.rq_base.proofs.Accepted.{ok_of}
 use Rattle.raptorq_c.specs.declared.call_end.CallEnd.{CallEnd}
 use Rattle.raptorq_c.specs.declared.rows.Row.{Row}
-use Rattle.raptorq_c.specs.PacketBuffers.{FillsWithPackets, IsEncoding, StopsAt, no_room}
+use Rattle.raptorq_c.specs.PacketBuffers.{FillsWithPackets, IsEncoding, StopsAt, other_length}
 use Rattle.raptorq_c.specs.Numbers.{number_of}
 use Rattle.raptorq_c.proofs.Ending.{code_positive}
 use Rattle.raptorq_c.proofs.PacketLengths.{packets_room}
@@ -23,7 +23,7 @@ filled rows header object repair bytes before after (Ok x) are is fits number ot
 filled rows header object repair bytes before after (Err s) are is fits number other kept = record {
   packets = λ zero. absurd (omega (arith, zero, number));
   room = λ zero. absurd (omega (arith, zero, number));
-  stopped = λ _. no_room bytes are (λ same. other (sym same)) number;
+  stopped = λ _. other_length bytes are (λ same. other (sym same)) number;
   kept = λ _. kept;
 }
 

@@ -19,19 +19,19 @@ use Rattle.rq_block.specs.declared.encoder.block.SourceBlockEncoder.{SourceBlock
 use Rattle.raptorq.specs.Encoder.{Encoded}
 use Rattle.raptorq_c.specs.Handles.{IsPacketNumber}
 use Rattle.raptorq_c.specs.Numbers.{number_of}
-use Rattle.raptorq_c.specs.Runs.{AreRunBytes, FillsHeldRun, FillsRun, block_in, end_of_run}
+use Rattle.raptorq_c.specs.Stretches.{AreStretchBytes, FillsHeldStretch, FillsStretch, block_in, end_of_stretch}
 use Rattle.raptorq_c.specs.declared.call_end.CallEnd.{CallEnd}
 use Rattle.raptorq_c.proofs.Ending.{code_positive, code_no_call}
 
 -- ---- the bytes
 
-pub run_none : (b : BlockEncoded) (start : ℕ) (bytes : List ℕ) → bytes ≡ [] → AreRunBytes b start (start - start) bytes
-run_none b start bytes none = record { packets = []; are = block_packets-none b start [] refl; spelled = none }
+pub stretch_none : (b : BlockEncoded) (start : ℕ) (bytes : List ℕ) → bytes ≡ [] → AreStretchBytes b start (start - start) bytes
+stretch_none b start bytes none = record { packets = []; are = block_packets-none b start [] refl; spelled = none }
 
 -- one packet more: its id, and then its symbol
-pub run_more : (b : BlockEncoded) (start esi : ℕ) (old mid new id symbol : List ℕ) (p : Packet) → start ≤ esi → AreRunBytes b start (esi - start) old → p.id ≡ record { block = b.number; esi = esi } → IsBlockPacket b p
-    → id ≡ id_bytes p.id → symbol ≡ p.payload → mid ≡ old ++ id → new ≡ mid ++ symbol → AreRunBytes b start (esi + 1 - start) new
-run_more b start esi old mid new id symbol p from so named is spelled payload first second = record {
+pub stretch_more : (b : BlockEncoded) (start esi : ℕ) (old mid new id symbol : List ℕ) (p : Packet) → start ≤ esi → AreStretchBytes b start (esi - start) old → p.id ≡ record { block = b.number; esi = esi } → IsBlockPacket b p
+    → id ≡ id_bytes p.id → symbol ≡ p.payload → mid ≡ old ++ id → new ≡ mid ++ symbol → AreStretchBytes b start (esi + 1 - start) new
+stretch_more b start esi old mid new id symbol p from so named is spelled payload first second = record {
   packets = so.packets ++ p ∷ [];
   are = block_packets-more b start esi so.packets (so.packets ++ p ∷ []) p from so.are named is refl;
   spelled = second ∙ ap (λ xs. xs ++ symbol) first ∙ append_assoc old id symbol ∙ ap (λ xs. old ++ (xs ++ symbol)) spelled ∙ ap (λ xs. old ++ (id_bytes p.id ++ xs)) payload
@@ -64,57 +64,57 @@ module _ (e : Encoded) (blocks : List SourceBlockEncoder) (i : ℕ) (are : map b
 -- ---- what calls answer
 
 -- memory is refused
-pub run_unmade : (b : BlockEncoded) (first count : ℕ) (e : Error) (buffer : List ℕ) → e ≡ OutOfMemory → FillsRun (ok_of b) first count (code_of e) buffer buffer
-run_unmade b first count e buffer memory = record {
+pub stretch_unmade : (b : BlockEncoded) (first count : ℕ) (e : Error) (buffer : List ℕ) → e ≡ OutOfMemory → FillsStretch (ok_of b) first count (code_of e) buffer buffer
+stretch_unmade b first count e buffer memory = record {
   number = inr (inl (ap code_of memory));
   packets = λ zero. absurd (omega (arith, zero, code_positive e));
-  no_room = λ other. absurd (code_no_call e (omega (arith, other), omega (arith, other)));
+  other_length = λ other. absurd (code_no_call e (omega (arith, other), omega (arith, other)));
   kept = λ _. refl;
 }
 
 -- its bytes are there
-pub run_made : (b : BlockEncoded) (first count : ℕ) (bytes before after : List ℕ) (ended : Result (Unit {0}) CallEnd) → AreRunBytes b first count bytes
-    → OnOk ended (after ≡ bytes) → OnErr ended (number_of ended ≡ 24) → OnErr ended (length bytes ≢ length before) → OnErr ended (after ≡ before) → FillsRun (ok_of b) first count (number_of ended) before after
-run_made b first count bytes before after (Ok x) are filled number other kept = record {
+pub stretch_made : (b : BlockEncoded) (first count : ℕ) (bytes before after : List ℕ) (ended : Result (Unit {0}) CallEnd) → AreStretchBytes b first count bytes
+    → OnOk ended (after ≡ bytes) → OnErr ended (number_of ended ≡ 24) → OnErr ended (length bytes ≢ length before) → OnErr ended (after ≡ before) → FillsStretch (ok_of b) first count (number_of ended) before after
+stretch_made b first count bytes before after (Ok x) are filled number other kept = record {
   number = inl refl;
-  packets = λ _. subst (AreRunBytes b first count) (sym filled) are;
-  no_room = λ is. absurd (cc is);
+  packets = λ _. subst (AreStretchBytes b first count) (sym filled) are;
+  other_length = λ is. absurd (cc is);
   kept = λ done. absurd (done refl);
 }
-run_made b first count bytes before after (Err s) are filled number other kept = record {
+stretch_made b first count bytes before after (Err s) are filled number other kept = record {
   number = inr (inr number);
   packets = λ zero. absurd (omega (arith, zero, number));
-  no_room = λ _. (bytes, are, other);
+  other_length = λ _. (bytes, are, other);
   kept = λ _. kept;
 }
 
 packet_number_small : (wanted : Result BlockEncoded Error) (number : ℕ) → IsPacketNumber wanted number → number ≢ 26
 packet_number_small (Ok b) number (inl done) is = omega (arith, done, is)
 packet_number_small (Ok b) number (inr (inl memory)) is = omega (arith, memory, is)
-packet_number_small (Ok b) number (inr (inr no_room)) is = omega (arith, no_room, is)
+packet_number_small (Ok b) number (inr (inr other_length)) is = omega (arith, other_length, is)
 packet_number_small (Err e) number same is = code_no_call e (omega (arith, same, is), omega (arith, same, is))
 
 -- an encoder is held
-pub run_held : {H : Type 0} (wanted : H → Result BlockEncoded Error) (h : H) (first count number : ℕ) (before after : List ℕ) → FillsRun (wanted h) first count number before after → FillsHeldRun wanted (Some h) first count number before after
-run_held wanted h first count number before after fills = record {
+pub stretch_held : {H : Type 0} (wanted : H → Result BlockEncoded Error) (h : H) (first count number : ℕ) (before after : List ℕ) → FillsStretch (wanted h) first count number before after → FillsHeldStretch wanted (Some h) first count number before after
+stretch_held wanted h first count number before after fills = record {
   none = (λ is. absurd (packet_number_small (wanted h) number fills.number is), λ none. absurd (cc none));
   fills = fills;
   kept = fills.kept;
 }
 
 -- the ids are known, so that `end` is where they end
-pub run_ends : (first count end : ℕ) → end_of_run first count ≡ ok_of end → (end ≡ first + count) × (end ≤ 2 ^ 24)
-run_ends first count end is = elim (cases_lt (2 ^ 24) (first + count)) [
+pub stretch_ends : (first count end : ℕ) → end_of_stretch first count ≡ ok_of end → (end ≡ first + count) × (end ≤ 2 ^ 24)
+stretch_ends first count end is = elim (cases_lt (2 ^ 24) (first + count)) [
   | inl over ↦ absurd (let none : ok_of end ≡ Err EsiTooLarge = sym is ∙ rw (lt-ltb (2 ^ 24) (first + count) over) refl in cc none)
   | inr few ↦ let same : ok_of (first + count) ≡ ok_of end = sym (rw (le-ltb (2 ^ 24) (first + count) few) refl) ∙ is in let e : first + count ≡ end = cc same in (sym e, omega (arith, few, e))
 ]
 
 -- they are filled with the block that is wanted
-pub run_as_wanted : {H : Type 0} (block : H → Result BlockEncoded Error) (h : H) (b : BlockEncoded) (first count end number : ℕ) (before after : List ℕ) → end_of_run first count ≡ ok_of end → block h ≡ ok_of b
-    → FillsRun (ok_of b) first (end - first) number before after → FillsHeldRun (λ held. and_then (end_of_run first count) (λ _. block held)) (Some h) first count number before after
-run_as_wanted block h b first count end number before after ended found fills =
-    let ends = run_ends first count end ended in
+pub stretch_as_wanted : {H : Type 0} (block : H → Result BlockEncoded Error) (h : H) (b : BlockEncoded) (first count end number : ℕ) (before after : List ℕ) → end_of_stretch first count ≡ ok_of end → block h ≡ ok_of b
+    → FillsStretch (ok_of b) first (end - first) number before after → FillsHeldStretch (λ held. and_then (end_of_stretch first count) (λ _. block held)) (Some h) first count number before after
+stretch_as_wanted block h b first count end number before after ended found fills =
+    let ends = stretch_ends first count end ended in
     let many : end - first ≡ count = omega (arith, ends.0) in
-    let wanted : and_then (end_of_run first count) (λ _. block h) ≡ ok_of b = ap (λ r. and_then r (λ _. block h)) ended ∙ found in
-    run_held (λ held. and_then (end_of_run first count) (λ _. block held)) h first count number before after
-    (subst (λ r. FillsRun r first count number before after) (sym wanted) (subst (λ n. FillsRun (ok_of b) first n number before after) many fills))
+    let wanted : and_then (end_of_stretch first count) (λ _. block h) ≡ ok_of b = ap (λ r. and_then r (λ _. block h)) ended ∙ found in
+    stretch_held (λ held. and_then (end_of_stretch first count) (λ _. block held)) h first count number before after
+    (subst (λ r. FillsStretch r first count number before after) (sym wanted) (subst (λ n. FillsStretch (ok_of b) first n number before after) many fills))

@@ -5,9 +5,9 @@ use Rattle.rq_bytes.specs.declared.error.Error.TheVariants.{UnknownBlock}
 use Rattle.rq_block.specs.SourceBlockEncoder.{block_encoded_of}
 use Rattle.rq_block.specs.declared.encoder.block.SourceBlockEncoder.{SourceBlockEncoder}
 use Rattle.raptorq.specs.Encoder.{encoded_of}
-use Rattle.raptorq_c.specs.Runs.{block_in}
-use Rattle.raptorq_c.proofs.RunSteps.{block_found, block_missing}
-use Rattle.raptorq_c.proofs.runs.block_encoder.Goals as goal
+use Rattle.raptorq_c.specs.Stretches.{block_in}
+use Rattle.raptorq_c.proofs.StretchSteps.{block_found, block_missing}
+use Rattle.raptorq_c.proofs.stretches.block_encoder.Goals as goal
 
 pub returns-in-Some-clause-found : goal.returns-in-Some-clause-found
 returns-in-Some-clause-found c =

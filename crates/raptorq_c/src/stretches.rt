@@ -4,7 +4,7 @@ ghost use Rattle.raptorq.specs.Encoder.{encoded_of};
 ghost use Rattle.rq_block.specs.SourceBlockEncoder.{block_encoded_of};
 ghost use Rattle.raptorq_c.specs.Handles.{block_encoder_in, block_encoder_of, coder_of, encoder_in, encoder_of};
 ghost use Rattle.raptorq_c.specs.Numbers.{number_of};
-ghost use Rattle.raptorq_c.specs.Runs.{block_in, end_of_run, run_of_block, run_of_object, AreRunBytes, FillsHeldRun, FillsRun};
+ghost use Rattle.raptorq_c.specs.Stretches.{block_in, end_of_stretch, stretch_of_block, stretch_of_object, AreStretchBytes, FillsHeldStretch, FillsStretch};
 
 use crate::buffers::fill;
 use crate::call_end::{CallEnd, number};
@@ -26,7 +26,7 @@ struct Ids {
 impl Ids {
     // Where they end.
     fn end(&self) -> Result<u32, Error>
-        ensures { result ≡ end_of_run self.now.first self.now.count }
+        ensures { result ≡ end_of_stretch self.now.first self.now.count }
     {
         let end = u64::from(self.first) + u64::from(self.count);
         if end > u64::from(ENCODING_SYMBOL_IDS) {
@@ -50,7 +50,7 @@ fn block_encoder(encoder: &Encoder, block: u8) -> Result<&SourceBlockEncoder, Er
 // The bytes of the packets of a block with the ids from `first` on and before `end`, in a vector that
 // grows only beyond `room` bytes. One that grows from nothing takes the allocator's lock with each packet
 // that is moved, which other threads wait for.
-fn run_bytes(
+fn stretch_bytes(
     alloc: Global,
     encoder: &SourceBlockEncoder,
     first: u32,
@@ -59,7 +59,7 @@ fn run_bytes(
 ) -> Result<Vec<u8>, Error>
     requires order { first ≤ end }
     requires ids { end ≤ 2 ^ 24 }
-    ensures packets { IfOk result (λ v. AreRunBytes (block_encoded_of encoder.now) first (end - first) v.items) }
+    ensures packets { IfOk result (λ v. AreStretchBytes (block_encoded_of encoder.now) first (end - first) v.items) }
     ensures memory { IfErr result (λ e. e ≡ Error.OutOfMemory) }
 {
     let mut bytes = Vec::with_capacity(alloc, room)?;
@@ -72,7 +72,7 @@ fn run_bytes(
 }
 
 // Fills a buffer with these packets.
-fn fill_run(
+fn fill_stretch(
     alloc: Global,
     encoder: &SourceBlockEncoder,
     first: u32,
@@ -81,9 +81,9 @@ fn fill_run(
 ) -> Result<(), CallEnd>
     requires order { first ≤ end }
     requires ids { end ≤ 2 ^ 24 }
-    ensures { FillsRun (Ok (block_encoded_of encoder.now)) first (end - first) (number_of result) packets.old packets.new }
+    ensures { FillsStretch (Ok (block_encoded_of encoder.now)) first (end - first) (number_of result) packets.old packets.new }
 {
-    let bytes = run_bytes(alloc, encoder, first, end, packets.len())?;
+    let bytes = stretch_bytes(alloc, encoder, first, end, packets.len())?;
     fill(packets, bytes.as_slice())
 }
 
@@ -95,14 +95,15 @@ fn write(
     ids: Ids,
     packets: &mut [u8],
 ) -> Result<(), CallEnd>
-    ensures { FillsHeldRun (run_of_object block ids.first ids.count) (encoder_in coder.now) ids.first ids.count (number_of result) packets.old packets.new }
+    ensures { FillsHeldStretch (stretch_of_object block ids.first ids.count) (encoder_in coder.now) ids.first ids.count
+        (number_of result) packets.old packets.new }
 {
     let Coder::Encoder(encoder) = coder else {
         return Err(CallEnd::NoCoder);
     };
     let end = ids.end()?;
     let found = block_encoder(encoder.deref(), block)?;
-    fill_run(alloc, found, ids.first, end, packets)
+    fill_stretch(alloc, found, ids.first, end, packets)
 }
 
 /// Fills a buffer with `count` packets of a source block, whose encoding symbol ids go from `first`
@@ -120,7 +121,7 @@ pub extern "C" fn reamertan_write_packets(
     count: u32,
     packets: &mut [u8],
 ) -> u8
-    ensures fills { FillsHeldRun (run_of_object block first count) (encoder_of handle.old) first count result packets.old packets.new }
+    ensures fills { FillsHeldStretch (stretch_of_object block first count) (encoder_of handle.old) first count result packets.old packets.new }
     ensures same { coder_of handle.new ≡ coder_of handle.old }
 {
     let ids = Ids { first, count };
@@ -133,13 +134,14 @@ pub extern "C" fn reamertan_write_packets(
 
 // Does so with packets of a block, where the coder is its encoder.
 fn write_of_block(alloc: Global, coder: &Coder, ids: Ids, packets: &mut [u8]) -> Result<(), CallEnd>
-    ensures { FillsHeldRun (run_of_block ids.first ids.count) (block_encoder_in coder.now) ids.first ids.count (number_of result) packets.old packets.new }
+    ensures { FillsHeldStretch (stretch_of_block ids.first ids.count) (block_encoder_in coder.now) ids.first ids.count
+        (number_of result) packets.old packets.new }
 {
     let Coder::BlockEncoder(encoder) = coder else {
         return Err(CallEnd::NoCoder);
     };
     let end = ids.end()?;
-    fill_run(alloc, encoder.deref(), ids.first, end, packets)
+    fill_stretch(alloc, encoder.deref(), ids.first, end, packets)
 }
 
 /// Fills a buffer with `count` packets of the block whose encoder a handle holds, whose encoding symbol
@@ -155,7 +157,7 @@ pub extern "C" fn reamertan_write_block_packets(
     count: u32,
     packets: &mut [u8],
 ) -> u8
-    ensures fills { FillsHeldRun (run_of_block first count) (block_encoder_of handle.old) first count result packets.old packets.new }
+    ensures fills { FillsHeldStretch (stretch_of_block first count) (block_encoder_of handle.old) first count result packets.old packets.new }
     ensures same { coder_of handle.new ≡ coder_of handle.old }
 {
     let ids = Ids { first, count };
