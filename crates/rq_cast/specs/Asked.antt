@@ -1,6 +1,7 @@
 -- What the program's words ask for.
 use Rattle.std.specs.Prelude.{◌≡◌, ⊤, ◌≢◌, ◌⊎◌, ℕ, ◌*◌, ◌-◌, ◌^◌, ◌<◌, ◌≤◌, List, [], ◌∷◌, ◌++◌, length, Option, Some, None, Ok, codes}
 use Rattle.hex.specs.Hex.{decode_of}
+use Rattle.rq_cells.specs.Cells.{greatest_cell_size}
 use Rattle.rq_streams.specs.Asked.{IsNumberOf}
 use Rattle.rq_cast.specs.declared.jobs.Ids.{Ids}
 use Rattle.rq_cast.specs.declared.jobs.Order.{Order}
@@ -11,7 +12,7 @@ use Rattle.rq_cast.specs.declared.series.Repair.TheVariants.{Packets, Percent, A
 
 -- ---- rates
 
--- no letter for thousands stands at the end
+-- none of k, M and G stands at the end
 abbrev pub HasNoUnit : List ℕ → Type 0
 HasNoUnit text = (front : List ℕ) → (text ≢ front ++ codes "k") × (text ≢ front ++ codes "M") × (text ≢ front ++ codes "G")
 
@@ -23,7 +24,7 @@ IsSplit text number factor =
     ⊎ (((text ≡ number ++ codes "G") × (factor ≡ 1000000000))
     ⊎ ((text ≡ number) × (factor ≡ 1) × HasNoUnit text)))
 
--- a number of bits a second, not 0, whose letter stands for thousands of them
+-- a number of bits a second, not 0, after which a letter may stand for a factor
 pub record IsRate (text : List ℕ) (n : ℕ) : Type 0 where
   pub number : List ℕ
   pub factor : ℕ
@@ -48,7 +49,7 @@ IsRepair text All = text ≡ codes "all"
 pub record IsSize (text : List ℕ) (n : ℕ) : Type 0 where
   pub size : ℕ
   pub number : IsNumberOf 32 text size
-  pub few : size ≤ 65583
+  pub few : size ≤ greatest_cell_size
   pub symbol : n ≡ size - 48
 
 -- an encoding symbol id

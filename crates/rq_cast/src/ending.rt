@@ -44,7 +44,9 @@ fn write_hexadecimal<W: Write>(bytes: &[u8], out: &mut W) -> io::Result<()> {
     Ok(())
 }
 
-/// Writes the lines that say how the program ended, and answers its status. A failed write is ignored.
+/// Writes the lines that say how the program ended, and answers its status: 0 where the object is sent or
+/// written, 1 after a fault, 2 where it is incomplete, 3 where something is refused, 4 where the words ask
+/// for no job, and 5 where another object was received. A failed write is ignored.
 pub fn report<W: Write>(ended: &ProgramEnd, out: &mut W) -> u8
     ensures { result ≡ status_of ended.now }
 {

@@ -7,6 +7,7 @@ ghost use Rattle.rq_cast.specs.Asked.{IsSplit, IsRate, IsRepair, IsSize, IsId, I
 
 use crate::jobs::Ids;
 use crate::series::Repair;
+use raptorq::base::ENCODING_SYMBOL_IDS;
 
 // A number of 32 bits.
 fn short_number(text: &str) -> Option<u32>
@@ -22,7 +23,7 @@ fn long_number(text: &str) -> Option<u64>
     text.parse().ok()
 }
 
-// The number before a letter that stands for thousands, and what it stands for: 1 where there is none.
+// The number before k, M or G, and what the letter stands for: 1 where there is none.
 fn split_unit(text: &str) -> (&str, u64)
     ensures { IsSplit text.now result.0.now result.1 }
 {
@@ -38,7 +39,7 @@ fn split_unit(text: &str) -> (&str, u64)
     (text, 1)
 }
 
-/// How many bits a second a word asks for: a whole number, not 0, with k, M or G behind it for thousands.
+/// How many bits a second a word asks for: a whole number, not 0, with k, M or G behind it for 10^3, 10^6 or 10^9.
 pub(crate) fn rate_of(text: &str) -> Option<u64>
     ensures { (n : ℕ) → (result ≡ Some n) ↔ IsRate text.now n }
 {
@@ -69,9 +70,6 @@ const LONGEST_CELL: u32 = 65583;
 // How many bytes a cell has beside its symbol.
 const BESIDE_SYMBOL: u32 = 48;
 
-// How many encoding symbol ids a block has.
-const IDS: u32 = 1 << 24;
-
 /// How many bytes a symbol has at most, where a cell has as many as a word says: 0 where these are too few.
 pub(crate) fn symbol_size_of(text: &str) -> Option<u16>
     ensures { (n : ℕ) → (result ≡ Some n) ↔ IsSize text.now n }
@@ -87,7 +85,7 @@ fn id_of(text: &str) -> Option<u32>
     ensures { (n : ℕ) → (result ≡ Some n) ↔ IsId text.now n }
 {
     match short_number(text) {
-        Some(id) if id < IDS => Some(id),
+        Some(id) if id < ENCODING_SYMBOL_IDS => Some(id),
         _ => None,
     }
 }

@@ -20,12 +20,13 @@ pub struct Output<W> {
 }
 
 impl<W> Output<W> {
-    ghost use Rattle.rq_cast.specs.Output.{counting, refused_count};
+    ghost use Rattle.rq_cast.specs.Output.{counting, refused_count, flushed};
 
     /// Writes to this writer from now on.
     pub fn new(writer: Counted<W>) -> Output<W>
         ensures writer { counting result ≡ writer }
         ensures none { refused_count result ≡ 0 }
+        ensures unflushed { flushed result ≡ false }
     {
         Output {
             writer,

@@ -90,7 +90,7 @@ pub(crate) fn find<R: Read, P: Progress>(
     let mut bytes = Vec::new(alloc);
     let mut settled = Seen::default();
     *seen = settled;
-    // More reads than these are never made.
+    // For the proof that it ends: more reads than these are never made.
     'reading: for _reads in 0..u64::MAX {
         let n = read_more(input, &mut chunk, &mut bytes)?;
         if n == 0 {

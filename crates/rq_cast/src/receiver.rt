@@ -114,8 +114,10 @@ impl Receiver {
         let unknown = add_packets(&mut self.decoder, scan.packets)?;
         remove_front(&mut self.bytes, scan.places);
         self.seen.cells = self.seen.cells.saturating_add((packets - unknown) as u64);
-        self.seen.damaged = self.seen.damaged.saturating_add(scan.damaged as u64);
-        self.seen.others = self.seen.others.saturating_add(scan.others as u64);
+        self.seen = self.seen.with(Heads {
+            damaged: scan.damaged,
+            others: scan.others,
+        });
         self.seen.others = self.seen.others.saturating_add(unknown as u64);
         Ok(())
     }
@@ -146,7 +148,7 @@ fn take_until_complete<R: Read, P: Progress>(
     ensures counts { failed_count (counted_of input.new) ≡ failed_count (counted_of input.old) + failed_calls result }
 {
     let mut chunk = [0u8; CHUNK];
-    // More reads than these are never made.
+    // For the proof that it ends: more reads than these are never made.
     'reading: for _reads in 0..u64::MAX {
         if receiver.decoder.is_complete() {
             return Ok(true);

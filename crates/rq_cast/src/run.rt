@@ -38,9 +38,9 @@ pub enum Ending {
 /// The object is written where its name is that of its cells. While it reads, `progress` is told how far
 /// it has come.
 ///
-/// Refuses what [`Decoder::add_new_packet`](raptorq::Decoder::add_new_packet) refuses of the cells'
-/// packets, and then nothing is written. [`Error::OutOfMemory`](raptorq::error::Error) may come at any
-/// read.
+/// Refuses [`Error::Contradiction`](raptorq::error::Error) where
+/// [`Decoder::add_new_packet`](raptorq::Decoder::add_new_packet) refuses the packet of a cell so, and then
+/// nothing is written. `Error::OutOfMemory` may come at any read.
 pub fn run_receive<R: Read, W: Write, P: Progress>(
     alloc: Global,
     wanted: &Wanted<'_>,

@@ -61,7 +61,7 @@ fn name_of(alloc: Global, words: &[String]) -> Result<Option<Vec<u8>>, AllocErro
 /// SIZE is the most bytes that a cell may have, up to 65583. REPAIR is a number of repair packets for
 /// each source block, a percentage of the largest block's source symbols as `15%`, or `all`. FIRST and
 /// STEP are encoding symbol ids of 24 bits, STEP not 0. RATE is a number of bits a second, not 0, with k, M or G
-/// behind it for thousands. NAME is 2 to 56 hexadecimal digits, an even number.
+/// behind it for 10^3, 10^6 or 10^9. NAME is 2 to 56 hexadecimal digits, an even number.
 pub fn job(alloc: Global, words: &[String]) -> Result<Option<Job>, AllocError>
     ensures job { IfOk result (λ job. IsJobOf job (map string_bytes words.now)) }
     ensures steps { IfOk result StepsOn }

@@ -40,6 +40,10 @@ head_size = 36
 abbrev pub cell_size : Configuration → ℕ
 cell_size c = head_size + frame_size c + 8
 
+-- the most bytes that a cell may have: its symbol has at most 65,535
+abbrev pub greatest_cell_size : ℕ
+greatest_cell_size = 65583
+
 -- parts that fit a head
 pub record IsHead (h : Head) : Type 0 where
   pub name : length h.name ≡ 16

@@ -9,7 +9,7 @@ use Rattle.rq_cells.specs.declared.wanted.Candidate.TheVariants as C
 use Rattle.rq_cells.specs.declared.wanted.Heads.{Heads}
 use Rattle.rq_cells.specs.declared.wanted.Search.{Search}
 use Rattle.rq_cells.specs.declared.wanted.Search.TheVariants as S
-use Rattle.rq_cells.specs.Cells.{head_size, cell_size, head_at, cell_at}
+use Rattle.rq_cells.specs.Cells.{head_size, cell_size, greatest_cell_size, head_at, cell_at}
 use Rattle.rq_cells.specs.Found.{places}
 
 -- coders take its configuration, over a table whose greatest row has this many symbols, and its name and configuration begin with these bytes
@@ -50,7 +50,7 @@ pub record HasNone (greatest : ℕ) (name bytes : List ℕ) (undecided d o : Boo
 
 -- what stands where bytes begin
 abbrev pub IsCandidate : ℕ → List ℕ → List ℕ → Candidate → Type 0
-IsCandidate greatest name bytes C.Open = HasNone greatest name bytes true false false × (length bytes < 65583)
+IsCandidate greatest name bytes C.Open = HasNone greatest name bytes true false false × (length bytes < greatest_cell_size)
 IsCandidate greatest name bytes C.Nothing = HasNone greatest name bytes false false false
 IsCandidate greatest name bytes C.Damaged = HasNone greatest name bytes false true false
 IsCandidate greatest name bytes C.Other = HasNone greatest name bytes false false true
@@ -86,7 +86,7 @@ pub record IsFirstWanted (greatest : ℕ) (name bytes : List ℕ) (at : ℕ) (h 
 -- don't say yet what stands there, or the end. The heads are counted.
 pub record HasNoWanted (greatest : ℕ) (name bytes : List ℕ) (from : ℕ) (heads every : Heads) : Type 0 where
   pub within : from ≤ length bytes
-  pub few : length bytes - from < 65583
+  pub few : length bytes - from < greatest_cell_size
   pub settled : (i : ℕ) → i < from → is_undecided greatest name (drop i bytes) ≡ false
   pub stopped : is_undecided greatest name (drop from bytes) ≡ true
   pub none : NoneBefore greatest name bytes (length bytes)

@@ -24,7 +24,8 @@ pub struct Cell {
 
 impl Cell {
     /// The bytes of the cell, 48 and a symbol: those of its head, of its packet, and the first eight
-    /// of the SHA-512 of all these. The payload has to be a symbol of the head's configuration.
+    /// of the SHA-512 of all these. Where the payload is a symbol of the head's configuration, they are
+    /// read back ([`laws::cells_are_read`](crate::laws::cells_are_read)).
     pub fn serialize(&self, alloc: Global) -> Result<Vec<u8>, Error>
         ensures { IsAnswer (λ v. v.items) result (Ok (cell_bytes self.now)) }
     {

@@ -90,8 +90,8 @@ fn look(
 }
 
 /// The first wanted cell in bytes behind which others may come: one whose configuration coders take
-/// over a table, and whose name and configuration begin with `name`. A place at which such a cell may
-/// still end holds up none behind it. Refuses [`Error::OutOfMemory`] alone.
+/// over a table, and whose name and configuration begin with `name`. A cell that is begun and not
+/// whole yet doesn't hold up one behind it. Refuses [`Error::OutOfMemory`] alone.
 pub fn first_wanted(
     alloc: Global,
     table: &SystematicTable,

@@ -30,9 +30,9 @@ pub record AreFramesTaken (c : Configuration) (bytes left : List ℕ) (skipped :
   pub follows : (table : List TableRow) → FollowsRun table [] old → FollowsRun table done now
   pub stands : (table : List TableRow) (object : List ℕ) → StandsFor table object [] old → AllByRecursion (IsPacketOf table c object) (packets_in_bytes c bytes) → StandsFor table object done now
 
-kept_by : (skipped : Bool) (q p : Packet) → Some p ≡ cond skipped None (Some q) → skipped ≡ false
-kept_by true q p h = absurd (cc h)
-kept_by false q p h = refl
+unskipped_by : (skipped : Bool) (q p : Packet) → Some p ≡ cond skipped None (Some q) → skipped ≡ false
+unskipped_by true q p h = absurd (cc h)
+unskipped_by false q p h = refl
 
 skipped_by : (skipped : Bool) (q : Packet) → None ≡ cond skipped None (Some q) → skipped ≡ true
 skipped_by true q h = refl
@@ -89,7 +89,7 @@ module _ (c : Configuration) (bytes before after frame : List ℕ) (size skipped
       record {
         done = t.done ++ p ∷ [];
         whole = whole_next (Some p) kept ∙ sym (append_assoc t.done (p ∷ []) more);
-        counted = counted_next false (kept_by (is_skipped c frame) (packet_of_bytes frame) p kept) ∙ omega arith;
+        counted = counted_next false (unskipped_by (is_skipped c frame) (packet_of_bytes frame) p kept) ∙ omega arith;
         few = omega (arith, t.few, longer);
         passed = λ table none. one_passes table c t.done p (t.passed table none) (subst (λ k. IsNextRefusal table k t.done p (Ok tt)) same (takes.next table t.done (t.follows table none)));
         follows = λ table none. takes.follows table t.done (t.follows table none);

@@ -7,8 +7,9 @@ use crate::run::{Outcome, Stop};
 use std::io::Write;
 
 /// Writes the lines that say how many frames a run skipped, where it skipped some, and how it ended,
-/// where that is to be said, and answers the program's status. `None` is for words that ask for no
-/// job. A failed write is ignored.
+/// where that is to be said, and answers the program's status: 0 where the output is written, 1 after a
+/// fault, 2 where it is incomplete, 3 where something is refused, and 4 for `None`, which stands for words
+/// that ask for no job. A failed write is ignored.
 pub fn report<W: Write>(ended: Option<&Result<(Outcome, u64), Stop>>, out: &mut W) -> u8
     ensures { result ≡ status_of (option_copied ended.entry) }
 {

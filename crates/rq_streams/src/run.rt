@@ -25,7 +25,7 @@ pub enum Outcome {
 pub enum Stop {
     /// Reading or writing failed. A beginning of the output may be written.
     Fault,
-    /// The input is refused, or memory is. A run that makes its output whole first has written nothing.
+    /// The input is refused, or memory is. `run_send` and `run_receive` have written nothing then.
     Refused(Error),
 }
 

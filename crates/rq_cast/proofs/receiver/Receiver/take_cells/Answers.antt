@@ -24,14 +24,14 @@ returns-clause-takes c =
         takes = c.in_ok-unknown.ensures.takes;
         cells_seen =
             let both = known_and_unknown (state_of c.args.self.now.decoder).configuration s.packets.items in
-            omega (arith, c.saturating_add-self.ensures, c.in_ok-unknown.ensures.unknown, both);
+            omega (arith, c.saturating_add-self.ensures, c.with-self.ensures.cells, c.in_ok-unknown.ensures.unknown, both);
         damaged = s.damaged;
         damaged_found = λ rest. settles.damaged rest ∙ ap (λ k. s.damaged + damaged_in h (k ++ rest)) (sym kept);
         no_damaged = ap (damaged_in h) kept ∙ settles.no_damaged;
-        damaged_seen = c.saturating_add-self-2.ensures;
+        damaged_seen = c.with-self.ensures.damaged;
         others = s.others;
         others_found = λ rest. settles.others rest ∙ ap (λ k. s.others + others_in h (k ++ rest)) (sym kept);
-        others_seen = omega (arith, c.saturating_add-self-3.ensures, c.saturating_add-self-4.ensures, c.in_ok-unknown.ensures.unknown);
+        others_seen = omega (arith, c.with-self.ensures.others, c.saturating_add-self-2.ensures, c.in_ok-unknown.ensures.unknown);
       };
     }
 
