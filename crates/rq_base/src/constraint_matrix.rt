@@ -4,7 +4,7 @@ ghost use Rattle.std.specs.Prelude.{◌≡◌, ◌+◌, ◌^◌, ◌<◌, ◌≤
 ghost use Rattle.std.specs.List.{FoldsTo};
 ghost use Rattle.rq_standard.specs.Tuple.{IsTupleOver, enc_indices};
 ghost use Rattle.rq_bytes.specs.declared.error.Error.TheVariants.{OutOfMemory};
-ghost use Rattle.rq_standard.specs.TableRows.{greatest_size, row_of, intermediate_symbols};
+ghost use Rattle.rq_standard.specs.TableRows.{greatest_size, row_of};
 ghost use Rattle.rq_standard.specs.Equations.{equation_count};
 ghost use Rattle.rq_standard.specs.ConstraintMatrix.{IsBinaryPart, IsBinaryPartWithoutHdpc};
 ghost use Rattle.rq_base.specs.Calls.{CallableAlong};
@@ -55,7 +55,6 @@ pub fn generate_constraint_matrix<T: BinaryMatrix>(
     encoded_symbol_indices: &[u32],
 ) -> Result<(T, DenseOctetMatrix), Error>
     requires block { source_block_symbols ≤ greatest_size table.now }
-    requires enough { let row = row_of table.now source_block_symbols in intermediate_symbols row ≤ equation_count row encoded_symbol_indices.now }
     requires fits { equation_count (row_of table.now source_block_symbols) encoded_symbol_indices.now < 2 ^ 31 }
     ensures bits { IfOk result (λ parts. IsBinaryPart (row_of table.now source_block_symbols) encoded_symbol_indices.now (T.content parts.0)) }
     ensures hdpc { IfOk result (λ parts. IsHdpcPart (row_of table.now source_block_symbols) parts.1) }
@@ -93,7 +92,6 @@ pub fn generate_constraint_matrix_no_hdpc<T: BinaryMatrix>(
     encoded_symbol_indices: &[u32],
 ) -> Result<T, Error>
     requires block { source_block_symbols ≤ greatest_size table.now }
-    requires enough { let row = row_of table.now source_block_symbols in intermediate_symbols row ≤ row.ldpc_symbols + length encoded_symbol_indices.now }
     requires fits { (row_of table.now source_block_symbols).ldpc_symbols + length encoded_symbol_indices.now < 2 ^ 31 }
     ensures bits { IfOk result (λ matrix. IsBinaryPartWithoutHdpc (row_of table.now source_block_symbols) encoded_symbol_indices.now (T.content matrix)) }
     ensures memory { IfErr result (λ e. e ≡ OutOfMemory) }
