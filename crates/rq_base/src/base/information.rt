@@ -64,7 +64,8 @@ impl ObjectTransmissionInformation {
     /// Refuses, in this order, [`Error::TransferTooLong`] above 942574504275 bytes,
     /// [`Error::AlignmentZero`], [`Error::Misaligned`] where the alignment doesn't divide the
     /// symbol size, and [`Error::TooManySymbols`] where a block would have more than 56403 source
-    /// symbols.
+    /// symbols. It takes a symbol size of 0 and no source blocks, which
+    /// [`ObjectTransmissionInformation::check`] refuses.
     pub fn new(
         transfer_length: u64,
         symbol_size: u16,

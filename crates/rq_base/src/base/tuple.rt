@@ -35,12 +35,11 @@ pub fn intermediate_tuple(
     let d = deg(rand(y, 0, 1 << 20), lt_symbols);
     let a = 1 + rand(y, 1, lt_symbols - 1);
     let b = rand(y, 2, lt_symbols);
-    let d1 = 2
-        + if d < 4 {
-            rand(internal_symbol_id, 3, 2)
-        } else {
-            0
-        };
+    let d1 = if d < 4 {
+        2 + rand(internal_symbol_id, 3, 2)
+    } else {
+        2
+    };
     let a1 = 1 + rand(internal_symbol_id, 4, p1 - 1);
     let b1 = rand(internal_symbol_id, 5, p1);
     (d, a, b, d1, a1, b1)
