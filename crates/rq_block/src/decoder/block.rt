@@ -90,7 +90,8 @@ impl SourceBlockDecoder {
         config: &ObjectTransmissionInformation,
         block_length: u64,
     ) -> Result<SourceBlockDecoder, Error>
-        ensures refused { IsAnswer (λ _. tt) result (checked_block (greatest_size table.now) config.now (div_ceil block_length config.now.symbol_size)) }
+        ensures refused { IfErr result (λ e. checked_block (greatest_size table.now) config.now (div_ceil block_length config.now.symbol_size) ≡ Err e) }
+        ensures taken { OnOk result (checked_block (greatest_size table.now) config.now (div_ceil block_length config.now.symbol_size) ≡ Ok tt) }
         ensures empty { IfOk result (λ d. received_of d ≡ empty_block table.now config.now number (div_ceil block_length config.now.symbol_size)) }
     {
         config.check_symbols()?;
