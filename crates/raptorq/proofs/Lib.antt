@@ -2,6 +2,7 @@ pub mod AnsweredParts
 pub mod AppendedBlocks
 pub mod BlockParts
 pub mod Built
+pub mod Changes
 pub mod EncodedBlocks
 pub mod FollowedRuns
 pub mod Lists

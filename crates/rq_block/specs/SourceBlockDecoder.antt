@@ -6,6 +6,7 @@ use Rattle.rq_standard.specs.ReceivedBlock.{ReceivedBlock, nothing_received}
 use Rattle.rq_standard.specs.TableRows.{row_of}
 use Rattle.rq_block.specs.declared.decoder.block.SourceBlockDecoder.{SourceBlockDecoder}
 use Rattle.rq_block.specs.declared.decoder.last_outcome.LastOutcome.{LastOutcome}
+use Rattle.rq_block.specs.declared.decoder.last_outcome.LastOutcome.TheVariants.{Untried}
 use Rattle.rq_block.specs.Missing.{received_block}
 
 -- what it holds
@@ -19,6 +20,14 @@ pub record Solving : Type 0 where
 
 abbrev pub solving_of : SourceBlockDecoder → Solving
 solving_of d = record { sparse_threshold = d.sparse_threshold; last_outcome = d.last_outcome }
+
+-- from this many symbols on, and it wasn't tried
+abbrev pub unsolved : ℕ → Solving
+unsolved threshold = record { sparse_threshold = threshold; last_outcome = Untried }
+
+-- from this many symbols on, and what was found stays
+abbrev pub with_threshold : ℕ → Solving → Solving
+with_threshold threshold s = record s { sparse_threshold = threshold }
 
 -- a block of K source symbols, over its row of the table, of which nothing was received
 abbrev pub empty_block : List TableRow → Configuration → ℕ → ℕ → ReceivedBlock

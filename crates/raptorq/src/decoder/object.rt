@@ -1,5 +1,5 @@
 //! The decoder of an object.
-ghost use Rattle.std.specs.Prelude.{◌≡◌, ◌↔◌, ℕ, ◌*◌, ◌-◌, ◌<◌, ◌≤◌, [], length, Ok, Some, None, IfSome, IfOk, IfErr, OnOk, OnErr, All, map, option_map, vec_items, is_some, IsSome};
+ghost use Rattle.std.specs.Prelude.{◌≡◌, ◌↔◌, ℕ, ◌*◌, ◌-◌, ◌<◌, ◌≤◌, [], length, Ok, Some, None, IfSome, IfOk, IfErr, OnOk, OnErr, All, map, replicate, option_map, vec_items, is_some, IsSome};
 ghost use Rattle.std.specs.List.{range_with_len};
 ghost use Rattle.std.specs.Option.{ForSome};
 ghost use Rattle.rq_bytes.specs.Refusals.{IsAnswer};
@@ -11,7 +11,8 @@ ghost use Rattle.raptorq.specs.Refused.{packet_refusal};
 ghost use Rattle.raptorq.specs.Runs.{packets_of, AnswersRun, RefusesConfiguration};
 ghost use Rattle.rq_standard.specs.TableRows.{greatest_size};
 ghost use Rattle.rq_base.specs.RefusedInput.{checked_configuration};
-ghost use Rattle.rq_block.specs.SourceBlockDecoder.{received_of, solving_of};
+ghost use Rattle.rq_block.specs.SourceBlockDecoder.{received_of, solving_of, with_threshold, unsolved};
+ghost use Rattle.rq_block.specs.declared.encoder.TheConstants.{SPARSE_MATRIX_THRESHOLD};
 
 use crate::blocks::{block_symbols, symbols_before};
 use rq_base::base::{EncodingPacket, ObjectTransmissionInformation};
@@ -50,6 +51,7 @@ impl ObjectBlock {
         ensures received { received_of result.decoder ≡ new_received table.now config.now number }
         ensures answer { answer_of result ≡ new_answer config.now number }
         ensures shape { IsReceivedOf table.now config.now number (new_received table.now config.now number) }
+        ensures solving { solving_of result.decoder ≡ unsolved SPARSE_MATRIX_THRESHOLD }
     {
         let source_symbols = block_symbols(config, number);
         let decoder = SourceBlockDecoder::of_symbols(alloc, table, number, config, source_symbols);
@@ -156,7 +158,7 @@ impl Decoder {
     ghost use Rattle.raptorq.specs.Stopping.{AddsOrStops};
     ghost use Rattle.rq_block.specs.MissingPackets.{NeedsMore};
     ghost use Rattle.raptorq.specs.Unanswered.{TellsMissingOf};
-    ghost use Rattle.raptorq.specs.Decoder.{state_of, solving_at, missing_of, IsAnswerOf, IsBlockAt};
+    ghost use Rattle.raptorq.specs.Decoder.{state_of, solving_at, solving_of_blocks, missing_of, IsAnswerOf, IsBlockAt};
 
     /// The decoder of an object in this configuration, before any packet.
     ///
@@ -171,6 +173,7 @@ impl Decoder {
         ensures state { IfOk result (λ d. IsNewState table.now config (state_of d)) }
         ensures stands { IfOk result (λ d. StandsForNone table.now config (state_of d)) }
         ensures follows { IfOk result (λ d. FollowsRun table.now [] (state_of d)) }
+        ensures solving { IfOk result (λ d. solving_of_blocks d ≡ replicate config.source_blocks (unsolved SPARSE_MATRIX_THRESHOLD)) }
     {
         config.check(table)?;
         let mut blocks = Vec::with_capacity(alloc, usize::from(config.source_blocks()))?;
@@ -196,7 +199,8 @@ impl Decoder {
     /// [`SPARSE_MATRIX_THRESHOLD`](crate::encoder::SPARSE_MATRIX_THRESHOLD) at first.
     /// Whether there is an answer doesn't depend on it, nor what is answered of an object's packets.
     pub fn set_sparse_threshold(&mut self, value: u32)
-        ensures { state_of self.new ≡ state_of self.old }
+        ensures same { state_of self.new ≡ state_of self.old }
+        ensures solving { solving_of_blocks self.new ≡ map (with_threshold value) (solving_of_blocks self.old) }
     {
         set_sparse_thresholds(self.blocks.as_mut_slice(), value);
     }
@@ -414,6 +418,7 @@ fn check_packet(
 fn set_sparse_thresholds(blocks: &mut [ObjectBlock], value: u32)
     ensures received { map (λ b. received_of b.decoder) blocks.new ≡ map (λ b. received_of b.decoder) blocks.old }
     ensures answers { map (λ b. option_map vec_items b.answer) blocks.new ≡ map (λ b. option_map vec_items b.answer) blocks.old }
+    ensures solving { map (λ b. solving_of b.decoder) blocks.new ≡ map (with_threshold value) (map (λ b. solving_of b.decoder) blocks.old) }
 {
     for block in blocks {
         block.decoder.set_sparse_threshold(value);

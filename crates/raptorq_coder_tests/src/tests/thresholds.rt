@@ -61,8 +61,7 @@ fn the_first_threshold(rt: HostRuntime) {
     same!(rt; SPARSE_MATRIX_THRESHOLD, 250);
 }
 
-// A `set_sparse_threshold` that does nothing meets its contract, which says what stays. `==` sees the
-// threshold.
+// `==` sees the threshold.
 #[test]
 fn a_clone_keeps_the_threshold(rt: HostRuntime) -> Result<(), Error> {
     let mut decoder = block_decoder(rt.alloc(), (10, 1, 1, 1, 1))?;

@@ -71,7 +71,7 @@ impl SourceBlockDecoder {
     ghost use Rattle.rq_standard.specs.DecoderSteps.{emptied};
     ghost use Rattle.rq_standard.specs.TableRows.{greatest_size, intermediate_symbols};
     ghost use Rattle.rq_block.specs.RefusedBlocks.{checked_block, block_refusal};
-    ghost use Rattle.rq_block.specs.SourceBlockDecoder.{received_of, solving_of, empty_block};
+    ghost use Rattle.rq_block.specs.SourceBlockDecoder.{received_of, solving_of, with_threshold, unsolved, empty_block};
     ghost use Rattle.rq_block.specs.Decoding.{DecodesFrom, IsUnanswered, answer_bytes};
     ghost use Rattle.rq_block.specs.MissingPackets.{NeedsMore, TellsMissing, missing_after};
     ghost use Rattle.std.specs.Iterator.{IsFinite};
@@ -93,6 +93,7 @@ impl SourceBlockDecoder {
         ensures refused { IfErr result (λ e. checked_block (greatest_size table.now) config.now (div_ceil block_length config.now.symbol_size) ≡ Err e) }
         ensures taken { OnOk result (checked_block (greatest_size table.now) config.now (div_ceil block_length config.now.symbol_size) ≡ Ok tt) }
         ensures empty { IfOk result (λ d. received_of d ≡ empty_block table.now config.now number (div_ceil block_length config.now.symbol_size)) }
+        ensures solving { IfOk result (λ d. solving_of d ≡ unsolved SPARSE_MATRIX_THRESHOLD) }
     {
         config.check_symbols()?;
         let source_symbols = block_length.div_ceil(u64::from(config.symbol_size()));
@@ -115,6 +116,7 @@ impl SourceBlockDecoder {
         requires aligned { IsAligned config.now }
         requires in_table { source_symbols ≤ greatest_size table.now }
         ensures empty { received_of result ≡ empty_block table.now config.now number source_symbols }
+        ensures solving { solving_of result ≡ unsolved SPARSE_MATRIX_THRESHOLD }
     {
         let row = table.checked_row(source_symbols);
         SourceBlockDecoder::of_row(alloc, row, number, config, source_symbols)
@@ -131,7 +133,8 @@ impl SourceBlockDecoder {
         requires positive { 0 < config.now.symbol_size }
         requires aligned { IsAligned config.now }
         requires fits { source_symbols ≤ row.numbers.extended_symbols }
-        ensures { received_of result ≡ nothing_received config.now number row.numbers source_symbols }
+        ensures empty { received_of result ≡ nothing_received config.now number row.numbers source_symbols }
+        ensures solving { solving_of result ≡ unsolved SPARSE_MATRIX_THRESHOLD }
     {
         SourceBlockDecoder {
             config: *config,
@@ -150,10 +153,11 @@ impl SourceBlockDecoder {
     /// Sets the sparse threshold: from how many symbols of an extended source block (K') on the block
     /// is solved over a sparse matrix, and not over a dense one. It is
     /// [`SPARSE_MATRIX_THRESHOLD`](crate::encoder::SPARSE_MATRIX_THRESHOLD) at first. What was
-    /// received stays. Whether there is an answer doesn't depend on it, nor what is answered of an
-    /// object's packets.
+    /// received stays, and what the last attempt found. Whether there is an answer doesn't depend on
+    /// it, nor what is answered of an object's packets.
     pub fn set_sparse_threshold(&mut self, value: u32)
-        ensures { received_of self.new ≡ received_of self.old }
+        ensures same { received_of self.new ≡ received_of self.old }
+        ensures solving { solving_of self.new ≡ with_threshold value (solving_of self.old) }
     {
         self.sparse_threshold = value;
     }
@@ -259,7 +263,8 @@ impl SourceBlockDecoder {
 
     /// Lets what was received go, once the block is answered. Not in the Rust crate.
     pub fn forget(&mut self)
-        ensures { received_of self.new ≡ emptied (received_of self.old) }
+        ensures emptied { received_of self.new ≡ emptied (received_of self.old) }
+        ensures solving { solving_of self.new ≡ unsolved (solving_of self.old).sparse_threshold }
     {
         let sparse_threshold = self.sparse_threshold;
         *self = SourceBlockDecoder::of_row(

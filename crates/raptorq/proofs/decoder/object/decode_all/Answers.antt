@@ -23,13 +23,13 @@ module _ (c : After-set_sparse_threshold) where
   whole = c.loop-step.invariant.whole ∙ ap (λ l. c.loop-step.yielded ++ l) next
 
   same : (state_of c.set_sparse_threshold.new.self).configuration ≡ c.args.config
-  same = ap (λ s. s.configuration) c.set_sparse_threshold.ensures ∙ c.loop-step.invariant.configuration
+  same = ap (λ s. s.configuration) c.set_sparse_threshold.ensures.same ∙ c.loop-step.invariant.configuration
 
   stands : (object : List ℕ) → IsHonestRun c.args.table.now c.args.config object (packets_of c.args.steps.items) → StandsFor c.args.table.now object (packets_of c.loop-step.yielded) (state_of c.set_sparse_threshold.new.self)
-  stands object run = subst (StandsFor c.args.table.now object (packets_of c.loop-step.yielded)) (sym c.set_sparse_threshold.ensures) (c.loop-step.invariant.stands object run)
+  stands object run = subst (StandsFor c.args.table.now object (packets_of c.loop-step.yielded)) (sym c.set_sparse_threshold.ensures.same) (c.loop-step.invariant.stands object run)
 
   follows : FollowsRun c.args.table.now (packets_of c.loop-step.yielded) (state_of c.set_sparse_threshold.new.self)
-  follows = subst (FollowsRun c.args.table.now (packets_of c.loop-step.yielded)) (sym c.set_sparse_threshold.ensures) c.loop-step.invariant.follows
+  follows = subst (FollowsRun c.args.table.now (packets_of c.loop-step.yielded)) (sym c.set_sparse_threshold.ensures.same) c.loop-step.invariant.follows
 
   -- all packets, with the one that is taken behind those before it
   around : packets_of c.args.steps.items ≡ (packets_of c.loop-step.yielded ++ c.in-Some.step.1 ∷ []) ++ packets_of (into_iter_items c.next.new.self)

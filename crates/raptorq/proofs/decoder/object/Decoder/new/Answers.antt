@@ -1,9 +1,11 @@
-use Rattle.std.proofs.Common.{◌≡◌, map, refl, ap, ◌∙◌, arith}
+use Rattle.std.proofs.Common.{◌≡◌, ◌++◌, ◌∷◌, [], map, replicate, refl, ap, ◌∙◌, arith}
 use Rattle.std.specs.List.{range_with_len}
+use Rattle.std.proofs.lemmas.List.{map_push, replicate_more}
 use borrow.Author.Count.{below_more}
 use Rattle.rq_standard.specs.DecoderState.{IsReceivedOf, IsNewState, new_received, new_answer}
 use Rattle.rq_standard.proofs.StandingSteps.{stands_new}
-use Rattle.rq_block.specs.SourceBlockDecoder.{received_of}
+use Rattle.rq_block.specs.declared.encoder.TheConstants.{SPARSE_MATRIX_THRESHOLD}
+use Rattle.rq_block.specs.SourceBlockDecoder.{received_of, solving_of, unsolved}
 use Rattle.raptorq.specs.Decoder.{answer_of}
 use Rattle.raptorq.proofs.FollowedRuns.{follows_no_packets}
 use Rattle.rq_block.proofs.Numbered.{mapped_more, new_numbers}
@@ -19,6 +21,9 @@ loop-number-preserved c =
     record {
       received = mapped_more (λ b. received_of b.decoder) (new_received table k) _ c.loop-number.blocks.items c.push.new.self.items c.new.result kept.received c.new.ensures.received c.in_ok-push.ensures.items;
       answers = mapped_more answer_of (new_answer k) _ c.loop-number.blocks.items c.push.new.self.items c.new.result kept.answers c.new.ensures.answer c.in_ok-push.ensures.items;
+      solving = ap (map (λ b. solving_of b.decoder)) c.in_ok-push.ensures.items ∙ map_push (λ b. solving_of b.decoder) c.loop-number.blocks.items c.new.result
+          ∙ ap (λ l. l ++ solving_of c.new.result.decoder ∷ []) kept.solving ∙ ap (λ x. replicate c.loop-number.number (unsolved SPARSE_MATRIX_THRESHOLD) ++ x ∷ []) c.new.ensures.solving
+          ∙ replicate_more c.loop-number.number (unsolved SPARSE_MATRIX_THRESHOLD);
       shape = below_more (λ b. IsReceivedOf table k b (new_received table k b)) _ kept.shape c.new.ensures.shape;
     }
 
@@ -61,3 +66,6 @@ pub returns-clause-follows : goal.returns-clause-follows
 returns-clause-follows c =
     let at = (goal.at.returns-clause-follows c).After-loop-number in
     follows_no_packets c.args.table.now c.args.config (state c.args.config c.loop-number.blocks.items) (λ b below. c.loop-number.invariant.shape b (omega (arith, all at))) (new at)
+
+pub returns-clause-solving : goal.returns-clause-solving
+returns-clause-solving c = c.loop-number.invariant.solving ∙ ap (λ n. replicate n (unsolved SPARSE_MATRIX_THRESHOLD)) (all (goal.at.returns-clause-solving c).After-loop-number)
