@@ -7,6 +7,7 @@ pub mod EncodedBlocks
 pub mod FollowedRuns
 pub mod Lists
 pub mod ObjectBlocks
+pub mod Remembered
 pub mod ResultAnswers
 pub mod Stops
 pub mod Witnesses

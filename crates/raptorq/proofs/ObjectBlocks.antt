@@ -19,14 +19,16 @@ use Rattle.rq_standard.specs.DecoderState.{State, new_received, new_answer, IsNe
 use Rattle.rq_standard.specs.DecoderSteps.{AddsToBlock, RecordsInBlock, IsSameElsewhere, Adds, RecordsOnly}
 use Rattle.rq_standard.proofs.ObjectAnswers.{joined_some, joined_each}
 use Rattle.rq_standard.proofs.OptionValues.{is_some-mapped}
-use Rattle.rq_block.specs.SourceBlockDecoder.{received_of, solving_of}
+use Rattle.rq_block.specs.SourceBlockDecoder.{Solving, received_of, solving_of}
 use Rattle.rq_block.specs.declared.decoder.last_outcome.LastOutcome.TheVariants.{Untried}
-use Rattle.raptorq.specs.Decoder.{received_at, answer_at, answer_of, IsBlockAt}
+use Rattle.raptorq.specs.Decoder.{received_at, answer_at, answer_of, solving_at, IsBlockAt}
+use Rattle.raptorq.specs.Remembering.{Remembers, RemembersHere}
 use Rattle.rq_block.specs.RefusedBlocks.{block_refusal}
 use Rattle.raptorq.specs.Stopping.{AddsHereOrStops, AddsOrStops}
 use Rattle.raptorq.specs.Refused.{packet_refusal}
 use Rattle.rq_block.proofs.Numbered.{length-mapped, length-numbered, mapped_through}
 use Rattle.raptorq.specs.declared.decoder.object.ObjectBlock.{ObjectBlock}
+use Rattle.raptorq.specs.declared.decoder.object.Decoder.{Decoder}
 
 abbrev pub block_number : ObjectBlock → ℕ
 block_number b = (received_of b.decoder).number
@@ -123,6 +125,23 @@ module _ (c : Configuration) (items : List ObjectBlock) (p : Packet) (x y : Obje
       let received_same : map (λ b. received_of b.decoder) (set items p.id.block y) ≡ map (λ b. received_of b.decoder) items = map-set_same (λ b. received_of b.decoder) items p.id.block y x (received ∙ ap (λ b. received_of b.decoder) is) in
       let answer_same : map answer_of (set items p.id.block y) ≡ map answer_of items = map-set_same answer_of items p.id.block y x (answer ∙ ap answer_of is) in
       λ i. record { configuration = c; received = λ n. get_or (received_same i) n (nothing_received c n no_row 0); answer = λ n. get_or (answer_same i) n None }
+
+  -- what is remembered of the block is remembered of its number
+  pub remembers_at : {X : Type 0} (old new : Decoder) (result : Result X Error) → old.blocks.items ≡ items → new.blocks.items ≡ set items p.id.block y
+      → RemembersHere (answer_of y) (solving_of x.decoder) result (solving_of y.decoder) → Remembers old p result new
+  remembers_at old new result was now so =
+      let i = p.id.block in
+      let first : Solving = record { sparse_threshold = 0; last_outcome = Untried } in
+      let solving : ObjectBlock → Solving = λ b. solving_of b.decoder in
+      let after = set items i y in
+      let old_is : solving_at old i ≡ solving x = ap (λ l. get_or (map solving l) i first) was ∙ get_or-map solving items i x first below ∙ ap solving (sym is) in
+      let new_is : solving_at new i ≡ solving y =
+      ap (λ l. get_or (map solving l) i first) now ∙ get_or-map solving after i y first (within items i y below) ∙ ap solving (sym (set_there items i y below)) in
+      let answer_is : answer_at new.blocks.items i ≡ answer_of y = ap (λ l. answer_at l i) now ∙ answer_here after i y (within items i y below) (set_there items i y below) in
+      record {
+        here = rw (answer_is, old_is, new_is) so;
+        others = λ n apart. ap (λ l. get_or (map solving l) n first) now ∙ elsewhere_same solving items i n y first apart ∙ sym (ap (λ l. get_or (map solving l) n first) was);
+      }
 
   -- what the packet did to its block it did to the object's decoder
   pub takes_at : (result : Result (Unit {0}) Error) → packet_refusal c p ≡ Ok tt

@@ -8,6 +8,7 @@ pub mod Encoder
 pub mod Laws
 pub mod Offsets
 pub mod Refused
+pub mod Remembering
 pub mod Runs
 pub mod Stopping
 pub mod TakesPacket

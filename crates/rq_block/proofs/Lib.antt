@@ -15,6 +15,7 @@ pub mod NeededIds
 pub mod NumberRanges
 pub mod Numbered
 pub mod OctetSymbols
+pub mod Outcomes
 pub mod Payloads
 pub mod PlanLaws
 pub mod ReceivedEntries

@@ -4,7 +4,7 @@ use Rattle.std.specs.Prelude.{not}
 use Rattle.std.specs.Iterator.{Yields}
 use Rattle.std.proofs.lemmas.Bool.{eqb-true}
 use Rattle.rq_bytes.specs.declared.error.Error.{Error}
-use Rattle.rq_bytes.specs.declared.error.Error.TheVariants.{UnknownBlock, WrongPayloadSize}
+use Rattle.rq_bytes.specs.declared.error.Error.TheVariants.{UnknownBlock, WrongPayloadSize, Contradiction}
 use Rattle.rq_bytes.specs.Refusals.{IsRefusal}
 use Rattle.rq_standard.specs.Packet.{Packet, SymbolId}
 use Rattle.rq_standard.specs.ReceivedBlock.{ReceivedBlock, with_received}
@@ -33,6 +33,15 @@ size_is_tested false s passed = cc
 -- a packet that is taken carries a symbol of the size
 pub taken_size : (h : ReceivedBlock) (p : Packet) → block_refusal h p ≡ Ok tt → length p.payload ≡ h.configuration.symbol_size
 taken_size h p passed = eqb-true (length p.payload) h.configuration.symbol_size (size_is_tested (eqb p.id.block h.number) (eqb (length p.payload) h.configuration.symbol_size) passed)
+
+pub tests_find_no_contradiction : (b s : Bool) (e : Error) → IsRefusal e (packet_tests b s) → e ≡ Contradiction → ⊥
+tests_find_no_contradiction true true e refused is = cc (refused, is)
+tests_find_no_contradiction true false e refused is = cc (refused, is)
+tests_find_no_contradiction false s e refused is = cc (refused, is)
+
+-- no packet is refused as a contradiction before solving
+pub refused_otherwise : (h : ReceivedBlock) (p : Packet) (e : Error) → IsRefusal e (block_refusal h p) → e ≡ Contradiction → ⊥
+refused_otherwise h p e refused is = tests_find_no_contradiction (eqb p.id.block h.number) (eqb (length p.payload) h.configuration.symbol_size) e refused is
 
 -- the payload of an id that is recorded is a packet's
 pub recorded_packet : (h : ReceivedBlock) (p : Packet) (received : ℕ → Option (List ℕ)) (id : SymbolId) (esi : ℕ) (payload : List ℕ) → id ≡ p.id → esi ≡ id.esi → payload ≡ p.payload

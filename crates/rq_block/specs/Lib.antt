@@ -9,6 +9,7 @@ pub mod Decoding
 pub mod Difference
 pub mod HdpcSums
 pub mod Known
+pub mod LastOutcome
 pub mod Missing
 pub mod MissingPackets
 pub mod Planned

@@ -1,12 +1,13 @@
 -- What the decoder of a block shows.
-use Rattle.std.specs.Prelude.{ℕ, List}
+use Rattle.std.specs.Prelude.{ℕ, List, if◌then◌else◌}
 use Rattle.rq_standard.specs.declared.row.TableRow.{TableRow}
 use Rattle.rq_standard.specs.Configuration.{Configuration}
-use Rattle.rq_standard.specs.ReceivedBlock.{ReceivedBlock, nothing_received}
+use Rattle.rq_standard.specs.ReceivedBlock.{ReceivedBlock, has_received, nothing_received}
 use Rattle.rq_standard.specs.TableRows.{row_of}
 use Rattle.rq_block.specs.declared.decoder.block.SourceBlockDecoder.{SourceBlockDecoder}
 use Rattle.rq_block.specs.declared.decoder.last_outcome.LastOutcome.{LastOutcome}
 use Rattle.rq_block.specs.declared.decoder.last_outcome.LastOutcome.TheVariants.{Untried}
+use Rattle.rq_block.specs.LastOutcome.{after_new_payload}
 use Rattle.rq_block.specs.Missing.{received_block}
 
 -- what it holds
@@ -28,6 +29,10 @@ unsolved threshold = record { sparse_threshold = threshold; last_outcome = Untri
 -- from this many symbols on, and what was found stays
 abbrev pub with_threshold : ℕ → Solving → Solving
 with_threshold threshold s = record s { sparse_threshold = threshold }
+
+-- once a payload of an id was received: only one of a new id changes what was found
+abbrev pub solving_after : ReceivedBlock → ℕ → Solving → Solving
+solving_after h esi s = if has_received h esi then s else record s { last_outcome = after_new_payload s.last_outcome }
 
 -- a block of K source symbols, over its row of the table, of which nothing was received
 abbrev pub empty_block : List TableRow → Configuration → ℕ → ℕ → ReceivedBlock

@@ -34,6 +34,7 @@ impl ObjectBlock {
     ghost use Rattle.rq_standard.specs.DecoderState.{IsReceivedOf, new_received, new_answer};
     ghost use Rattle.raptorq.specs.Stopping.{AddsHereOrStops};
     ghost use Rattle.raptorq.specs.Decoder.{answer_of};
+    ghost use Rattle.raptorq.specs.Remembering.{RemembersHere};
     ghost use Rattle.rq_block.specs.MissingPackets.{NeedsMore};
     ghost use Rattle.raptorq.specs.Unanswered.{TellsMissingOf, missing_in};
     ghost use Rattle.rq_block.specs.RefusedBlocks.{block_refusal};
@@ -71,6 +72,7 @@ impl ObjectBlock {
         ensures number { (received_of self.new.decoder).number ≡ (received_of self.old.decoder).number }
         ensures configuration { (received_of self.new.decoder).configuration ≡ (received_of self.old.decoder).configuration }
         ensures symbols { (received_of self.new.decoder).source_symbols ≡ (received_of self.old.decoder).source_symbols }
+        ensures remembers { RemembersHere (answer_of self.new) (solving_of self.old.decoder) result (solving_of self.new.decoder) }
     {
         if self.answer.is_some() {
             return Ok(());
@@ -159,6 +161,7 @@ impl Decoder {
     ghost use Rattle.rq_block.specs.MissingPackets.{NeedsMore};
     ghost use Rattle.raptorq.specs.Unanswered.{TellsMissingOf};
     ghost use Rattle.raptorq.specs.Decoder.{state_of, solving_at, solving_of_blocks, missing_of, IsAnswerOf, IsBlockAt};
+    ghost use Rattle.raptorq.specs.Remembering.{Remembers};
 
     /// The decoder of an object in this configuration, before any packet.
     ///
@@ -209,6 +212,7 @@ impl Decoder {
     fn add_to_block(&mut self, packet: EncodingPacket) -> Result<(), Error>
         ensures adds { AddsOrStops (state_of self.old) packet result (state_of self.new) }
         ensures configuration { (state_of self.new).configuration ≡ (state_of self.old).configuration }
+        ensures remembers { Remembers self.old packet result self.new }
     {
         check_packet(&self.config, &packet)?;
         let number = packet.payload_id().source_block_number();
@@ -231,6 +235,7 @@ impl Decoder {
         ensures takes { TakesPacket (state_of self.old) packet result (state_of self.new) }
         ensures stops { IfErr result (λ e. e ≡ Error.OutOfMemory → StopsEarly (state_of self.old) packet (state_of self.new)) }
         ensures leaves_late { IfErr result (λ e. e ≡ Error.OutOfMemory → LeavesBlockLate (state_of self.old) packet (state_of self.new)) }
+        ensures remembers { Remembers self.old packet result self.new }
     {
         self.add_to_block(packet)
     }
@@ -378,6 +383,7 @@ impl Decoder {
         ensures stops { IfErr result (λ e. e ≡ Error.OutOfMemory → Stops (state_of self.old) packet (state_of self.new)) }
         ensures answer { IfOk result (λ r. IsAnswerOf (state_of self.new) (option_map vec_items r)) }
         ensures leaves_late { IfErr result (λ e. e ≡ Error.OutOfMemory → LeavesOrAnswersLateBlock (state_of self.old) packet (state_of self.new)) }
+        ensures remembers { Remembers self.old packet result self.new }
     {
         self.add_to_block(packet)?;
         let object = self.get_result()?;

@@ -71,7 +71,8 @@ impl SourceBlockDecoder {
     ghost use Rattle.rq_standard.specs.DecoderSteps.{emptied};
     ghost use Rattle.rq_standard.specs.TableRows.{greatest_size, intermediate_symbols};
     ghost use Rattle.rq_block.specs.RefusedBlocks.{checked_block, block_refusal};
-    ghost use Rattle.rq_block.specs.SourceBlockDecoder.{received_of, solving_of, with_threshold, unsolved, empty_block};
+    ghost use Rattle.rq_block.specs.SourceBlockDecoder.{received_of, solving_of, solving_after, with_threshold, unsolved, empty_block};
+    ghost use Rattle.rq_block.specs.LastOutcome.{outcome_of};
     ghost use Rattle.rq_block.specs.Decoding.{DecodesFrom, IsUnanswered, answer_bytes};
     ghost use Rattle.rq_block.specs.MissingPackets.{NeedsMore, TellsMissing, missing_after};
     ghost use Rattle.std.specs.Iterator.{IsFinite};
@@ -186,7 +187,10 @@ impl SourceBlockDecoder {
         packets: I,
     ) -> Result<Option<Vec<u8>>, Error>
         requires { (it : I.IntoIter) → I.into_iter_gives packets it → I.IntoIter.can_next it × IsFinite (I.IntoIter.remaining it) }
-        ensures { DecodesFrom I.into_iter_gives I.IntoIter.next_gives packets (received_of self.old) (answer_bytes vec_items result) (received_of self.new) }
+        ensures decodes { DecodesFrom I.into_iter_gives I.IntoIter.next_gives packets (received_of self.old) (answer_bytes vec_items result) (received_of self.new) }
+        ensures remembers { OnOk result ((solving_of self.new).last_outcome ≡ outcome_of result) }
+        ensures contradicted { IfErr result (λ e. e ≡ Error.Contradiction → (solving_of self.new).last_outcome ≡ Contradictory) }
+        ensures threshold { (solving_of self.new).sparse_threshold ≡ (solving_of self.old).sparse_threshold }
     {
         for packet in packets {
             self.add(packet)?;
@@ -231,6 +235,7 @@ impl SourceBlockDecoder {
         ensures tested { IsAnswer (λ _. tt) result (block_refusal (received_of self.old) packet) }
         ensures ok { OnOk result (received_of self.new ≡ with_received (received_of self.old) packet.id.esi packet.payload) }
         ensures err { OnErr result (received_of self.new ≡ received_of self.old) }
+        ensures threshold { (solving_of self.new).sparse_threshold ≡ (solving_of self.old).sparse_threshold }
     {
         if packet.payload_id().source_block_number() != self.number {
             return Err(Error::UnknownBlock);
@@ -245,7 +250,9 @@ impl SourceBlockDecoder {
     pub fn record(&mut self, packet: EncodingPacket) -> Result<(), AllocError>
         requires { block_refusal (received_of self.old) packet ≡ Ok tt }
         ensures ok { OnOk result (received_of self.new ≡ with_received (received_of self.old) packet.id.esi packet.payload) }
+        ensures solving { OnOk result (solving_of self.new ≡ solving_after (received_of self.old) packet.id.esi (solving_of self.old)) }
         ensures err { OnErr result (received_of self.new ≡ received_of self.old) }
+        ensures kept { OnErr result (solving_of self.new ≡ solving_of self.old) }
     {
         let (id, payload) = packet.split();
         let esi = id.encoding_symbol_id();
@@ -286,24 +293,16 @@ impl SourceBlockDecoder {
         ensures block { IfOk result (λ r. IsBlockAnswer (received_of self.old) (option_map vec_items r)) }
         ensures same { received_of self.new ≡ received_of self.old }
         ensures unanswered { IfErr result (IsUnanswered (received_of self.old)) }
+        ensures remembers { solving_of self.new ≡ record (solving_of self.old) { last_outcome = outcome_of result } }
     {
         match self.last_outcome {
             LastOutcome::Undetermined => return Ok(None),
             LastOutcome::Contradictory => return Err(Error::Contradiction),
             LastOutcome::Untried => {}
         }
-        match self.find_answer() {
-            Ok(None) => {
-                self.last_outcome = LastOutcome::Undetermined;
-                Ok(None)
-            }
-            Ok(answer) => Ok(answer),
-            Err(Error::Contradiction) => {
-                self.last_outcome = LastOutcome::Contradictory;
-                Err(Error::Contradiction)
-            }
-            Err(e) => Err(e),
-        }
+        let answer = self.find_answer();
+        self.last_outcome = LastOutcome::of(&answer);
+        answer
     }
 
     // The block, where all its source symbols were received or what was received determines it: solved
@@ -311,6 +310,7 @@ impl SourceBlockDecoder {
     fn find_answer(&mut self) -> Result<Option<Vec<u8>>, Error>
         ensures block { IfOk result (λ r. IsBlockAnswer (received_of self.old) (option_map vec_items r)) }
         ensures same { received_of self.new ≡ received_of self.old }
+        ensures solving { solving_of self.new ≡ solving_of self.old }
         ensures unanswered { IfErr result (IsUnanswered (received_of self.old)) }
     {
         let all = self.missing == 0;

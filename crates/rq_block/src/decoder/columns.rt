@@ -28,6 +28,7 @@ pub(crate) fn keep_where_it_solves(
     requires few { esi < 2 ^ 24 }
     ensures solves { ForSome column.new (λ octets. SolvesEsi row.now.numbers source_symbols esi octets.items) }
     ensures same { ForSome column.new (λ octets. column.old ≡ Some octets) }
+    ensures kept { ForSome column.old (λ octets. SolvesEsi row.now.numbers source_symbols esi octets.items → column.new ≡ Some octets) }
 {
     if !column_solves(row, source_symbols, column, esi) {
         *column = None;

@@ -19,13 +19,14 @@ use std::collections::BTreeMap;
 impl SourceBlockDecoder {
     ghost use Rattle.rq_standard.specs.ReceivedBlock.{IsBlockWith};
     ghost use Rattle.rq_block.specs.Known.{FindsFromKnown, FindsKnown, SolvesBlock, IsReceivedSolution, HasLostSymbols};
-    ghost use Rattle.rq_block.specs.SourceBlockDecoder.{received_of};
+    ghost use Rattle.rq_block.specs.SourceBlockDecoder.{received_of, solving_of};
     ghost use Rattle.rq_block.specs.Decoding.{IsUnanswered};
 
     /// The intermediate symbols, where what was received determines them.
     pub(super) fn solve(&mut self) -> Result<Option<SymbolSlab>, Error>
         ensures solved { IfOk result (λ r. SolvesBlock (received_of self.old) r) }
         ensures same { received_of self.new ≡ received_of self.old }
+        ensures solving { solving_of self.new ≡ solving_of self.old }
         ensures unanswered { IfErr result (IsUnanswered (received_of self.old)) }
     {
         let Some(solution) = self.find_operations()? else {
@@ -40,6 +41,7 @@ impl SourceBlockDecoder {
         ensures found { IfOk result (FindsKnown (received_of self.old) self.old.received) }
         ensures received { self.new.received ≡ self.old.received }
         ensures same { received_of self.new ≡ received_of self.old }
+        ensures solving { solving_of self.new ≡ solving_of self.old }
         ensures memory { IfErr result (λ e. e ≡ Error.OutOfMemory) }
     {
         let row = &self.row;

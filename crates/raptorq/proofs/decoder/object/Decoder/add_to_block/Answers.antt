@@ -6,7 +6,8 @@ use Rattle.rq_standard.specs.Cutting.{block_symbols}
 use Rattle.raptorq.specs.Stopping.{AddsOrStops}
 use Rattle.rq_block.specs.SourceBlockDecoder.{received_of}
 use Rattle.rq_block.proofs.Numbered.{length-numbered, numbered_at}
-use Rattle.raptorq.proofs.ObjectBlocks.{state, block_number, IsBlockOf, block_of_packet, block_takes, IsCut, takes_at}
+use Rattle.raptorq.proofs.ObjectBlocks.{state, block_number, IsBlockOf, block_of_packet, block_takes, IsCut, remembers_at, takes_at}
+use Rattle.raptorq.proofs.Remembered.{remembers_refused}
 use Rattle.raptorq.proofs.decoder.object.Decoder.add_to_block.Goals as goal
 use Rattle.raptorq.proofs.decoder.object.Decoder.add_to_block.Goals.{After-from, After-index_mut}
 
@@ -61,6 +62,19 @@ pub returns-in_err-check_packet-clause-adds : goal.returns-in_err-check_packet-c
 returns-in_err-check_packet-clause-adds c =
     let p = err_from_is_err_and c.from_residual.result c.from_residual.ensures.1 in
     rw (p.1, p.2) (inl (sym c.in_err-check_packet.ensures.tests, refl))
+
+-- a packet that the tests refuse is no contradiction
+pub returns-in_err-check_packet-clause-remembers : goal.returns-in_err-check_packet-clause-remembers
+returns-in_err-check_packet-clause-remembers c =
+    let p = err_from_is_err_and c.from_residual.result c.from_residual.ensures.1 in
+    let d = c.args.self.now in
+    rw (p.1, p.2) (remembers_refused d c.args.packet c.in_err-check_packet.field-0.0 (sym c.in_err-check_packet.ensures.tests))
+
+pub returns-clause-remembers : goal.returns-clause-remembers
+returns-clause-remembers c =
+    let at = block (goal.at.returns-clause-remembers c).After-index_mut in
+    remembers_at c.args.self.now.config c.args.self.now.blocks.items c.args.packet c.index_mut.result.now c.add_packet.new.self at.below at.is
+    c.args.self.now _ c.add_packet.result refl (ap (λ i. set c.args.self.now.blocks.items i c.add_packet.new.self) at.here) c.add_packet.ensures.remembers
 
 pub returns-clause-adds : goal.returns-clause-adds
 returns-clause-adds c =

@@ -2,6 +2,7 @@ use Rattle.std.proofs.Common.{inl, inr}
 use Rattle.std.proofs.lemmas.Result.{err_from_is_err_and}
 use Rattle.rq_standard.proofs.StandingSteps.{leaves_late, answers_late}
 use Rattle.raptorq.specs.Decoder.{state_of}
+use Rattle.raptorq.proofs.Remembered.{remembers_error, remembers_late, remembers_taken}
 use Rattle.raptorq.proofs.Stops.{not_joined, stops_early, takes_added, takes_stopped}
 use Rattle.raptorq.proofs.decoder.object.Decoder.decode.Goals as goal
 
@@ -51,3 +52,18 @@ returns-in_err-object-clause-leaves_late c =
     let p = err_from_is_err_and c.from_residual-in_err-object.result c.from_residual-in_err-object.ensures.1 in
     let late = answers_late c.args.packet (state_of c.args.self.now) (state_of c.add_to_block.new.self) c.args.self.now.aligned c.in_ok-add_to_block.ensures.adds.1 in
     rw p.1 (λ memory. inr late)
+
+-- ---- what is remembered
+
+pub returns-clause-remembers : goal.returns-clause-remembers
+returns-clause-remembers c = remembers_taken c.args.self.now c.add_to_block.new.self c.args.packet _ c.in_ok-object.object c.in_ok-add_to_block.ensures.remembers
+
+pub returns-in_err-add_to_block-clause-remembers : goal.returns-in_err-add_to_block-clause-remembers
+returns-in_err-add_to_block-clause-remembers c =
+    let p = err_from_is_err_and c.from_residual.result c.from_residual.ensures.1 in
+    rw (p.1, p.2) (remembers_error c.args.self.now c.add_to_block.new.self c.args.packet c.in_err-add_to_block.field-0.0 c.in_err-add_to_block.ensures.remembers)
+
+pub returns-in_err-object-clause-remembers : goal.returns-in_err-object-clause-remembers
+returns-in_err-object-clause-remembers c =
+    let p = err_from_is_err_and c.from_residual-in_err-object.result c.from_residual-in_err-object.ensures.1 in
+    rw (p.1, p.2) (remembers_late c.args.self.now c.add_to_block.new.self c.args.packet _ c.in_err-object.field-0.0 c.in_err-object.ensures.memory c.in_ok-add_to_block.ensures.remembers)

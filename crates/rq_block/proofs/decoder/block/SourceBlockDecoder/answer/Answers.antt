@@ -1,8 +1,24 @@
-use Rattle.std.proofs.Common.{subst}
-use Rattle.rq_standard.specs.ReceivedBlock.{CanAnswer}
+use Rattle.std.proofs.Common.{inl, inr, None, sym, ◌∙◌, subst}
+use Rattle.std.specs.Prelude.{IfErr, IfOk, option_map, vec_items}
+use Rattle.rq_bytes.specs.declared.error.Error.TheVariants.{Contradiction}
+use Rattle.rq_standard.specs.ReceivedBlock.{CanAnswer, IsBlockAnswer, IsContradictory}
+use Rattle.rq_block.specs.Decoding.{IsUnanswered}
+use Rattle.rq_block.specs.SourceBlockDecoder.{received_of}
+use Rattle.rq_block.proofs.Outcomes.{undetermined_by, contradictory_by}
 use Rattle.rq_block.proofs.decoder.block.SourceBlockDecoder.answer.Goals as goal
 
 pub invariant_of-self-clause-waits : goal.invariant_of-self-clause-waits
 invariant_of-self-clause-waits c = λ set can.
-    let none = rw c.in-Ok-None.field-0-is at c.in-Ok-None.ensures.block in
-    absurd (cc (none.none (subst CanAnswer c.find_answer.ensures.same can)))
+    let d = c.args.self.now in
+    let r = c.find_answer-answer.result in
+    let none = undetermined_by r (sym c.of-self.ensures ∙ set) in
+    let answer : IsBlockAnswer (received_of d) None = subst (λ x. IfOk x (λ a. IsBlockAnswer (received_of d) (option_map vec_items a))) none c.find_answer-answer.ensures.block in
+    absurd (cc (answer.none (subst CanAnswer c.find_answer-answer.ensures.same can)))
+
+pub invariant_of-self-clause-contradicted : goal.invariant_of-self-clause-contradicted
+invariant_of-self-clause-contradicted c = λ set.
+    let d = c.args.self.now in
+    let r = c.find_answer-answer.result in
+    let refused = contradictory_by r (sym c.of-self.ensures ∙ set) in
+    let why : IsUnanswered (received_of d) Contradiction = subst (λ x. IfErr x (IsUnanswered (received_of d))) refused c.find_answer-answer.ensures.unanswered in
+    subst IsContradictory (sym c.find_answer-answer.ensures.same) (elim why [ inl memory ↦ absurd (cc memory) | inr found ↦ found.1 ])

@@ -1,7 +1,8 @@
-use Rattle.std.proofs.Common.{◌++◌, ◌∷◌, []}
+use Rattle.std.proofs.Common.{◌++◌, ◌∷◌, [], ap, ◌∙◌}
 use Rattle.std.proofs.lemmas.Result.{err_from_is_err_and}
-use Rattle.rq_block.specs.SourceBlockDecoder.{received_of}
-use Rattle.rq_block.proofs.TakenPackets.{taken-more, recorded-more, stopped, Yields-push}
+use Rattle.rq_block.specs.SourceBlockDecoder.{Solving, received_of, solving_of}
+use Rattle.rq_block.proofs.Outcomes.{remembered_refusal, whatever_answered}
+use Rattle.rq_block.proofs.TakenPackets.{taken-more, recorded-more, refused_otherwise, stopped, Yields-push}
 use Rattle.rq_block.proofs.decoder.block.SourceBlockDecoder.decode.Goals as goal
 
 pub loop-packet-preserved : goal.loop-packet-preserved
@@ -12,10 +13,11 @@ loop-packet-preserved g c =
     record {
       taken = taken-more old now c.loop-packet.yielded c.in-Some.packet kept.taken kept.recorded c.in_ok-add.ensures.tested;
       recorded = recorded-more old now (received_of c.add.new.self) c.loop-packet.yielded c.in-Some.packet kept.recorded c.in_ok-add.ensures.ok;
+      threshold = c.add.ensures.threshold ∙ kept.threshold;
     }
 
-pub returns-in_err-add : goal.returns-in_err-add
-returns-in_err-add g c =
+pub returns-in_err-add-clause-decodes : goal.returns-in_err-add-clause-decodes
+returns-in_err-add-clause-decodes g c =
     let kept = c.loop-packet.invariant in
     let old = received_of c.args.self.now in
     let now = received_of c.loop-packet.self in
@@ -28,3 +30,22 @@ returns-in_err-add g c =
           (Yields-push g.I.IntoIter.Iterator.next_gives c.into_iter-packet-iterator.result c.loop-packet.yielded c.loop-packet.packet-iterator c.in-Some.packet c.next.new.self c.loop-packet.yielded_by c.in-Some.ensures.steps)
           kept.taken kept.recorded c.in_err-add.ensures.err c.in_err-add.ensures.tested;
     })
+
+-- by the tests of a packet
+pub returns-in_err-add-clause-contradicted : goal.returns-in_err-add-clause-contradicted
+returns-in_err-add-clause-contradicted g c =
+    let p = err_from_is_err_and c.from_residual.result c.from_residual.ensures.1 in
+    rw (p.1, p.2) (λ is. absurd (refused_otherwise (received_of c.loop-packet.self) c.in-Some.packet c.in_err-add.field-0.0 c.in_err-add.ensures.tested is))
+
+pub returns-in_err-add-clause-threshold : goal.returns-in_err-add-clause-threshold
+returns-in_err-add-clause-threshold g c = c.add.ensures.threshold ∙ c.loop-packet.invariant.threshold
+
+-- what the attempt found
+pub returns-clause-remembers : goal.returns-clause-remembers
+returns-clause-remembers g c = whatever_answered c.answer.result _ (ap (λ (s : Solving). s.last_outcome) c.answer.ensures.remembers)
+
+pub returns-clause-contradicted : goal.returns-clause-contradicted
+returns-clause-contradicted g c = remembered_refusal _ c.answer.result _ (ap (λ (s : Solving). s.last_outcome) c.answer.ensures.remembers)
+
+pub returns-clause-threshold : goal.returns-clause-threshold
+returns-clause-threshold g c = ap (λ (s : Solving). s.sparse_threshold) c.answer.ensures.remembers ∙ c.loop-packet.invariant.threshold

@@ -1,5 +1,5 @@
 use Rattle.std.proofs.Common.{◌≡◌}
-use Rattle.rq_block.specs.SourceBlockDecoder.{received_of}
+use Rattle.rq_block.specs.SourceBlockDecoder.{received_of, solving_of}
 use Rattle.rq_block.specs.Decoding.{all_recorded, AreTaken}
 use Rattle.rq_block.proofs.decoder.block.SourceBlockDecoder.decode.Given as goal
 
@@ -8,4 +8,5 @@ abbrev pub invariant-loop-packet : goal.invariant-loop-packet
 invariant-loop-packet g l = record {
   taken : AreTaken (received_of l.fn.self) l.yielded;
   recorded : received_of l.self ≡ all_recorded (received_of l.fn.self) l.yielded;
+  threshold : (solving_of l.self).sparse_threshold ≡ (solving_of l.fn.self).sparse_threshold;
 }

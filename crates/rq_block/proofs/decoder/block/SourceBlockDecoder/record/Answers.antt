@@ -1,11 +1,13 @@
-use Rattle.std.proofs.Common.{◌≡◌, ℕ, ◌+◌, ◌^◌, ◌<◌, All, List, Option, length, true, cond, ltb, not, ap, ◌∙◌, subst}
+use Rattle.std.proofs.Common.{◌≡◌, ℕ, ◌+◌, ◌^◌, ◌<◌, All, List, Option, length, true, cond, ltb, not, sym, ap, ◌∙◌, subst}
 use Rattle.std.specs.Prelude.{◌&&◌}
-use Rattle.rq_standard.specs.ReceivedBlock.{with_received}
+use Rattle.rq_standard.specs.Packet.{SymbolId}
+use Rattle.rq_standard.specs.ReceivedBlock.{has_received, with_received}
 use Rattle.rq_block.specs.Missing.{payload_of, has_payload, missing_count}
 use Rattle.rq_block.proofs.Keeping.{keeps_same}
 use Rattle.rq_block.proofs.Payloads.{all-more, few-more}
 use Rattle.rq_block.proofs.MissingCounts.{missing_count-step, missing-after}
-use Rattle.rq_block.specs.SourceBlockDecoder.{received_of}
+use Rattle.rq_block.specs.SourceBlockDecoder.{received_of, solving_of}
+use Rattle.rq_block.proofs.Outcomes.{not_undetermined, solving_more, solving_repeated, still_contradictory}
 use Rattle.rq_block.proofs.TakenPackets.{recorded_packet, taken_size}
 use Rattle.rq_block.proofs.Waiting.{came-more, contradictory-later, repeat-same, shown-more}
 use Rattle.rq_block.proofs.decoder.block.SourceBlockDecoder.record.Goals as goal
@@ -29,6 +31,11 @@ module _ (c : In_ok-kept) where
 
   recorded : record (received_of c.args.self.now) { received = now } ≡ with_received (received_of c.args.self.now) c.args.packet.id.esi c.args.packet.payload
   recorded = recorded_packet (received_of c.args.self.now) c.args.packet now c.split-id.result.0 esi payload c.split-id.ensures.id c.encoding_symbol_id-esi.ensures.value c.split-id.ensures.payload c.in_ok-kept.ensures.ok
+
+  there : has_received (received_of c.args.self.now) c.args.packet.id.esi ≡ not c.in_ok-kept.kept
+  there =
+      let same : c.args.packet.id.esi ≡ esi = sym (c.encoding_symbol_id-esi.ensures.value ∙ ap (λ (k : SymbolId). k.esi) c.split-id.ensures.id) in
+      ap (has_received (received_of c.args.self.now)) same ∙ c.in_ok-kept.ensures.kept
 
   missing_step : c.in_ok-kept.kept ≡ true → missing_count c.args.self.now.source_symbols (has_payload c.args.self.now.received) ≡ missing_count c.args.self.now.source_symbols (has_payload c.keep_first.new.received) + cond (true && ltb esi c.args.self.now.source_symbols) 1 0
   missing_step is = missing_count-step c.args.self.now.source_symbols esi before now true payload (c.in_ok-kept.ensures.kept ∙ ap not is) c.in_ok-kept.ensures.ok
@@ -60,9 +67,9 @@ invariant_of-self-then-kept c =
       fits = d.fits;
       few = few-more was has e x (2 ^ 24) d.few c.encoding_symbol_id-esi.ensures.below added;
       counted = (missing-after d.missing _ _ c.from.result _ d.counted c.from.ensures (missing_step state c.if-kept.true)).1;
-      waits = λ still. absurd (c.after_new_payload-self.ensures.may_answer still);
+      waits = λ still. absurd (not_undetermined d.last_outcome (sym c.after_new_payload-self.ensures ∙ still));
       shown = shown-more d.row.numbers d.source_symbols _ _ e d.fits (came-more was has e x added) c.keep_where_it_solves.new.column kept.solves (λ octets is. d.shown octets (kept.same octets is));
-      contradicted = λ still. contradictory-later (received_of d) has e x added (d.contradicted (c.after_new_payload-self.ensures.contradictory still));
+      contradicted = λ still. contradictory-later (received_of d) has e x added (d.contradicted (still_contradictory d.last_outcome (sym c.after_new_payload-self.ensures ∙ still)));
     }
 
 -- a payload of an id that was received before
@@ -76,3 +83,15 @@ returns-then-kept-clause-ok c = recorded (goal.at.returns-then-kept-clause-ok c)
 
 pub returns-else-kept-clause-ok : goal.returns-else-kept-clause-ok
 returns-else-kept-clause-ok c = recorded (goal.at.returns-else-kept-clause-ok c).In_ok-kept
+
+pub returns-then-kept-clause-solving : goal.returns-then-kept-clause-solving
+returns-then-kept-clause-solving c =
+    let d = c.args.self.now in
+    let new = there (goal.at.returns-then-kept-clause-solving c).In_ok-kept ∙ ap not c.if-kept.true in
+    solving_more (received_of d) c.args.packet.id.esi (solving_of d) _ c.after_new_payload-self.ensures new
+
+pub returns-else-kept-clause-solving : goal.returns-else-kept-clause-solving
+returns-else-kept-clause-solving c =
+    let d = c.args.self.now in
+    let repeated = there (goal.at.returns-else-kept-clause-solving c).In_ok-kept ∙ ap not c.if-kept.false in
+    solving_repeated (received_of d) c.args.packet.id.esi (solving_of d) repeated

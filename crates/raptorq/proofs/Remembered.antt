@@ -1,0 +1,33 @@
+-- What is remembered of a packet that isn't taken, or behind which more is done.
+use Rattle.std.proofs.Common.{◌≡◌, ltb, eqb, length, Ok, Err, refl, sym, subst}
+use Rattle.rq_bytes.specs.declared.error.Error.{Error}
+use Rattle.rq_bytes.specs.declared.error.Error.TheVariants.{OutOfMemory, Contradiction}
+use Rattle.rq_bytes.specs.Refusals.{IsRefusal}
+use Rattle.rq_standard.specs.Packet.{Packet}
+use Rattle.rq_block.proofs.TakenPackets.{tests_find_no_contradiction}
+use Rattle.raptorq.specs.declared.decoder.object.Decoder.{Decoder}
+use Rattle.raptorq.specs.Decoder.{state_of}
+use Rattle.raptorq.specs.Refused.{packet_refusal}
+use Rattle.raptorq.specs.Remembering.{Remembers}
+
+-- all stays
+pub remembers_refused : {X : Type 0} (d : Decoder) (p : Packet) (e : Error) → packet_refusal (state_of d).configuration p ≡ Err e → Remembers {X = X} d p (Err e) d
+remembers_refused d p e refused = record {
+  here = record {
+    undetermined = tt;
+    contradictory = λ is. absurd (tests_find_no_contradiction (ltb p.id.block (state_of d).configuration.source_blocks) (eqb (length p.payload) (state_of d).configuration.symbol_size) e (subst (IsRefusal e) (sym refused) refl) is);
+    threshold = refl;
+  };
+  others = λ n apart. refl;
+}
+
+-- the packet is taken, whatever the call answers then
+pub remembers_taken : {X Y : Type 0} (old new : Decoder) (p : Packet) (x : X) (y : Y) → Remembers old p (Ok x) new → Remembers old p (Ok y) new
+remembers_taken old new p x y so = record { here = record { undetermined = so.here.undetermined; contradictory = tt; threshold = so.here.threshold }; others = so.others }
+
+-- the packet is taken, and there is no memory for what comes then
+pub remembers_late : {X Y : Type 0} (old new : Decoder) (p : Packet) (x : X) (e : Error) → e ≡ OutOfMemory → Remembers old p (Ok x) new → Remembers {X = Y} old p (Err e) new
+remembers_late old new p x e memory so = record { here = record { undetermined = tt; contradictory = λ is. absurd (cc (memory, is)); threshold = so.here.threshold }; others = so.others }
+
+pub remembers_error : {X Y : Type 0} (old new : Decoder) (p : Packet) (e : Error) → Remembers {X = X} old p (Err e) new → Remembers {X = Y} old p (Err e) new
+remembers_error old new p e so = record { here = record { undetermined = tt; contradictory = so.here.contradictory; threshold = so.here.threshold }; others = so.others }

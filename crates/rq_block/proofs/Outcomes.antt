@@ -1,0 +1,57 @@
+-- What a decoder of a block keeps of its attempts to answer it.
+use Rattle.std.proofs.Common.{◌≡◌, ℕ, Bool, true, false, cond, Option, None, Some, Result, Ok, Err, refl, ap, ◌∙◌, sym}
+use Rattle.std.specs.Prelude.{OnOk, IfErr}
+use Rattle.rq_bytes.specs.declared.error.Error.{Error}
+use Rattle.rq_bytes.specs.declared.error.Error.TheVariants.{Contradiction}
+use Rattle.rq_bytes.specs.Refusals.{IsRefusal}
+use Rattle.rq_standard.specs.Packet.{Packet}
+use Rattle.rq_standard.specs.ReceivedBlock.{ReceivedBlock, has_received}
+use Rattle.rq_block.specs.LastOutcome.{outcome_of, after_new_payload}
+use Rattle.rq_block.specs.declared.decoder.last_outcome.LastOutcome.{LastOutcome}
+use Rattle.rq_block.specs.declared.decoder.last_outcome.LastOutcome.TheVariants.{Untried, Undetermined, Contradictory}
+use Rattle.rq_block.specs.SourceBlockDecoder.{Solving, solving_after}
+
+-- ---- by an answer
+
+pub undetermined_by : {V : Type 0} (r : Result (Option V) Error) → outcome_of r ≡ Undetermined → r ≡ Ok None
+undetermined_by (Ok None) is = refl
+undetermined_by (Ok (Some v)) is = absurd (cc is)
+undetermined_by (Err Contradiction) is = absurd (cc is)
+undetermined_by (Err e) is = absurd (cc is)
+
+pub contradictory_by : {V : Type 0} (r : Result (Option V) Error) → outcome_of r ≡ Contradictory → r ≡ Err Contradiction
+contradictory_by (Ok None) is = absurd (cc is)
+contradictory_by (Ok (Some v)) is = absurd (cc is)
+contradictory_by (Err Contradiction) is = refl
+contradictory_by (Err e) is = absurd (cc is)
+
+-- where it is remembered, what follows of a refusal is
+pub remembered_refusal : (V : Type 0) (r : Result (Option V) Error) (o : LastOutcome) → o ≡ outcome_of r → IfErr r (λ e. e ≡ Contradiction → o ≡ Contradictory)
+remembered_refusal V (Ok v) o is = tt
+remembered_refusal V (Err e) o is = λ same. is ∙ ap (λ x. outcome_of {V = V} (Err x)) same
+
+pub whatever_answered : {V : Type 0} (r : Result V Error) (P : Type 0) → P → OnOk r P
+whatever_answered (Ok v) P p = p
+whatever_answered (Err e) P p = tt
+
+-- ---- by a payload more
+
+pub not_undetermined : (o : LastOutcome) → after_new_payload o ≡ Undetermined → ⊥
+not_undetermined Untried is = cc is
+not_undetermined Undetermined is = cc is
+not_undetermined Contradictory is = cc is
+
+pub still_contradictory : (o : LastOutcome) → after_new_payload o ≡ Contradictory → o ≡ Contradictory
+still_contradictory Untried is = absurd (cc is)
+still_contradictory Undetermined is = absurd (cc is)
+still_contradictory Contradictory is = refl
+
+module _ (h : ReceivedBlock) (esi : ℕ) (s : Solving) where
+  pub solving_more : (o : LastOutcome) → o ≡ after_new_payload s.last_outcome → has_received h esi ≡ false → record s { last_outcome = o } ≡ solving_after h esi s
+  solving_more o is new = rw (new, is) refl
+
+  pub solving_repeated : has_received h esi ≡ true → s ≡ solving_after h esi s
+  solving_repeated repeated = rw repeated refl
+
+  pub threshold_after : (solving_after h esi s).sparse_threshold ≡ s.sparse_threshold
+  threshold_after = elim (has_received h esi) as (λ b. (cond b s (record s { last_outcome = after_new_payload s.last_outcome })).sparse_threshold ≡ s.sparse_threshold) [ true ↦ refl | false ↦ refl ]
