@@ -355,8 +355,8 @@ impl Decoder {
     /// fewer it isn't answered, whichever they are. That is the number of its source symbols (K), less
     /// that of the ids that were received, and 1 where these are K or more and were found not to
     /// determine the block. It is 0 where the block is answered, or where its next packet has it tried
-    /// again, as after want of memory. `None` where what was received of it is contradictory. The Rust
-    /// crate has no such call.
+    /// again, as after want of memory. `None` where what was received of it was found to be contradictory.
+    /// The Rust crate has no such call.
     ///
     /// Refuses [`Error::UnknownBlock`] where the block is none of the object's.
     pub fn missing_packets(&self, source_block_number: u8) -> Result<Option<u32>, Error>

@@ -215,7 +215,7 @@ impl SourceBlockDecoder {
     /// the ids that were received, and 1 where these are K or more and were found not to determine the
     /// block. It is 0 where the block is answered, or where the next call of
     /// [`SourceBlockDecoder::decode`] tries it again, as after a refusal. `None` where what was received
-    /// is contradictory. The Rust crate has no such call.
+    /// was found to be contradictory. The Rust crate has no such call.
     pub fn missing_packets(&self) -> Option<u32>
         ensures value { result ≡ missing_after (solving_of self.now).last_outcome (received_of self.now) }
         ensures told { TellsMissing (received_of self.now) result }
@@ -306,7 +306,7 @@ impl SourceBlockDecoder {
     }
 
     // The block, where all its source symbols were received or what was received determines it: solved
-    // whatever was found before. Source symbols alone can't be contradictory.
+    // whatever was found before.
     fn find_answer(&mut self) -> Result<Option<Vec<u8>>, Error>
         ensures block { IfOk result (λ r. IsBlockAnswer (received_of self.old) (option_map vec_items r)) }
         ensures same { received_of self.new ≡ received_of self.old }
@@ -314,11 +314,13 @@ impl SourceBlockDecoder {
         ensures unanswered { IfErr result (IsUnanswered (received_of self.old)) }
     {
         let all = self.missing == 0;
+        // K source symbols alone can't be contradictory.
         if all && self.received.len() == self.source_symbols as usize {
             return Ok(Some(self.join_source()?));
         }
         match self.solve()? {
             Some(intermediate) => Ok(Some(self.rebuild(intermediate)?)),
+            // Over a singular row they may not determine the block, and are it all the same.
             None if all => Ok(Some(self.join_source()?)),
             None => Ok(None),
         }
@@ -398,6 +400,7 @@ impl Clone for SourceBlockDecoder {
             missing: self.missing,
             sparse_threshold: self.sparse_threshold,
             last_outcome: self.last_outcome,
+            // Not copied: it takes memory, `==` doesn't see it, and solving finds it again.
             column: None,
             alloc: self.alloc,
         })

@@ -132,7 +132,8 @@ impl SourceBlockEncoder {
     }
 
     /// The encoder of these bytes in as many symbols as a plan is for. The bytes may end before the
-    /// last symbol does: the rest are zeros (RFC 6330, 4.4.1.2). Not in the Rust crate.
+    /// last symbol does: the rest are zeros (RFC 6330, 4.4.1.2). Bytes behind it aren't read. Not in
+    /// the Rust crate.
     pub fn of_block(
         alloc: Global,
         number: u8,

@@ -38,7 +38,7 @@ impl<'a> BorrowedBlock<'a> {
     ghost use Rattle.rq_block.specs.SourceBlockEncodingPlan.{plan_of};
 
     /// The block of these bytes in as many symbols as a plan is for. The bytes may end before the last
-    /// symbol does: the rest are zeros (RFC 6330, 4.4.1.2).
+    /// symbol does: the rest are zeros (RFC 6330, 4.4.1.2). Bytes behind it aren't read.
     pub fn new(
         alloc: Global,
         number: u8,
