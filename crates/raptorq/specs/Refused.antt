@@ -1,21 +1,19 @@
 -- What coders of an object refuse, in the order of the tests.
-use Rattle.std.specs.Prelude.{◌≡◌, ◌⊎◌, ℕ, List, length, Result, Ok, Err, if◌then◌else◌, ◌==◌, not, nat_lt}
+use Rattle.std.specs.Prelude.{◌≡◌, ◌⊎◌, ℕ, List, Result, Ok, Err, if◌then◌else◌, ◌==◌, not, nat_lt}
 use Rattle.rq_bytes.specs.declared.error.Error.{Error}
-use Rattle.rq_bytes.specs.declared.error.Error.TheVariants.{OutOfMemory, Contradiction, UnknownBlock, WrongPayloadSize, WrongDataLength, Singular}
+use Rattle.rq_bytes.specs.declared.error.Error.TheVariants.{OutOfMemory, Contradiction, UnknownBlock, WrongDataLength, Singular}
 use Rattle.rq_bytes.specs.Refusals.{IsRefusal, and_then}
 use Rattle.rq_standard.specs.declared.row.TableRow.{TableRow}
 use Rattle.rq_standard.specs.TableRows.{greatest_size}
 use Rattle.rq_standard.specs.Headline.{HasNonsingularRows}
 use Rattle.rq_base.specs.RefusedInput.{checked_configuration}
+use Rattle.rq_block.specs.RefusedBlocks.{size_refusal}
 use Rattle.rq_standard.specs.Packet.{Packet}
 use Rattle.rq_standard.specs.Configuration.{Configuration}
 
 -- whether the decoder of an object takes a packet
 abbrev pub packet_refusal : Configuration → Packet → Result (Unit {0}) Error
-packet_refusal c p =
-    if not (nat_lt p.id.block c.source_blocks) then Err UnknownBlock
-    else if not (length p.payload == c.symbol_size) then Err WrongPayloadSize
-    else Ok tt
+packet_refusal c p = if not (nat_lt p.id.block c.source_blocks) then Err UnknownBlock else size_refusal c p
 
 -- a packet that passes these tests may find no memory, or contradict what was received of its block
 abbrev pub IsPacketRefusal : Error → Result (Unit {0}) Error → Type 0

@@ -25,12 +25,13 @@ wanted_count greatest c bytes =
 abbrev pub AreWholeSymbols : ℕ → Configuration → ℕ → Type 0
 AreWholeSymbols greatest c bytes = wanted_count greatest c bytes ≡ Ok (bytes / c.symbol_size)
 
+-- whether a packet's payload has the size of a symbol
+abbrev pub size_refusal : Configuration → Packet → Result (Unit {0}) Error
+size_refusal c p = if not (length p.payload == c.symbol_size) then Err WrongPayloadSize else Ok tt
+
 -- whether the decoder of a block takes a packet: the block's number comes first
 abbrev pub block_refusal : ReceivedBlock → Packet → Result (Unit {0}) Error
-block_refusal h p =
-    if not (p.id.block == h.number) then Err UnknownBlock
-    else if not (length p.payload == h.configuration.symbol_size) then Err WrongPayloadSize
-    else Ok tt
+block_refusal h p = if not (p.id.block == h.number) then Err UnknownBlock else size_refusal h.configuration p
 
 -- whether n repair packets from one on have ids, in a block of `count` source symbols
 abbrev pub repair_refusal : ℕ → ℕ → ℕ → Result (Unit {0}) Error

@@ -1,6 +1,7 @@
 //! The payloads of a block by encoding symbol id.
-ghost use Rattle.std.specs.Prelude.{◌≡◌, ◌≢◌, ℕ, length, IfOk, IfErr, OnOk, OnErr, not};
+ghost use Rattle.std.specs.Prelude.{◌≡◌, ℕ, length, IfOk, OnOk, OnErr, not};
 ghost use Rattle.rq_block.specs.Missing.{payload_of, has_payload, KeepsFirst};
+ghost use Rattle.rq_block.specs.RefusedBlocks.{size_refusal};
 
 use rq_base::base::{EncodingPacket, ObjectTransmissionInformation};
 use rq_bytes::error::Error;
@@ -14,9 +15,8 @@ pub fn check_size(
     config: &ObjectTransmissionInformation,
     packet: &EncodingPacket,
 ) -> Result<(), Error>
-    ensures size { OnOk result (length packet.now.payload ≡ config.now.symbol_size) }
-    ensures other { OnErr result (length packet.now.payload ≢ config.now.symbol_size) }
-    ensures refused { IfErr result (λ e. e ≡ Error.WrongPayloadSize) }
+    ensures tests { result ≡ size_refusal config.now packet.now }
+    ensures sized { OnOk result (length packet.now.payload ≡ config.now.symbol_size) }
 {
     if packet.data().len() != usize::from(config.symbol_size()) {
         return Err(Error::WrongPayloadSize);
