@@ -11,7 +11,7 @@ use Rattle.rq_standard.specs.ReceivedBlock.{ReceivedBlock, has_received, SolvesR
 use Rattle.rq_standard.specs.Received.{HasSourceSymbols}
 use Rattle.rq_standard.proofs.Columns.{sum_symbol, tuple_sum-same}
 use Rattle.rq_block.specs.Known.{IsReceivedSolution, rebuilt_symbol}
-use Rattle.rq_block.specs.Missing.{missing_count}
+use Rattle.rq_block.specs.Payloads.{missing_count}
 use Rattle.rq_block.proofs.ReceivedEquations.{internal_below, came_sum}
 use Rattle.rq_block.proofs.MissingCounts.{missing_count-zero, missing_count-none}
 

@@ -9,7 +9,7 @@ use Rattle.std.proofs.lemmas.Bool.{cases_eq, eq-eqb, eqb-true, ne_eqb, or_cases,
 use Rattle.std.proofs.lemmas.List.Elements.{All-head, All-tail}
 use Rattle.std.proofs.lemmas.Map.Keys.{IsDistinct-from_sorted, IsDistinct-head, IsDistinct-tail}
 use Rattle.std.proofs.lemmas.Map.Made.{Contains-tail}
-use Rattle.rq_block.specs.Missing.{Payloads, has_payload, missing_count}
+use Rattle.rq_block.specs.Payloads.{Payloads, has_payload, missing_count}
 use Rattle.rq_block.proofs.Listing.{entries_below}
 use Rattle.rq_block.proofs.MissingCounts.{missing_count-all, missing_count-one}
 use Rattle.rq_block.proofs.Payloads.{is_eq-nat_cmp}

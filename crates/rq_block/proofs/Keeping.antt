@@ -5,7 +5,7 @@ use Rattle.std.specs.Option.{ForSome}
 use Rattle.rq_standard.specs.Configuration.{IsAligned}
 use Rattle.rq_standard.specs.ReceivedBlock.{CanAnswer, IsContradictory}
 use Rattle.rq_block.specs.Known.{IsHomogeneousOf}
-use Rattle.rq_block.specs.Missing.{payload_of, has_payload, missing_count}
+use Rattle.rq_block.specs.Payloads.{payload_of, has_payload, missing_count}
 use Rattle.rq_block.specs.declared.decoder.block.SourceBlockDecoder.{SourceBlockDecoder}
 use Rattle.rq_block.specs.declared.decoder.last_outcome.LastOutcome.TheVariants.{Undetermined, Contradictory}
 use Rattle.rq_block.specs.SourceBlockDecoder.{received_of}
@@ -19,7 +19,7 @@ Keeps d column f = record {
   aligned : IsAligned d.config;
   fits : d.source_symbols ≤ d.row.numbers.extended_symbols;
   few : (e : ℕ) → is_some (f e) ≡ true → e < 2 ^ 24;
-  counted : d.missing ≡ missing_count d.source_symbols (λ e. is_some (f e));
+  counted : d.missing_symbols ≡ missing_count d.source_symbols (λ e. is_some (f e));
   waits : d.last_outcome ≡ Undetermined → ¬ CanAnswer (record (received_of d) { received = f });
   shown : ForSome column (IsHomogeneousOf d.row.numbers d.source_symbols (λ e. is_some (f e)));
   contradicted : d.last_outcome ≡ Contradictory → IsContradictory (record (received_of d) { received = f });

@@ -14,7 +14,7 @@ use Rattle.std.proofs.lemmas.Map.Views.{length-le_from_below}
 use Rattle.rq_standard.specs.declared.row.TableRow.{TableRow}
 use Rattle.rq_standard.specs.Equations.{zero_symbol, internal_id}
 use Rattle.rq_block.specs.Known.{known_list, values_after}
-use Rattle.rq_block.specs.Missing.{Payloads, payload_of, has_payload}
+use Rattle.rq_block.specs.Payloads.{Payloads, payload_of, has_payload}
 
 -- ---- entries
 

@@ -4,7 +4,7 @@ use Rattle.std.specs.Prelude.{is_some, unwrap_or}
 use Rattle.std.specs.Option.{ForSome}
 use Rattle.std.proofs.lemmas.Bool.{cases_lt, eq-eqb}
 use Rattle.rq_standard.specs.Received.{or_later}
-use Rattle.rq_block.specs.Missing.{AddsUnlessThere}
+use Rattle.rq_block.specs.Payloads.{AddsUnlessThere}
 use Rattle.rq_block.proofs.Payloads.{all-more}
 
 -- each of these is the sum for its id

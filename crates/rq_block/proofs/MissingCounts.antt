@@ -4,7 +4,7 @@ use mir.Val.{bool_byte}
 use Rattle.std.specs.Prelude.{is_some, not, ◌&&◌, ltb, ◌-◌}
 use Rattle.std.proofs.lemmas.Bool.{cases_eq, cases_lt, eq-eqb, lt-ltb, le-ltb}
 use Rattle.rq_standard.specs.Received.{or_later}
-use Rattle.rq_block.specs.Missing.{missing_count, AddsUnlessThere}
+use Rattle.rq_block.specs.Payloads.{missing_count, AddsUnlessThere}
 use Rattle.rq_standard.proofs.OptionValues.{none_is}
 use Rattle.rq_block.proofs.Payloads.{added_elsewhere, or_later-again}
 

@@ -17,7 +17,7 @@ use Rattle.rq_standard.specs.Received.{HasSourceSymbols}
 use Rattle.rq_standard.specs.ReceivedBlock.{ReceivedBlock, has_received}
 use Rattle.rq_standard.proofs.KnownIds.{block_more, determined_list, determined_more, few_not_determining}
 use Rattle.rq_block.specs.Known.{known_list}
-use Rattle.rq_block.specs.Missing.{Payloads, has_payload}
+use Rattle.rq_block.specs.Payloads.{Payloads, has_payload}
 use Rattle.rq_block.specs.MissingPackets.{received_count, IsMissing, NeedsMore}
 use Rattle.rq_block.proofs.IdCounts.{ids_counted, missing_count-further, missing_count-more}
 use Rattle.rq_block.proofs.Listing.{length-known_list}

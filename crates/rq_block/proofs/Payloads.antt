@@ -16,7 +16,7 @@ use Rattle.std.specs.Map.{lookup}
 use Rattle.std.proofs.lemmas.Bool.{cases_eq, cases_lt, eq-eqb, ne_eqb, eqb-true}
 use Rattle.rq_standard.specs.Received.{or_later}
 use Rattle.rq_standard.proofs.Firsts.{or_later-none}
-use Rattle.rq_block.specs.Missing.{Payloads, payload_of, AddsUnlessThere}
+use Rattle.rq_block.specs.Payloads.{Payloads, payload_of, AddsUnlessThere}
 
 -- the keys' order finds the key that is equal
 pub is_eq-nat_cmp : (k q : ℕ) → is_eq (nat_cmp k q) ≡ eqb k q

@@ -13,7 +13,7 @@ use Rattle.rq_bytes.proofs.Cuts.{cut-append, cut-replicate}
 use Rattle.rq_standard.specs.declared.row.TableRow.{TableRow}
 use Rattle.rq_standard.specs.Equations.{internal_id, zero_symbol}
 use Rattle.rq_block.specs.Known.{known_list, values_after}
-use Rattle.rq_block.specs.Missing.{Payloads, has_payload, payload_of}
+use Rattle.rq_block.specs.Payloads.{Payloads, has_payload, payload_of}
 use Rattle.rq_block.proofs.Listing.{each_entry}
 use Rattle.rq_standard.proofs.OptionValues.{is_some-mapped}
 

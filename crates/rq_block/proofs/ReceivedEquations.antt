@@ -25,7 +25,7 @@ use Rattle.rq_block.specs.declared.decoder.block.SourceBlockDecoder.{SourceBlock
 use Rattle.rq_block.specs.SourceBlockDecoder.{received_of}
 use Rattle.rq_block.specs.Known.{known_list}
 use Rattle.rq_block.specs.BlockSolutions.{SolvesFirstEquations}
-use Rattle.rq_block.specs.Missing.{Payloads, payload_of, has_payload}
+use Rattle.rq_block.specs.Payloads.{Payloads, payload_of, has_payload}
 use Rattle.rq_standard.proofs.OptionValues.{is_some-mapped, value_of}
 use Rattle.rq_block.proofs.Listing.{entry_payload, known_values, length-known_list}
 use Rattle.rq_block.proofs.Payloads.{is_eq-nat_cmp}

@@ -18,7 +18,7 @@ use Rattle.rq_standard.proofs.OptionValues.{by_option}
 use Rattle.rq_bytes.specs.SymbolSlab.{Slab, slab_of, symbol_in}
 use Rattle.rq_block.specs.BlockSolutions.{IsBlockSolution, SolvesFirstEquations, SolvesHdpc, Fits}
 use Rattle.rq_block.specs.Known.{IsReceivedSolution}
-use Rattle.rq_block.specs.Missing.{Payloads}
+use Rattle.rq_block.specs.Payloads.{Payloads}
 use Rattle.rq_block.proofs.ReceivedEquations.{IsHeldIn, received_ids, received_values, zero_at, padding_at, known_at, place_of, is_received, received_rows, values_solved}
 use Rattle.rq_block.proofs.Listing.{known_values, length-known_list}
 

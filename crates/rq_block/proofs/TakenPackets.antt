@@ -9,7 +9,7 @@ use Rattle.rq_bytes.specs.Refusals.{IsRefusal}
 use Rattle.rq_standard.specs.Packet.{Packet, SymbolId}
 use Rattle.rq_standard.specs.ReceivedBlock.{ReceivedBlock, with_received}
 use Rattle.rq_standard.proofs.StandingSteps.{AllByRecursion-append}
-use Rattle.rq_block.specs.Missing.{AddsUnlessThere}
+use Rattle.rq_block.specs.Payloads.{AddsUnlessThere}
 use Rattle.rq_block.specs.RefusedBlocks.{block_refusal}
 use Rattle.rq_block.specs.Decoding.{all_recorded, AreTaken, Decodes}
 

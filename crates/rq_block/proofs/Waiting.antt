@@ -9,7 +9,7 @@ use Rattle.rq_standard.specs.Headline.{known_ids, DetermineBlock}
 use Rattle.rq_standard.specs.ReceivedBlock.{ReceivedBlock, with_received, IsContradictory}
 use Rattle.rq_standard.specs.Received.{or_later}
 use Rattle.rq_standard.specs.IdLists.{IsListOf}
-use Rattle.rq_block.specs.Missing.{AddsUnlessThere}
+use Rattle.rq_block.specs.Payloads.{AddsUnlessThere}
 use Rattle.rq_block.specs.BlockSolutions.{IsHomogeneousFor}
 use Rattle.rq_block.specs.Known.{IsHomogeneousOf, SolvesEsi}
 use Rattle.rq_block.proofs.Payloads.{added_elsewhere}

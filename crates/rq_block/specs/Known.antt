@@ -14,7 +14,7 @@ use Rattle.rq_standard.specs.Headline.{known_ids}
 use Rattle.rq_standard.specs.Received.{or_later}
 use Rattle.rq_standard.specs.ReceivedBlock.{ReceivedBlock, IsHomogeneous, SolvesReceived, ReceivedDetermine}
 use Rattle.rq_block.specs.BlockSolutions.{FindsFrom}
-use Rattle.rq_block.specs.Missing.{Payloads, payload_of}
+use Rattle.rq_block.specs.Payloads.{Payloads, payload_of}
 use Rattle.rq_block.specs.declared.solving.BlockOperations.{BlockOperations}
 
 -- padding comes first, then what was received in the order of its encoding symbol ids

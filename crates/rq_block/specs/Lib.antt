@@ -10,8 +10,8 @@ pub mod Difference
 pub mod HdpcSums
 pub mod Known
 pub mod LastOutcome
-pub mod Missing
 pub mod MissingPackets
+pub mod Payloads
 pub mod Planned
 pub mod RefusedBlocks
 pub mod SourceBlockDecoder

@@ -1,7 +1,7 @@
 -- How many packets a block needs besides those that were received.
 use Rattle.std.specs.Prelude.{◌≡◌, ◌⊎◌, ℕ, ◌-◌, ◌^◌, ◌<◌, ◌≤◌, max, true, List, length, Contains, Option, Some, None, MatchOption}
 use Rattle.rq_standard.specs.ReceivedBlock.{ReceivedBlock, has_received, CanAnswer, IsContradictory}
-use Rattle.rq_block.specs.Missing.{missing_count}
+use Rattle.rq_block.specs.Payloads.{missing_count}
 use Rattle.rq_block.specs.declared.decoder.last_outcome.LastOutcome.{LastOutcome}
 use Rattle.rq_block.specs.declared.decoder.last_outcome.LastOutcome.TheVariants.{Untried, Undetermined, Contradictory}
 

@@ -8,7 +8,7 @@ use Rattle.rq_block.specs.declared.decoder.block.SourceBlockDecoder.{SourceBlock
 use Rattle.rq_block.specs.declared.decoder.last_outcome.LastOutcome.{LastOutcome}
 use Rattle.rq_block.specs.declared.decoder.last_outcome.LastOutcome.TheVariants.{Untried}
 use Rattle.rq_block.specs.LastOutcome.{after_new_payload}
-use Rattle.rq_block.specs.Missing.{received_block}
+use Rattle.rq_block.specs.Payloads.{received_block}
 
 -- what it holds
 abbrev pub received_of : SourceBlockDecoder → ReceivedBlock

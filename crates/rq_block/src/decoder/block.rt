@@ -5,7 +5,7 @@ ghost use Rattle.rq_bytes.specs.Refusals.{IsAnswer};
 ghost use Rattle.rq_standard.specs.Configuration.{IsAligned};
 ghost use Rattle.rq_standard.specs.ReceivedBlock.{CanAnswer, IsContradictory};
 ghost use Rattle.rq_block.specs.Known.{IsHomogeneousOf};
-ghost use Rattle.rq_block.specs.Missing.{received_block, payload_of, has_payload, missing_count};
+ghost use Rattle.rq_block.specs.Payloads.{received_block, payload_of, has_payload, missing_count};
 ghost use Rattle.rq_block.specs.declared.decoder.last_outcome.LastOutcome.TheVariants.{Undetermined, Contradictory};
 
 use crate::decoder::columns::{keep_where_it_solves, octet_symbols};
@@ -42,7 +42,7 @@ pub struct SourceBlockDecoder {
     row: CheckedRow,
     source_symbols: u32,
     received: BTreeMap<u32, Vec<u8>>,
-    missing: u32,
+    missing_symbols: u32,
     sparse_threshold: u32,
     #[derive_where(skip)]
     last_outcome: LastOutcome,
@@ -57,7 +57,7 @@ pub struct SourceBlockDecoder {
     pub ghost aligned: { IsAligned config },
     pub ghost fits: { source_symbols ≤ row.numbers.extended_symbols },
     pub ghost few: { (e : ℕ) → has_payload received e ≡ true → e < 2 ^ 24 },
-    pub ghost counted: { missing ≡ missing_count source_symbols (has_payload received) },
+    pub ghost counted: { missing_symbols ≡ missing_count source_symbols (has_payload received) },
     pub ghost waits: { last_outcome ≡ Undetermined → ¬ CanAnswer (received_block config number row.numbers source_symbols received) },
     pub ghost shown: { ForSome column (IsHomogeneousOf row.numbers source_symbols (has_payload received)) },
     pub ghost contradicted: { last_outcome ≡ Contradictory → IsContradictory (received_block config number row.numbers source_symbols received) },
@@ -143,7 +143,7 @@ impl SourceBlockDecoder {
             row,
             source_symbols,
             received: BTreeMap::new(alloc),
-            missing: source_symbols,
+            missing_symbols: source_symbols,
             sparse_threshold: SPARSE_MATRIX_THRESHOLD,
             last_outcome: LastOutcome::Untried,
             column: None,
@@ -261,7 +261,7 @@ impl SourceBlockDecoder {
         octets::are_octets(payload.as_slice());
         let kept = keep_first(&mut self.received, esi, payload)?;
         if kept {
-            self.missing -= u32::from(is_source);
+            self.missing_symbols -= u32::from(is_source);
             self.last_outcome = self.last_outcome.after_new_payload();
             keep_where_it_solves(&self.row, self.source_symbols, &mut self.column, esi);
         }
@@ -313,7 +313,7 @@ impl SourceBlockDecoder {
         ensures solving { solving_of self.new ≡ solving_of self.old }
         ensures unanswered { IfErr result (IsUnanswered (received_of self.old)) }
     {
-        let all = self.missing == 0;
+        let all = self.missing_symbols == 0;
         // K source symbols alone can't be contradictory.
         if all && self.received.len() == self.source_symbols as usize {
             return Ok(Some(self.join_source()?));
@@ -397,7 +397,7 @@ impl Clone for SourceBlockDecoder {
             row: self.row,
             source_symbols: self.source_symbols,
             received: self.received.clone()?,
-            missing: self.missing,
+            missing_symbols: self.missing_symbols,
             sparse_threshold: self.sparse_threshold,
             last_outcome: self.last_outcome,
             // Not copied: it takes memory, `==` doesn't see it, and solving finds it again.

@@ -6,7 +6,7 @@ ghost use Rattle.rq_standard.specs.Headline.{known_ids};
 ghost use Rattle.rq_standard.specs.Equations.{equation_count};
 ghost use Rattle.rq_standard.specs.IdLists.{IsListOf};
 ghost use Rattle.rq_block.specs.Known.{known_list, values_after};
-ghost use Rattle.rq_block.specs.Missing.{payload_of, has_payload};
+ghost use Rattle.rq_block.specs.Payloads.{payload_of, has_payload};
 
 use crate::buffer::symbol_buffer;
 use crate::ids::{internal_symbol_id, padding_ids};

@@ -1,6 +1,6 @@
 //! The payloads of a block by encoding symbol id.
 ghost use Rattle.std.specs.Prelude.{◌≡◌, ℕ, length, IfOk, OnOk, OnErr, not};
-ghost use Rattle.rq_block.specs.Missing.{payload_of, has_payload, KeepsFirst};
+ghost use Rattle.rq_block.specs.Payloads.{payload_of, has_payload, KeepsFirst};
 ghost use Rattle.rq_block.specs.RefusedBlocks.{size_refusal};
 
 use rq_base::base::{EncodingPacket, ObjectTransmissionInformation};

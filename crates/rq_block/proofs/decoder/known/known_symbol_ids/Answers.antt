@@ -3,7 +3,7 @@ use Rattle.std.specs.Map.Iter.{deref}
 use Rattle.rq_standard.specs.Headline.{known_ids}
 use Rattle.rq_standard.specs.IdLists.{IsListOf}
 use Rattle.rq_block.specs.Known.{known_list}
-use Rattle.rq_block.specs.Missing.{has_payload}
+use Rattle.rq_block.specs.Payloads.{has_payload}
 use Rattle.rq_block.proofs.ReceivedEquations.{known_listed}
 use Rattle.rq_block.proofs.Listing.{length-known_list, few_entries}
 use Rattle.rq_block.proofs.ReceivedEntries.{next_has_payload, known_by_keys}

@@ -2,7 +2,7 @@ use Rattle.std.proofs.Common.{◌≡◌, ℕ, List, length, sym, ap, ◌∙◌, 
 use Rattle.rq_standard.specs.Headline.{known_ids}
 use Rattle.rq_standard.specs.IdLists.{IsListOf, HasDeterminedRows}
 use Rattle.rq_block.specs.SourceBlockDecoder.{received_of}
-use Rattle.rq_block.specs.Missing.{has_payload}
+use Rattle.rq_block.specs.Payloads.{has_payload}
 use Rattle.rq_block.proofs.ReceivedEquations.{received_ids, held_by_decoder, received_rows, too_few}
 use Rattle.rq_block.proofs.Listing.{length-known_list}
 use Rattle.rq_block.proofs.Waiting.{shown-found, shown-undetermined}

@@ -2,7 +2,7 @@ use Rattle.std.proofs.Common.{sym, subst}
 use Rattle.std.proofs.lemmas.Result.{IfOk-weaker}
 use Rattle.rq_standard.specs.Headline.{known_ids}
 use Rattle.rq_standard.specs.IdLists.{IsListOf}
-use Rattle.rq_block.specs.Missing.{has_payload}
+use Rattle.rq_block.specs.Payloads.{has_payload}
 use Rattle.rq_block.proofs.Undetermined.{shows_known}
 use Rattle.rq_block.proofs.decoder.block.SourceBlockDecoder.homogeneous.Goals as goal
 

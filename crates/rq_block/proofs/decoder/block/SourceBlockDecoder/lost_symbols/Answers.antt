@@ -1,7 +1,7 @@
 use Rattle.std.proofs.Common.{sym, ◌∙◌, vec_items}
 use Rattle.rq_bytes.specs.SymbolSlab.{symbol_in}
 use Rattle.rq_standard.specs.Equations.{tuple_sum}
-use Rattle.rq_block.specs.Missing.{payload_of}
+use Rattle.rq_block.specs.Payloads.{payload_of}
 use Rattle.rq_standard.proofs.OptionValues.{is_some-mapped}
 use Rattle.rq_block.proofs.LostSymbols.{there-came, sums-more, there-more}
 use Rattle.rq_block.proofs.decoder.block.SourceBlockDecoder.lost_symbols.Goals as goal

@@ -1,6 +1,6 @@
 use Rattle.rq_bytes.specs.SymbolSlab.{symbol_in}
 use Rattle.rq_standard.specs.Equations.{tuple_sum}
-use Rattle.rq_block.specs.Missing.{payload_of}
+use Rattle.rq_block.specs.Payloads.{payload_of}
 use Rattle.rq_block.proofs.LostSymbols.{AreSums, AreThere}
 use Rattle.rq_block.proofs.decoder.block.SourceBlockDecoder.lost_symbols.Given as goal
 

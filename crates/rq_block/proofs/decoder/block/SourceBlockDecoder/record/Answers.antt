@@ -2,7 +2,7 @@ use Rattle.std.proofs.Common.{◌≡◌, ℕ, ◌+◌, ◌^◌, ◌<◌, All, Li
 use Rattle.std.specs.Prelude.{◌&&◌}
 use Rattle.rq_standard.specs.Packet.{SymbolId}
 use Rattle.rq_standard.specs.ReceivedBlock.{has_received, with_received}
-use Rattle.rq_block.specs.Missing.{payload_of, has_payload, missing_count}
+use Rattle.rq_block.specs.Payloads.{payload_of, has_payload, missing_count}
 use Rattle.rq_block.proofs.Keeping.{keeps_same}
 use Rattle.rq_block.proofs.Payloads.{all-more, few-more}
 use Rattle.rq_block.proofs.MissingCounts.{missing_count-step, missing-after}
@@ -44,7 +44,7 @@ module _ (c : In_ok-kept) where
 pub overflow_sub-self : goal.overflow_sub-self
 overflow_sub-self c =
     let step = missing_step (goal.at.overflow_sub-self c).In_ok-kept c.if-kept.true in
-    (missing-after c.args.self.now.missing _ _ c.from.result _ c.args.self.now.counted c.from.ensures step).0
+    (missing-after c.args.self.now.missing_symbols _ _ c.from.result _ c.args.self.now.counted c.from.ensures step).0
 
 -- whose column is kept where it solves its equation too
 pub invariant_of-self-then-kept : goal.invariant_of-self-then-kept
@@ -66,7 +66,7 @@ invariant_of-self-then-kept c =
       aligned = d.aligned;
       fits = d.fits;
       few = few-more was has e x (2 ^ 24) d.few c.encoding_symbol_id-esi.ensures.below added;
-      counted = (missing-after d.missing _ _ c.from.result _ d.counted c.from.ensures (missing_step state c.if-kept.true)).1;
+      counted = (missing-after d.missing_symbols _ _ c.from.result _ d.counted c.from.ensures (missing_step state c.if-kept.true)).1;
       waits = λ still. absurd (not_undetermined d.last_outcome (sym c.after_new_payload-self.ensures ∙ still));
       shown = shown-more d.row.numbers d.source_symbols _ _ e d.fits (came-more was has e x added) c.keep_where_it_solves.new.column kept.solves (λ octets is. d.shown octets (kept.same octets is));
       contradicted = λ still. contradictory-later (received_of d) has e x added (d.contradicted (still_contradictory d.last_outcome (sym c.after_new_payload-self.ensures ∙ still)));

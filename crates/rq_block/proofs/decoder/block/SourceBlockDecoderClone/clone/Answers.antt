@@ -1,5 +1,5 @@
 use Rattle.std.proofs.Common.{◌≡◌, ℕ, None, refl}
-use Rattle.rq_block.specs.Missing.{payload_of}
+use Rattle.rq_block.specs.Payloads.{payload_of}
 use Rattle.rq_block.proofs.Payloads.{payload_of-cloned}
 use Rattle.rq_block.proofs.Keeping.{keeps_same}
 use Rattle.rq_block.proofs.Waiting.{shown-none}
