@@ -1,5 +1,5 @@
 //! The decoder of one source block.
-ghost use Rattle.std.specs.Prelude.{◌≡◌, ℕ, ◌^◌, ◌<◌, ◌≤◌, true, All, length, Ok, Some, IfSome, IfOk, IfErr, OnOk, OnErr, option_map, vec_items};
+ghost use Rattle.std.specs.Prelude.{◌≡◌, ℕ, ◌*◌, ◌^◌, ◌<◌, ◌≤◌, true, All, length, Ok, Some, IfSome, IfOk, IfErr, OnOk, OnErr, option_map, vec_items};
 ghost use Rattle.std.specs.Option.{ForSome};
 ghost use Rattle.rq_bytes.specs.Refusals.{IsAnswer};
 ghost use Rattle.rq_standard.specs.Configuration.{IsAligned};
@@ -169,6 +169,13 @@ impl SourceBlockDecoder {
         ensures below { result < 65536 }
     {
         usize::from(self.config.symbol_size())
+    }
+
+    /// The length of the block, in bytes.
+    pub(crate) fn length(&self) -> usize
+        ensures { let h = received_of self.now in result ≡ h.source_symbols * h.configuration.symbol_size }
+    {
+        self.source_symbols as usize * self.symbol_size()
     }
 
     /// Takes packets until one is refused, and answers the block where all its source symbols were
@@ -342,8 +349,7 @@ impl SourceBlockDecoder {
         requires { HasSourceSymbols (received_of self.now).source_symbols (has_received (received_of self.now)) }
         ensures { IfOk result (λ block. IsBlockWith (received_of self.now) block.items) }
     {
-        let whole = self.source_symbols as usize * self.symbol_size();
-        let room = Vec::with_capacity(self.alloc, whole)?;
+        let room = Vec::with_capacity(self.alloc, self.length())?;
         let lost = BTreeMap::new(self.alloc);
         let symbols = SourceSymbols {
             received: &self.received,
@@ -361,10 +367,7 @@ impl SourceBlockDecoder {
     {
         match column {
             Some(octets) => self.first_octets(octets.as_slice()),
-            None => {
-                let length = self.source_symbols as usize * self.symbol_size();
-                Ok(vec![in self.alloc; 0u8; length]?)
-            }
+            None => Ok(vec![in self.alloc; 0u8; self.length()]?),
         }
     }
 
@@ -374,8 +377,7 @@ impl SourceBlockDecoder {
         ensures { IfOk result (λ block. block.items ≡ octets_of_column (received_of self.now) (Some column.now)) }
     {
         let octets = octet_symbols(self.alloc, column)?;
-        let length = self.source_symbols as usize * self.symbol_size();
-        let mut block = vec![in self.alloc; 0u8; length]?;
+        let mut block = vec![in self.alloc; 0u8; self.length()]?;
         let width = sub_block_size(&self.config, 0);
         for e in 0..self.source_symbols {
             let octet = encoding_symbol(self.alloc, &self.row, &octets, e)?;

@@ -125,7 +125,7 @@ impl SourceBlockDecoder {
     fn room_for_block(&self, intermediate: SymbolSlab) -> Result<Vec<u8>, AllocError>
         ensures { IfOk result (λ bytes. bytes.items ≡ []) }
     {
-        let whole = self.source_symbols as usize * self.symbol_size();
+        let whole = self.length();
         if whole < LARGE_BLOCK {
             drop(intermediate);
             return Vec::with_capacity(self.alloc, whole);

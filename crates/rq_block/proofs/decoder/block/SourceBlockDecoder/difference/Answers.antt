@@ -12,6 +12,6 @@ use Rattle.rq_block.proofs.decoder.block.SourceBlockDecoder.difference.Goals as 
 pub returns-in_ok-vec-in-None : goal.returns-in_ok-vec-in-None
 returns-in_ok-vec-in-None c =
     let s = c.args.self.now in
-    c.in_ok-vec-in-None.ensures.items_if_clones_equal (λ y same. same) ∙ ap (λ n. replicate {A = ℕ} (s.source_symbols * n) 0) c.symbol_size.ensures.value
+    c.in_ok-vec-in-None.ensures.items_if_clones_equal (λ y same. same) ∙ ap (λ n. replicate {A = ℕ} n 0) c.length.ensures
     ∙ sym (zero_octets s.config s.source_symbols (plain_sum s.row.numbers (at [])) (λ e. zero_dot s.row.numbers (symbol_coefficient s.row.numbers e)))
     ∙ ap (λ o. octets_of_column (received_of s) (option_map vec_items o)) (sym c.in-None.is)

@@ -8,7 +8,7 @@ use Rattle.rq_block.proofs.decoder.block.SourceBlockDecoder.first_octets.Goals a
 pub loop-e-init : goal.loop-e-init
 loop-e-init c =
     let s = c.args.self.now in
-    c.in_ok-block.ensures.items_if_clones_equal (λ y same. same) ∙ ap (λ n. replicate {A = ℕ} (s.source_symbols * n) 0) c.symbol_size.ensures.value ∙ no_octets s.config s.source_symbols (plain_sum s.row.numbers (at c.args.column.now))
+    c.in_ok-block.ensures.items_if_clones_equal (λ y same. same) ∙ ap (λ n. replicate {A = ℕ} n 0) c.length.ensures ∙ no_octets s.config s.source_symbols (plain_sum s.row.numbers (at c.args.column.now))
 
 pub encoding_symbol-requires : goal.encoding_symbol-requires
 encoding_symbol-requires c = octet_column c.args.self.now.row.numbers c.args.column.now c.in_ok-octets.octets c.args.self.now.row.checked c.requires (λ k l. omega (arith, c.type_inv.column k)) c.in_ok-octets.ensures
