@@ -342,7 +342,7 @@ impl Decoder {
         for block in &self.blocks {
             let column = block.homogeneous()?;
             determined &= column.is_none();
-            bytes.extend_from_slice(block.decoder.difference(&column)?.as_slice())?;
+            bytes.extend_from_slice(block.decoder.difference(column.as_deref())?.as_slice())?;
         }
         if determined {
             return Ok(None);

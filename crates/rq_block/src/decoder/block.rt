@@ -1,6 +1,6 @@
 //! The decoder of one source block.
 ghost use Rattle.std.specs.Prelude.{◌≡◌, ℕ, ◌*◌, ◌^◌, ◌<◌, ◌≤◌, true, All, length, Ok, Some, IfSome, IfOk, IfErr, OnOk, OnErr, option_map, vec_items};
-ghost use Rattle.std.specs.Option.{ForSome};
+ghost use Rattle.std.specs.Option.{ForSome, option_copied};
 ghost use Rattle.rq_bytes.specs.Refusals.{IsAnswer};
 ghost use Rattle.rq_standard.specs.Configuration.{IsAligned};
 ghost use Rattle.rq_standard.specs.ReceivedBlock.{CanAnswer, IsContradictory};
@@ -361,12 +361,12 @@ impl SourceBlockDecoder {
     /// The block, in bytes, whose symbols begin with the octets that a column has for them, and go on
     /// with zeros. The column has an octet for each of the L intermediate symbols. Without one all of the
     /// block is zeros. Not in the Rust crate.
-    pub fn difference(&self, column: &Option<Vec<u8>>) -> Result<Vec<u8>, AllocError>
-        requires { IfSome column.now (λ xs. length xs.items ≡ intermediate_symbols (received_of self.now).row) }
-        ensures { IfOk result (λ block. block.items ≡ octets_of_column (received_of self.now) (option_map vec_items column.now)) }
+    pub fn difference(&self, column: Option<&[u8]>) -> Result<Vec<u8>, AllocError>
+        requires { IfSome column (λ xs. length xs.now ≡ intermediate_symbols (received_of self.now).row) }
+        ensures { IfOk result (λ block. block.items ≡ octets_of_column (received_of self.now) (option_copied column.entry)) }
     {
         match column {
-            Some(octets) => self.first_octets(octets.as_slice()),
+            Some(octets) => self.first_octets(octets),
             None => Ok(vec![in self.alloc; 0u8; self.length()]?),
         }
     }

@@ -30,25 +30,12 @@ pub(crate) fn keep_where_it_solves(
     ensures same { ForSome column.new (λ octets. column.old ≡ Some octets) }
     ensures kept { ForSome column.old (λ octets. SolvesEsi row.now.numbers source_symbols esi octets.items → column.new ≡ Some octets) }
 {
-    if !column_solves(row, source_symbols, column, esi) {
+    let Some(octets) = column.as_deref() else {
+        return;
+    };
+    let id = internal_symbol_id(row, source_symbols, esi);
+    if !solves_id(row, octets, id) {
         *column = None;
-    }
-}
-
-// Whether a column solves the equation of an encoding symbol id with zero as its value. Where there
-// is no column, it is said to do so.
-fn column_solves(row: &CheckedRow, source_symbols: u32, column: &Option<Vec<u8>>, esi: u32) -> bool
-    requires fits { source_symbols ≤ row.now.numbers.extended_symbols }
-    requires count { ForSome column.now (λ octets. length octets.items ≡ intermediate_symbols row.now.numbers) }
-    requires few { esi < 2 ^ 24 }
-    ensures { IsTrue result ↔ ForSome column.now (λ octets. SolvesEsi row.now.numbers source_symbols esi octets.items) }
-{
-    match column {
-        Some(octets) => {
-            let id = internal_symbol_id(row, source_symbols, esi);
-            solves_id(row, octets.as_slice(), id)
-        }
-        None => true,
     }
 }
 

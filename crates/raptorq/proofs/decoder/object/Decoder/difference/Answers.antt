@@ -48,7 +48,7 @@ loop-block-preserved c =
     (ap (λ t. c.loop-block.determined && t) (told_of c.is_none.result c.in_ok-column.column c.is_none.ensures))
     (ap (λ h. h.configuration) received ∙ ap (λ b. (received_of b.decoder).configuration) t.is ∙ s.same n x t.below)
     (block_is_cut s.config items s.numbered s.cut n in_object)
-    (c.in_ok-difference.ensures ∙ ap (λ h. octets_of_column h column) (sym received))
+    (c.in_ok-difference.ensures ∙ ap (octets_of_column (received_of x.decoder)) c.as_deref.ensures.value ∙ ap (λ h. octets_of_column h column) (sym received))
     (c.in_ok-extend_from_slice.ensures.items ∙ ap (λ l. c.loop-block.bytes.items ++ l) c.as_slice.ensures.value)
 
 -- the blocks were all taken

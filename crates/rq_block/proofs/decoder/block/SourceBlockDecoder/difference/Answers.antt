@@ -1,5 +1,5 @@
 use Rattle.std.proofs.Common.{ℕ, ◌*◌, [], replicate, sym, ap, ◌∙◌}
-use Rattle.std.specs.Prelude.{option_map, vec_items}
+use Rattle.std.specs.Option.{option_copied}
 use Rattle.rq_standard.specs.Equations.{symbol_coefficient}
 use Rattle.rq_standard.specs.Differences.{plain_sum}
 use Rattle.rq_standard.proofs.DifferenceColumns.{zero_dot}
@@ -14,4 +14,4 @@ returns-in_ok-vec-in-None c =
     let s = c.args.self.now in
     c.in_ok-vec-in-None.ensures.items_if_clones_equal (λ y same. same) ∙ ap (λ n. replicate {A = ℕ} n 0) c.length.ensures
     ∙ sym (zero_octets s.config s.source_symbols (plain_sum s.row.numbers (at [])) (λ e. zero_dot s.row.numbers (symbol_coefficient s.row.numbers e)))
-    ∙ ap (λ o. octets_of_column (received_of s) (option_map vec_items o)) (sym c.in-None.is)
+    ∙ ap (λ o. octets_of_column (received_of s) (option_copied o)) (sym c.in-None.is)
