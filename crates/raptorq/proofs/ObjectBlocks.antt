@@ -1,9 +1,10 @@
 -- The blocks of an object in a list, in the order of their numbers.
 use Rattle.std.proofs.Common.{◌≡◌, ◌≢◌, ℕ, suc, ◌+◌, ◌<◌, Bool, true, false, List, [], ◌++◌, length, get_or, set, take, map, All, Option, Some, None, Result, Ok, Err, refl, sym, ap, ◌∙◌, subst, arith, eq-eqb, inl, inr}
-use Rattle.std.specs.Prelude.{is_some, IsSome, option_map, unwrap_or, ltb, IfSome}
+use Rattle.std.specs.Prelude.{is_some, IsSome, option_map, unwrap_or, ltb, IfSome, vec_items}
+use Rattle.std.specs.Bool.{MatchBool}
 use Rattle.rq_bytes.specs.declared.error.Error.{Error}
 use denote.Ref.{Bor}
-use Rattle.std.specs.List.{range_with_len}
+use Rattle.std.specs.List.{range_with_len, AllWithin, HoldsAt}
 use Rattle.std.specs.Option.{option_copied}
 use Rattle.std.proofs.lemmas.List.{length-map, get_or-map, get_or-set_same, get_or-set_other, length-set, map-set}
 use Rattle.std.proofs.Math.Seq.{map-set_same}
@@ -18,7 +19,7 @@ use Rattle.rq_standard.specs.ReceivedBlock.{ReceivedBlock, nothing_received, IsC
 use Rattle.rq_standard.specs.DecoderState.{State, new_received, new_answer, IsNewState, append_both, first_blocks, result_of}
 use Rattle.rq_standard.specs.DecoderSteps.{AddsToBlock, RecordsInBlock, IsSameElsewhere, Adds, RecordsOnly}
 use Rattle.rq_standard.proofs.ObjectAnswers.{joined_some, joined_each}
-use Rattle.rq_standard.proofs.OptionValues.{is_some-mapped}
+use Rattle.rq_standard.proofs.OptionValues.{is_some-mapped, none_is}
 use Rattle.rq_block.specs.SourceBlockDecoder.{Solving, received_of, solving_of}
 use Rattle.rq_block.specs.declared.decoder.last_outcome.LastOutcome.TheVariants.{Untried}
 use Rattle.raptorq.specs.Decoder.{received_at, answer_at, answer_of, solving_at, IsBlockAt}
@@ -26,7 +27,7 @@ use Rattle.raptorq.specs.Remembering.{Remembers, RemembersHere}
 use Rattle.rq_block.specs.RefusedBlocks.{block_refusal}
 use Rattle.raptorq.specs.Stopping.{AddsHereOrStops, AddsOrStops}
 use Rattle.raptorq.specs.Refused.{packet_refusal}
-use Rattle.rq_block.proofs.Numbered.{length-mapped, length-numbered, mapped_through}
+use Rattle.rq_block.proofs.Numbered.{length-mapped, length-numbered, mapped_through, some_at}
 use Rattle.raptorq.specs.declared.decoder.object.ObjectBlock.{ObjectBlock}
 use Rattle.raptorq.specs.declared.decoder.object.Decoder.{Decoder}
 
@@ -168,6 +169,19 @@ unwrapped (Some xs) h = refl
 
 pub complete : (s : State) → ((b : ℕ) → b < s.configuration.source_blocks → IsSome (s.answer b)) → is_some (result_of s) ≡ true
 complete s each = ap (λ o. is_some (option_map (take s.configuration.transfer_length) o)) (joined_some (λ b. unwrap_or (s.answer b) []) s.answer s.configuration.source_blocks (λ b below. unwrapped (s.answer b) (each b below)))
+
+-- whether each block in a list has an answer
+pub all_answered : (c : Configuration) (items : List ObjectBlock) → map block_number items ≡ range_with_len 0 c.source_blocks → (r : Bool)
+    → MatchBool r (AllWithin (λ b. is_some b.answer ≡ true) items 0 (length items)) ((k : ℕ) × (k < length items) × HoldsAt (λ b. is_some b.answer ≡ false) items k) → r ≡ is_some (result_of (state c items))
+all_answered c items numbered true all =
+    sym (complete (state c items) (λ b below.
+    let there : b < length items = omega (arith, below, length-numbered block_number c.source_blocks items numbered) in
+    let block = some_at items b there in
+    subst IsSome (sym (answer_here items b block.0 there block.1)) (is_some-mapped vec_items block.0.answer ∙ ap (λ x. is_some x.answer) block.1 ∙ all b block.0 (omega arith) there)))
+all_answered c items numbered false found =
+    let block = some_at items found.0 found.1 in
+    sym (not_complete (state c items) found.0 (omega (arith, found.1, length-numbered block_number c.source_blocks items numbered))
+    (answer_here items found.0 block.0 found.1 block.1 ∙ none_is _ (is_some-mapped vec_items block.0.answer ∙ ap (λ x. is_some x.answer) block.1 ∙ found.2 block.0)))
 
 -- one block more
 pub join_next : (items : List ObjectBlock) (n : ℕ) (x : ObjectBlock) (done bytes new : List ℕ) → n < length items → x ≡ get_or items n x → answer_of x ≡ Some bytes → Some done ≡ first_blocks n (answer_at items) → new ≡ done ++ bytes → Some new ≡ first_blocks (n + 1) (answer_at items)

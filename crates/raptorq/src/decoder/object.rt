@@ -245,12 +245,7 @@ impl Decoder {
     pub fn is_complete(&self) -> bool
         ensures { result ≡ is_some (result_of (state_of self.now)) }
     {
-        for block in &self.blocks {
-            if block.answer.is_none() {
-                return false;
-            }
-        }
-        true
+        self.blocks.iter().all(|block| block.answer.is_some())
     }
 
     /// The object, where each of its blocks is answered.
