@@ -1,5 +1,5 @@
 -- What is remembered of a packet that isn't taken, or behind which more is done.
-use Rattle.std.proofs.Common.{◌≡◌, ltb, eqb, length, Ok, Err, refl, sym, subst}
+use Rattle.std.proofs.Common.{◌≡◌, ltb, eqb, length, Result, Ok, Err, IfErr, refl, sym, subst}
 use Rattle.rq_bytes.specs.declared.error.Error.{Error}
 use Rattle.rq_bytes.specs.declared.error.Error.TheVariants.{OutOfMemory, Contradiction}
 use Rattle.rq_bytes.specs.Refusals.{IsRefusal}
@@ -21,13 +21,10 @@ remembers_refused d p e refused = record {
   others = λ n apart. refl;
 }
 
--- the packet is taken, whatever the call answers then
-pub remembers_taken : {X Y : Type 0} (old new : Decoder) (p : Packet) (x : X) (y : Y) → Remembers old p (Ok x) new → Remembers old p (Ok y) new
-remembers_taken old new p x y so = record { here = record { undetermined = so.here.undetermined; contradictory = tt; threshold = so.here.threshold }; others = so.others }
-
--- the packet is taken, and there is no memory for what comes then
-pub remembers_late : {X Y : Type 0} (old new : Decoder) (p : Packet) (x : X) (e : Error) → e ≡ OutOfMemory → Remembers old p (Ok x) new → Remembers {X = Y} old p (Err e) new
-remembers_late old new p x e memory so = record { here = record { undetermined = tt; contradictory = λ is. absurd (cc (memory, is)); threshold = so.here.threshold }; others = so.others }
+-- the packet is taken, and there may be no memory for what comes then
+pub remembers_then : {X Y : Type 0} (old new : Decoder) (p : Packet) (x : X) (r : Result Y Error) → IfErr r (λ e. e ≡ OutOfMemory) → Remembers old p (Ok x) new → Remembers old p r new
+remembers_then old new p x (Ok y) memory so = record { here = record { undetermined = so.here.undetermined; contradictory = tt; threshold = so.here.threshold }; others = so.others }
+remembers_then old new p x (Err e) memory so = record { here = record { undetermined = tt; contradictory = λ is. absurd (cc (memory, is)); threshold = so.here.threshold }; others = so.others }
 
 pub remembers_error : {X Y : Type 0} (old new : Decoder) (p : Packet) (e : Error) → Remembers {X = X} old p (Err e) new → Remembers {X = Y} old p (Err e) new
 remembers_error old new p e so = record { here = record { undetermined = tt; contradictory = so.here.contradictory; threshold = so.here.threshold }; others = so.others }

@@ -1,7 +1,8 @@
 -- What a decoder of an object stands for where the work on a packet stopped.
-use Rattle.std.proofs.Common.{◌≡◌, ◌≢◌, eqb, ltb, Bool, true, false, length, Result, Ok, Err, IfErr, sym, ◌∙◌, subst, refl, inl, inr}
+use Rattle.std.proofs.Common.{◌≡◌, ◌≢◌, eqb, ltb, length, Result, Ok, Err, IfErr, sym, subst, refl, inl, inr}
 use Rattle.rq_bytes.specs.declared.error.Error.{Error}
 use Rattle.rq_bytes.specs.declared.error.Error.TheVariants.{OutOfMemory, Contradiction}
+use Rattle.rq_bytes.specs.Refusals.{IsRefusal}
 use Rattle.rq_standard.specs.Configuration.{IsAligned}
 use Rattle.rq_standard.specs.Packet.{Packet}
 use Rattle.rq_standard.specs.DecoderState.{State}
@@ -13,16 +14,9 @@ use Rattle.rq_standard.proofs.StandingSteps.{stands_more, answers_late}
 use Rattle.raptorq.specs.Refused.{packet_refusal, IsPacketRefusal}
 use Rattle.raptorq.specs.Stopping.{AddsOrStops, StopsBy}
 use Rattle.raptorq.specs.TakesPacket.{TakesPacket}
-use Rattle.rq_block.proofs.TakenPackets.{packet_tests}
+use Rattle.rq_block.proofs.TakenPackets.{tests_find_no_contradiction}
 use Rattle.raptorq.proofs.FollowedRuns.{passes_below, taken_fits, follows_more, refused_next}
 use Rattle.raptorq.proofs.Lists.{packet_refusal-packet}
-
--- ---- what the tests say
-
-never_contradiction : (b s : Bool) → packet_tests b s ≡ Err Contradiction → ⊥
-never_contradiction true true h = absurd (cc h)
-never_contradiction true false h = absurd (cc h)
-never_contradiction false s h = absurd (cc h)
 
 -- ---- what was received then
 
@@ -63,7 +57,7 @@ module _ (old : State) (p : Packet) (e : Error) (new : State) where
 
   -- what the tests refuse is no contradiction
   contradicts : StopsBy (Stops old p new) old p e new → e ≡ Contradiction → Contradicts old p new
-  contradicts (inl refused) is = absurd (never_contradiction (ltb p.id.block old.configuration.source_blocks) (eqb (length p.payload) old.configuration.symbol_size) (refused.0 ∙ cc is))
+  contradicts (inl refused) is = absurd (tests_find_no_contradiction (ltb p.id.block old.configuration.source_blocks) (eqb (length p.payload) old.configuration.symbol_size) e (subst (IsRefusal e) (sym refused.0) refl) is)
   contradicts (inr (inl memory)) is = absurd (cc (memory.1, is))
   contradicts (inr (inr found)) is = found.2
 
@@ -78,7 +72,7 @@ module _ (old : State) (p : Packet) (e : Error) (new : State) where
 -- ---- what is said of both calls
 
 module _ {X : Type 0} (old : State) (p : Packet) (new : State) (same : new.configuration ≡ old.configuration) where
-  pub takes_added : (x : X) → IsAligned old.configuration → packet_refusal old.configuration p ≡ Ok tt → Adds old p new → TakesPacket old p (Ok x) new
+  takes_added : (x : X) → IsAligned old.configuration → packet_refusal old.configuration p ≡ Ok tt → Adds old p new → TakesPacket old p (Ok x) new
   takes_added x aligned passes adds =
       let below = passes_below old.configuration p passes in
       record {
@@ -117,6 +111,15 @@ module _ {X : Type 0} (old : State) (p : Packet) (new : State) (same : new.confi
         stands = tt;
         answers_late = tt;
       }
+
+  -- the packet is taken, and there may be no memory for the object
+  pub takes_then : (r : Result X Error) → IfErr r (λ e. e ≡ OutOfMemory) → IsAligned old.configuration → packet_refusal old.configuration p ≡ Ok tt → Adds old p new → TakesPacket old p r new
+  takes_then (Ok x) memory aligned passes adds = takes_added x aligned passes adds
+  takes_then (Err e) memory aligned passes adds = takes_stopped e (inr (inl (passes, memory, inr adds)))
+
+pub wherever_memory_lacks : {X Q : Type 0} (r : Result X Error) → Q → IfErr r (λ e. e ≡ OutOfMemory → Q)
+wherever_memory_lacks (Ok x) so = tt
+wherever_memory_lacks (Err e) so = λ memory. so
 
 module _ (old : State) (p : Packet) (new : State) where
   pub takes_either : new.configuration ≡ old.configuration → IsAligned old.configuration → (r : Result (Unit {0}) Error) → AddsOrStops old p r new → TakesPacket old p r new

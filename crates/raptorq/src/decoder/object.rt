@@ -381,8 +381,7 @@ impl Decoder {
         ensures remembers { Remembers self.old packet result self.new }
     {
         self.add_to_block(packet)?;
-        let object = self.get_result()?;
-        Ok(object)
+        self.get_result()
     }
 }
 

@@ -2,16 +2,27 @@ use Rattle.std.proofs.Common.{inl, inr}
 use Rattle.std.proofs.lemmas.Result.{err_from_is_err_and}
 use Rattle.rq_standard.proofs.StandingSteps.{leaves_late, answers_late}
 use Rattle.raptorq.specs.Decoder.{state_of}
-use Rattle.raptorq.proofs.Remembered.{remembers_error, remembers_late, remembers_taken}
-use Rattle.raptorq.proofs.Stops.{not_joined, stops_early, takes_added, takes_stopped}
+use Rattle.raptorq.proofs.Remembered.{remembers_error, remembers_then}
+use Rattle.raptorq.proofs.Stops.{not_joined, stops_early, takes_stopped, takes_then, wherever_memory_lacks}
 use Rattle.raptorq.proofs.decoder.object.Decoder.decode.Goals as goal
 
+-- the packet is taken
 pub returns-clause-takes : goal.returns-clause-takes
 returns-clause-takes c =
     let added = c.in_ok-add_to_block.ensures in
-    takes_added (state_of c.args.self.now) c.args.packet (state_of c.add_to_block.new.self) added.configuration c.in_ok-object.object c.args.self.now.aligned added.adds.0 added.adds.1
+    takes_then (state_of c.args.self.now) c.args.packet (state_of c.add_to_block.new.self) added.configuration c.get_result.result c.get_result.ensures.memory c.args.self.now.aligned added.adds.0 added.adds.1
 
--- the packet isn't taken
+pub returns-clause-stops : goal.returns-clause-stops
+returns-clause-stops c = wherever_memory_lacks c.get_result.result (inr c.in_ok-add_to_block.ensures.adds.1)
+
+pub returns-clause-leaves_late : goal.returns-clause-leaves_late
+returns-clause-leaves_late c =
+    wherever_memory_lacks c.get_result.result (inr (answers_late c.args.packet (state_of c.args.self.now) (state_of c.add_to_block.new.self) c.args.self.now.aligned c.in_ok-add_to_block.ensures.adds.1))
+
+pub returns-clause-remembers : goal.returns-clause-remembers
+returns-clause-remembers c = remembers_then c.args.self.now c.add_to_block.new.self c.args.packet _ c.get_result.result c.get_result.ensures.memory c.in_ok-add_to_block.ensures.remembers
+
+-- it isn't
 pub returns-in_err-add_to_block-clause-takes : goal.returns-in_err-add_to_block-clause-takes
 returns-in_err-add_to_block-clause-takes c =
     let p = err_from_is_err_and c.from_residual.result c.from_residual.ensures.1 in
@@ -34,36 +45,7 @@ returns-in_err-add_to_block-clause-leaves_late c =
     let early = stops_early old c.args.packet c.in_err-add_to_block.field-0.0 new c.in_err-add_to_block.ensures.adds in
     rw p.1 (λ memory. inl (leaves_late c.args.packet old new early))
 
--- it is, and the blocks aren't joined
-pub returns-in_err-object-clause-takes : goal.returns-in_err-object-clause-takes
-returns-in_err-object-clause-takes c =
-    let p = err_from_is_err_and c.from_residual-in_err-object.result c.from_residual-in_err-object.ensures.1 in
-    let added = c.in_ok-add_to_block.ensures in
-    let stop = inr (inl (added.adds.0, c.in_err-object.ensures.memory, inr added.adds.1)) in
-    rw (p.1, p.2) (takes_stopped (state_of c.args.self.now) c.args.packet (state_of c.add_to_block.new.self) added.configuration c.in_err-object.field-0.0 stop)
-
-pub returns-in_err-object-clause-stops : goal.returns-in_err-object-clause-stops
-returns-in_err-object-clause-stops c =
-    let p = err_from_is_err_and c.from_residual-in_err-object.result c.from_residual-in_err-object.ensures.1 in
-    rw p.1 (λ memory. inr c.in_ok-add_to_block.ensures.adds.1)
-
-pub returns-in_err-object-clause-leaves_late : goal.returns-in_err-object-clause-leaves_late
-returns-in_err-object-clause-leaves_late c =
-    let p = err_from_is_err_and c.from_residual-in_err-object.result c.from_residual-in_err-object.ensures.1 in
-    let late = answers_late c.args.packet (state_of c.args.self.now) (state_of c.add_to_block.new.self) c.args.self.now.aligned c.in_ok-add_to_block.ensures.adds.1 in
-    rw p.1 (λ memory. inr late)
-
--- ---- what is remembered
-
-pub returns-clause-remembers : goal.returns-clause-remembers
-returns-clause-remembers c = remembers_taken c.args.self.now c.add_to_block.new.self c.args.packet _ c.in_ok-object.object c.in_ok-add_to_block.ensures.remembers
-
 pub returns-in_err-add_to_block-clause-remembers : goal.returns-in_err-add_to_block-clause-remembers
 returns-in_err-add_to_block-clause-remembers c =
     let p = err_from_is_err_and c.from_residual.result c.from_residual.ensures.1 in
     rw (p.1, p.2) (remembers_error c.args.self.now c.add_to_block.new.self c.args.packet c.in_err-add_to_block.field-0.0 c.in_err-add_to_block.ensures.remembers)
-
-pub returns-in_err-object-clause-remembers : goal.returns-in_err-object-clause-remembers
-returns-in_err-object-clause-remembers c =
-    let p = err_from_is_err_and c.from_residual-in_err-object.result c.from_residual-in_err-object.ensures.1 in
-    rw (p.1, p.2) (remembers_late c.args.self.now c.add_to_block.new.self c.args.packet _ c.in_err-object.field-0.0 c.in_err-object.ensures.memory c.in_ok-add_to_block.ensures.remembers)
