@@ -410,7 +410,7 @@ uint8_t reamertan_write_block(struct reamertan_handle *handle, uint8_t block, ui
  * stays as it is.
  *
  * Refuses, in this order: NO_CODER where the handle holds no decoder, UNKNOWN_BLOCK, CONTRADICTION where the
- * packets of the block contradict each other. Never OUT_OF_MEMORY. */
+ * packets of the block were found to contradict each other. Never OUT_OF_MEMORY. */
 uint8_t reamertan_missing_packets(struct reamertan_handle *handle, uint8_t block, uint32_t *missing);
 
 /* Frees the coder that a handle holds, if any, unless another handle holds it too. The handle then holds none, and may

@@ -180,7 +180,7 @@ impl SourceBlockDecoder {
     /// How many packets more the block needs at least, of ids that didn't come yet: with fewer it isn't
     /// answered, whichever they are. That is the number of its source symbols, less that of the ids that
     /// came, or 1 where these are as many and don't determine it. It is 0 where the block is answered.
-    /// None where its packets contradict each other. The crate has no such call.
+    /// None where its packets were found to contradict each other. The crate has no such call.
     pub fn missing_packets(&self) -> Option<u32> {
         if self.answer.is_some() {
             return Some(0);

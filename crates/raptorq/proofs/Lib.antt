@@ -8,6 +8,7 @@ pub mod FollowedRuns
 pub mod Lists
 pub mod ObjectBlocks
 pub mod Remembered
+pub mod RememberedHere
 pub mod ResultAnswers
 pub mod Stops
 pub mod Witnesses

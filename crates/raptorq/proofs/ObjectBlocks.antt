@@ -129,7 +129,7 @@ module _ (c : Configuration) (items : List ObjectBlock) (p : Packet) (x y : Obje
 
   -- what is remembered of the block is remembered of its number
   pub remembers_at : {X : Type 0} (old new : Decoder) (result : Result X Error) → old.blocks.items ≡ items → new.blocks.items ≡ set items p.id.block y
-      → RemembersHere (answer_of y) (solving_of x.decoder) result (solving_of y.decoder) → Remembers old p result new
+      → RemembersHere (received_of x.decoder) (solving_of x.decoder) result (received_of y.decoder) (answer_of y) (solving_of y.decoder) → Remembers old p result new
   remembers_at old new result was now so =
       let i = p.id.block in
       let first : Solving = record { sparse_threshold = 0; last_outcome = Untried } in
@@ -139,8 +139,11 @@ module _ (c : Configuration) (items : List ObjectBlock) (p : Packet) (x y : Obje
       let new_is : solving_at new i ≡ solving y =
       ap (λ l. get_or (map solving l) i first) now ∙ get_or-map solving after i y first (within items i y below) ∙ ap solving (sym (set_there items i y below)) in
       let answer_is : answer_at new.blocks.items i ≡ answer_of y = ap (λ l. answer_at l i) now ∙ answer_here after i y (within items i y below) (set_there items i y below) in
+      let held : received_at old.config old.blocks.items i ≡ received_of x.decoder = ap (λ l. received_at old.config l i) was ∙ received_here old.config items i x below is in
+      let holds : received_at new.config new.blocks.items i ≡ received_of y.decoder =
+      ap (λ l. received_at new.config l i) now ∙ received_here new.config after i y (within items i y below) (set_there items i y below) in
       record {
-        here = rw (answer_is, old_is, new_is) so;
+        here = rw (held, old_is, holds, answer_is, new_is) so;
         others = λ n apart. ap (λ l. get_or (map solving l) n first) now ∙ elsewhere_same solving items i n y first apart ∙ sym (ap (λ l. get_or (map solving l) n first) was);
       }
 

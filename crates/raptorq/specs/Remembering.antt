@@ -3,19 +3,29 @@ use Rattle.std.specs.Prelude.{◌≡◌, ◌≢◌, ℕ, List, Option, None, Res
 use Rattle.rq_bytes.specs.declared.error.Error.{Error}
 use Rattle.rq_bytes.specs.declared.error.Error.TheVariants.{Contradiction}
 use Rattle.rq_standard.specs.Packet.{Packet}
+use Rattle.rq_standard.specs.ReceivedBlock.{ReceivedBlock}
 use Rattle.rq_block.specs.declared.decoder.last_outcome.LastOutcome.TheVariants.{Undetermined, Contradictory}
+use Rattle.rq_block.specs.Remembering.{IsStillFound}
 use Rattle.rq_block.specs.SourceBlockDecoder.{Solving}
 use Rattle.raptorq.specs.declared.decoder.object.Decoder.{Decoder}
 use Rattle.raptorq.specs.Decoder.{state_of, solving_at}
 
--- Of a packet's block, by what the call returned and the block's answer: one that is taken and leaves the block without an answer found that
--- what was received doesn't determine it.
-pub record RemembersHere {X : Type 0} (answer : Option (List ℕ)) (old : Solving) (result : Result X Error) (new : Solving) : Type 0 where
-  pub undetermined : OnOk result (answer ≡ None → new.last_outcome ≡ Undetermined)
-  pub contradictory : IfErr result (λ e. e ≡ Contradiction → new.last_outcome ≡ Contradictory)
-  pub threshold : new.sparse_threshold ≡ old.sparse_threshold
+-- Of a packet's block, by what the call returned, what was received of it before and then, and its answer. Where the packet is taken and leaves
+-- it without an answer, an attempt found that what was received doesn't determine it. With an error that is no contradiction, what was found
+-- before of a block without an answer is still so.
+pub record RemembersHere {X : Type 0} (old : ReceivedBlock) (before : Solving) (result : Result X Error) (new : ReceivedBlock)
+    (answer : Option (List ℕ)) (after : Solving) : Type 0 where
+  pub undetermined : OnOk result (answer ≡ None → after.last_outcome ≡ Undetermined)
+  pub contradictory : IfErr result (λ e. e ≡ Contradiction → after.last_outcome ≡ Contradictory)
+  pub kept : IfErr result (λ e. e ≢ Contradiction → answer ≡ None → IsStillFound old before new after)
+  pub threshold : after.sparse_threshold ≡ before.sparse_threshold
 
--- and of the other blocks what it did before
+-- what is remembered of the block of this number
+abbrev pub RemembersOf : {X : Type 0} → ℕ → Decoder → Result X Error → Decoder → Type 0
+RemembersOf n old result new =
+    RemembersHere ((state_of old).received n) (solving_at old n) result ((state_of new).received n) ((state_of new).answer n) (solving_at new n)
+
+-- of the other blocks all stays
 pub record Remembers {X : Type 0} (old : Decoder) (p : Packet) (result : Result X Error) (new : Decoder) : Type 0 where
-  pub here : RemembersHere ((state_of new).answer p.id.block) (solving_at old p.id.block) result (solving_at new p.id.block)
+  pub here : RemembersOf p.id.block old result new
   pub others : (n : ℕ) → n ≢ p.id.block → solving_at new n ≡ solving_at old n

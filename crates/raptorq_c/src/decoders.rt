@@ -174,7 +174,7 @@ fn missing_count(coder: &Coder, block: u8) -> Result<u32, CallEnd>
 /// what `Decoder::missing_packets` answers.
 ///
 /// Answers 26 where the handle holds no decoder, 14 where the object has no such block, and 22 where
-/// the packets of the block contradict each other.
+/// the packets of the block were found to contradict each other.
 #[unsafe(no_mangle)]
 pub extern "C" fn reamertan_missing_packets(
     alloc: Global,

@@ -21,6 +21,7 @@ pub mod PlanLaws
 pub mod ReceivedEntries
 pub mod ReceivedEquations
 pub mod ReceivedSolutions
+pub mod Remembered
 pub mod Summing
 pub mod TakenPackets
 pub mod Undetermined

@@ -61,7 +61,7 @@ others_stay : (f g : ℕ → Option (List ℕ)) (k : ℕ) (x : List ℕ) → Add
 others_stay f g k x grown e ne = sym (ap is_some (added_elsewhere f g k x grown e (λ h. ne (sym h))))
 
 -- a payload that was kept is there
-here_now : (f g : ℕ → Option (List ℕ)) (k : ℕ) (x : List ℕ) → is_some (f k) ≡ false → AddsUnlessThere k x f g → is_some (g k) ≡ true
+pub here_now : (f g : ℕ → Option (List ℕ)) (k : ℕ) (x : List ℕ) → is_some (f k) ≡ false → AddsUnlessThere k x f g → is_some (g k) ≡ true
 here_now f g k x was grown = ap is_some (grown k ∙ ap (λ o. or_later o (cond (eqb k k) (Some x) None)) (none_is (f k) was) ∙ ap (λ b. cond b (Some x) None) (eq-eqb k k refl))
 
 -- A payload was handed in: what is missing then.

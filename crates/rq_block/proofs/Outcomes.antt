@@ -1,15 +1,13 @@
 -- What a decoder of a block keeps of its attempts to answer it.
-use Rattle.std.proofs.Common.{◌≡◌, ℕ, Bool, true, false, cond, Option, None, Some, Result, Ok, Err, refl, ap, ◌∙◌, sym}
+use Rattle.std.proofs.Common.{◌≡◌, ℕ, true, false, Option, None, Some, Result, Ok, Err, refl, ap, ◌∙◌, sym}
 use Rattle.std.specs.Prelude.{OnOk, IfErr}
 use Rattle.rq_bytes.specs.declared.error.Error.{Error}
-use Rattle.rq_bytes.specs.declared.error.Error.TheVariants.{Contradiction}
-use Rattle.rq_bytes.specs.Refusals.{IsRefusal}
-use Rattle.rq_standard.specs.Packet.{Packet}
+use Rattle.rq_bytes.specs.declared.error.Error.TheVariants.{OutOfMemory, Contradiction}
 use Rattle.rq_standard.specs.ReceivedBlock.{ReceivedBlock, has_received}
 use Rattle.rq_block.specs.LastOutcome.{outcome_of, after_new_payload}
 use Rattle.rq_block.specs.declared.decoder.last_outcome.LastOutcome.{LastOutcome}
 use Rattle.rq_block.specs.declared.decoder.last_outcome.LastOutcome.TheVariants.{Untried, Undetermined, Contradictory}
-use Rattle.rq_block.specs.SourceBlockDecoder.{Solving, solving_after}
+use Rattle.rq_block.specs.SourceBlockDecoder.{Solving, still_found, solving_after}
 
 -- ---- by an answer
 
@@ -29,6 +27,12 @@ contradictory_by (Err e) is = absurd (cc is)
 pub remembered_refusal : (V : Type 0) (r : Result (Option V) Error) (o : LastOutcome) → o ≡ outcome_of r → IfErr r (λ e. e ≡ Contradiction → o ≡ Contradictory)
 remembered_refusal V (Ok v) o is = tt
 remembered_refusal V (Err e) o is = λ same. is ∙ ap (λ x. outcome_of {V = V} (Err x)) same
+
+-- where memory is refused for an attempt, what is remembered stays
+pub refused_attempt : (V : Type 0) (s t : Solving) (r : Result (Option V) Error) → s.last_outcome ≡ Untried → t ≡ record s { last_outcome = outcome_of r } → IfErr r (λ e. e ≡ OutOfMemory → t ≡ s)
+refused_attempt V s t (Ok v) untried is = tt
+refused_attempt V s t (Err e) untried is = λ memory.
+    is ∙ ap (λ x. record s { last_outcome = outcome_of {V = V} (Err x) }) memory ∙ ap (λ o. record s { last_outcome = o }) (sym untried)
 
 pub whatever_answered : {V : Type 0} (r : Result V Error) (P : Type 0) → P → OnOk r P
 whatever_answered (Ok v) P p = p
@@ -53,5 +57,14 @@ module _ (h : ReceivedBlock) (esi : ℕ) (s : Solving) where
   pub solving_repeated : has_received h esi ≡ true → s ≡ solving_after h esi s
   solving_repeated repeated = rw repeated refl
 
-  pub threshold_after : (solving_after h esi s).sparse_threshold ≡ s.sparse_threshold
-  threshold_after = elim (has_received h esi) as (λ b. (cond b s (record s { last_outcome = after_new_payload s.last_outcome })).sparse_threshold ≡ s.sparse_threshold) [ true ↦ refl | false ↦ refl ]
+  pub solving_new : has_received h esi ≡ false → solving_after h esi s ≡ still_found s
+  solving_new new = rw new refl
+
+found_later : (o : LastOutcome) → after_new_payload (after_new_payload o) ≡ after_new_payload o
+found_later Untried = refl
+found_later Undetermined = refl
+found_later Contradictory = refl
+
+-- what is still so after a payload is so after the next one
+pub found_twice : (s : Solving) → still_found (still_found s) ≡ still_found s
+found_twice s = ap (λ o. record s { last_outcome = o }) (found_later s.last_outcome)

@@ -18,7 +18,7 @@ use Rattle.rq_block.proofs.Undetermined.{shows_known}
 use Rattle.rq_standard.proofs.Contradictions.{contradicts_more}
 
 -- a payload of an id that was received already
-later-stays : (o later : Option (List ℕ)) → is_some o ≡ true → or_later o later ≡ o
+pub later-stays : (o later : Option (List ℕ)) → is_some o ≡ true → or_later o later ≡ o
 later-stays None later received = absurd (cc received)
 later-stays (Some x) later received = refl
 

@@ -14,6 +14,7 @@ pub mod MissingPackets
 pub mod Payloads
 pub mod Planned
 pub mod RefusedBlocks
+pub mod Remembering
 pub mod SourceBlockDecoder
 pub mod SourceBlockEncoder
 pub mod SourceBlockEncodingPlan

@@ -22,7 +22,7 @@ pub record Solving : Type 0 where
 abbrev pub solving_of : SourceBlockDecoder → Solving
 solving_of d = record { sparse_threshold = d.sparse_threshold; last_outcome = d.last_outcome }
 
--- from this many symbols on, and it wasn't tried
+-- from this many symbols on, and nothing that was found is remembered
 abbrev pub unsolved : ℕ → Solving
 unsolved threshold = record { sparse_threshold = threshold; last_outcome = Untried }
 
@@ -30,9 +30,13 @@ unsolved threshold = record { sparse_threshold = threshold; last_outcome = Untri
 abbrev pub with_threshold : ℕ → Solving → Solving
 with_threshold threshold s = record s { sparse_threshold = threshold }
 
+-- what is still so of what was found, once a payload of a new id was received
+abbrev pub still_found : Solving → Solving
+still_found s = record s { last_outcome = after_new_payload s.last_outcome }
+
 -- once a payload of an id was received: only one of a new id changes what was found
 abbrev pub solving_after : ReceivedBlock → ℕ → Solving → Solving
-solving_after h esi s = if has_received h esi then s else record s { last_outcome = after_new_payload s.last_outcome }
+solving_after h esi s = if has_received h esi then s else still_found s
 
 -- a block of K source symbols, over its row of the table, of which nothing was received
 abbrev pub empty_block : List TableRow → Configuration → ℕ → ℕ → ReceivedBlock

@@ -4,8 +4,8 @@ ghost use Rattle.rq_cast.specs.Missing.{TellsMissingPackets};
 use raptorq::Decoder;
 
 /// How many packets more an object needs at least, of ids that weren't received yet: what
-/// [`Decoder::missing_packets`] answers of its blocks, together. A block whose packets contradict each
-/// other counts none.
+/// [`Decoder::missing_packets`] answers of its blocks, together. A block whose packets were found to
+/// contradict each other counts none.
 pub fn missing_packets(decoder: &Decoder) -> u64
     ensures { TellsMissingPackets decoder.now result }
 {

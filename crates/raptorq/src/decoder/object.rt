@@ -72,7 +72,7 @@ impl ObjectBlock {
         ensures number { (received_of self.new.decoder).number ≡ (received_of self.old.decoder).number }
         ensures configuration { (received_of self.new.decoder).configuration ≡ (received_of self.old.decoder).configuration }
         ensures symbols { (received_of self.new.decoder).source_symbols ≡ (received_of self.old.decoder).source_symbols }
-        ensures remembers { RemembersHere (answer_of self.new) (solving_of self.old.decoder) result (solving_of self.new.decoder) }
+        ensures remembers { RemembersHere (received_of self.old.decoder) (solving_of self.old.decoder) result (received_of self.new.decoder) (answer_of self.new) (solving_of self.new.decoder) }
     {
         if self.answer.is_some() {
             return Ok(());
@@ -199,8 +199,9 @@ impl Decoder {
 
     /// Sets the sparse threshold of each block: from how many symbols of an extended source block
     /// (K') on it is solved over a sparse matrix, and not over a dense one. It is
-    /// [`SPARSE_MATRIX_THRESHOLD`](crate::encoder::SPARSE_MATRIX_THRESHOLD) at first.
-    /// Whether there is an answer doesn't depend on it, nor what is answered of an object's packets.
+    /// [`SPARSE_MATRIX_THRESHOLD`](crate::encoder::SPARSE_MATRIX_THRESHOLD) at first. What was
+    /// received stays, and what was found of it. Whether there is an answer doesn't depend on it, nor
+    /// what is answered of an object's packets.
     pub fn set_sparse_threshold(&mut self, value: u32)
         ensures same { state_of self.new ≡ state_of self.old }
         ensures solving { solving_of_blocks self.new ≡ map (with_threshold value) (solving_of_blocks self.old) }
@@ -253,6 +254,7 @@ impl Decoder {
         ensures answer { IfOk result (λ r. IsAnswerOf (state_of self.now) (option_map vec_items r)) }
         ensures contradicted { IfOk result (λ r. (b : ℕ) → IsBlockContradictory (state_of self.now) b → r ≡ None) }
         ensures memory { IfErr result (λ e. e ≡ Error.OutOfMemory) }
+        ensures complete { OnErr result (IsSome (result_of (state_of self.now))) }
     {
         if !self.is_complete() {
             return Ok(None);

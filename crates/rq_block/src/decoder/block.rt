@@ -1,5 +1,5 @@
 //! The decoder of one source block.
-ghost use Rattle.std.specs.Prelude.{◌≡◌, ℕ, ◌*◌, ◌^◌, ◌<◌, ◌≤◌, true, All, length, Ok, Some, IfSome, IfOk, IfErr, OnOk, OnErr, option_map, vec_items};
+ghost use Rattle.std.specs.Prelude.{◌≡◌, ◌≢◌, ℕ, ◌*◌, ◌^◌, ◌<◌, ◌≤◌, true, All, length, Ok, Some, IfSome, IfOk, IfErr, OnOk, OnErr, option_map, vec_items};
 ghost use Rattle.std.specs.Option.{ForSome, option_copied};
 ghost use Rattle.rq_bytes.specs.Refusals.{IsAnswer};
 ghost use Rattle.rq_standard.specs.Configuration.{IsAligned};
@@ -73,6 +73,7 @@ impl SourceBlockDecoder {
     ghost use Rattle.rq_block.specs.RefusedBlocks.{checked_block, block_refusal};
     ghost use Rattle.rq_block.specs.SourceBlockDecoder.{received_of, solving_of, solving_after, with_threshold, unsolved, empty_block};
     ghost use Rattle.rq_block.specs.LastOutcome.{outcome_of};
+    ghost use Rattle.rq_block.specs.Remembering.{IsStillFound};
     ghost use Rattle.rq_block.specs.Decoding.{DecodesFrom, IsUnanswered, answer_bytes};
     ghost use Rattle.rq_block.specs.MissingPackets.{NeedsMore, TellsMissing, missing_after};
     ghost use Rattle.std.specs.Iterator.{IsFinite};
@@ -171,7 +172,7 @@ impl SourceBlockDecoder {
         usize::from(self.config.symbol_size())
     }
 
-    /// The length of the block, in bytes.
+    /// The length of its source symbols together, in bytes.
     pub(crate) fn length(&self) -> usize
         ensures { let h = received_of self.now in result ≡ h.source_symbols * h.configuration.symbol_size }
     {
@@ -197,6 +198,7 @@ impl SourceBlockDecoder {
         ensures decodes { DecodesFrom I.into_iter_gives I.IntoIter.next_gives packets (received_of self.old) (answer_bytes vec_items result) (received_of self.new) }
         ensures remembers { OnOk result ((solving_of self.new).last_outcome ≡ outcome_of result) }
         ensures contradicted { IfErr result (λ e. e ≡ Error.Contradiction → (solving_of self.new).last_outcome ≡ Contradictory) }
+        ensures kept { IfErr result (λ e. e ≢ Error.Contradiction → IsStillFound (received_of self.old) (solving_of self.old) (received_of self.new) (solving_of self.new)) }
         ensures threshold { (solving_of self.new).sparse_threshold ≡ (solving_of self.old).sparse_threshold }
     {
         for packet in packets {
@@ -242,7 +244,8 @@ impl SourceBlockDecoder {
         ensures tested { IsAnswer (λ _. tt) result (block_refusal (received_of self.old) packet) }
         ensures ok { OnOk result (received_of self.new ≡ with_received (received_of self.old) packet.id.esi packet.payload) }
         ensures err { OnErr result (received_of self.new ≡ received_of self.old) }
-        ensures threshold { (solving_of self.new).sparse_threshold ≡ (solving_of self.old).sparse_threshold }
+        ensures solving { OnOk result (solving_of self.new ≡ solving_after (received_of self.old) packet.id.esi (solving_of self.old)) }
+        ensures kept { OnErr result (solving_of self.new ≡ solving_of self.old) }
     {
         if packet.payload_id().source_block_number() != self.number {
             return Err(Error::UnknownBlock);
@@ -275,7 +278,8 @@ impl SourceBlockDecoder {
         Ok(())
     }
 
-    /// Lets what was received go, once the block is answered. Not in the Rust crate.
+    /// Lets what was received go, once the block is answered, and what was found of it. The sparse
+    /// threshold stays. Not in the Rust crate.
     pub fn forget(&mut self)
         ensures emptied { received_of self.new ≡ emptied (received_of self.old) }
         ensures solving { solving_of self.new ≡ unsolved (solving_of self.old).sparse_threshold }
@@ -293,7 +297,7 @@ impl SourceBlockDecoder {
 
     /// The block, where all its source symbols were received or what was received determines it. What
     /// is recorded stays as it is. What was found to be contradictory, or not to determine the block,
-    /// isn't solved again. Not in the Rust crate.
+    /// isn't solved again: memory is refused only where nothing is remembered. Not in the Rust crate.
     ///
     /// Refuses [`Error::Contradiction`] where no block fits all that was received.
     pub fn answer(&mut self) -> Result<Option<Vec<u8>>, Error>
@@ -301,6 +305,7 @@ impl SourceBlockDecoder {
         ensures same { received_of self.new ≡ received_of self.old }
         ensures unanswered { IfErr result (IsUnanswered (received_of self.old)) }
         ensures remembers { solving_of self.new ≡ record (solving_of self.old) { last_outcome = outcome_of result } }
+        ensures kept { IfErr result (λ e. e ≡ Error.OutOfMemory → solving_of self.new ≡ solving_of self.old) }
     {
         match self.last_outcome {
             LastOutcome::Undetermined => return Ok(None),

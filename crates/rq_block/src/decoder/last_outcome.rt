@@ -4,7 +4,7 @@ use rq_bytes::error::Error;
 /// What the last attempt to answer a block found of what was received.
 #[derive(Clone, Copy)]
 pub(crate) enum LastOutcome {
-    /// It wasn't tried since the last payload of a new id, or memory was refused.
+    /// There was no attempt since the last payload of a new id, or it found a block or no memory.
     Untried,
     /// It doesn't determine the block.
     Undetermined,

@@ -88,26 +88,29 @@ fn lost_cells_are_counted_and_others_written(rt: HostRuntime) {
     let both = joined(alloc, &[&FIRST, &SECOND]).expect(&rt, "bytes");
     let all = both.as_slice();
     let (lost, other) = (ErrorKind::ConnectionRefused, ErrorKind::BrokenPipe);
-    let cases: [(usize, usize, ErrorKind, Result<u64, Stop>, &[u8]); 8] = [
-        (50, 0, other, Ok(0), all),
-        (7, 0, other, Ok(0), all),
-        (50, 1, lost, Ok(1), &SECOND),
-        (50, 2, lost, Ok(1), &FIRST),
-        (7, 2, lost, Err(Stop::Fault), &FIRST[..7]),
-        (50, 2, other, Err(Stop::Fault), &FIRST),
-        (50, 3, lost, Err(Stop::Fault), all),
-        (0, 0, other, Err(Stop::Fault), &[]),
+    // What a call takes at most, which one fails and how; how the run ends, what it wrote, and for how
+    // many bytes it waited, those of the cell that failed among them.
+    let cases: [(usize, usize, ErrorKind, Result<u64, Stop>, &[u8], usize); 8] = [
+        (50, 0, other, Ok(0), all, 100),
+        (7, 0, other, Ok(0), all, 100),
+        (50, 1, lost, Ok(1), &SECOND, 100),
+        (50, 2, lost, Ok(1), &FIRST, 100),
+        (7, 2, lost, Err(Stop::Fault), &FIRST[..7], 50),
+        (50, 2, other, Err(Stop::Fault), &FIRST, 100),
+        (50, 3, lost, Err(Stop::Fault), all, 100),
+        (0, 0, other, Err(Stop::Fault), &[], 50),
     ];
-    for (most, failing, kind, ending, wanted) in cases {
+    for (most, failing, kind, ending, wanted, waits) in cases {
         let link = Link {
             bytes: Vec::new(alloc),
             most,
             failing,
             kind,
         };
-        let (ended, out, _) = sent(alloc, &sender, link);
+        let (ended, out, waited) = sent(alloc, &sender, link);
         assert_eq!(rt; ended, ending);
         assert_eq!(rt; out.as_slice(), wanted);
+        assert_eq!(rt; waited, waits);
     }
 }
 

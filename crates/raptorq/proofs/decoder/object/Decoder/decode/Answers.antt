@@ -1,7 +1,8 @@
-use Rattle.std.proofs.Common.{inl, inr}
+use Rattle.std.proofs.Common.{◌<◌, inl, inr, sym, subst}
 use Rattle.std.proofs.lemmas.Result.{err_from_is_err_and}
 use Rattle.rq_standard.proofs.StandingSteps.{leaves_late, answers_late}
 use Rattle.raptorq.specs.Decoder.{state_of}
+use Rattle.raptorq.proofs.FollowedRuns.{passes_below}
 use Rattle.raptorq.proofs.Remembered.{remembers_error, remembers_then}
 use Rattle.raptorq.proofs.Stops.{not_joined, stops_early, takes_stopped, takes_then, wherever_memory_lacks}
 use Rattle.raptorq.proofs.decoder.object.Decoder.decode.Goals as goal
@@ -20,7 +21,11 @@ returns-clause-leaves_late c =
     wherever_memory_lacks c.get_result.result (inr (answers_late c.args.packet (state_of c.args.self.now) (state_of c.add_to_block.new.self) c.args.self.now.aligned c.in_ok-add_to_block.ensures.adds.1))
 
 pub returns-clause-remembers : goal.returns-clause-remembers
-returns-clause-remembers c = remembers_then c.args.self.now c.add_to_block.new.self c.args.packet _ c.get_result.result c.get_result.ensures.memory c.in_ok-add_to_block.ensures.remembers
+returns-clause-remembers c =
+    let added = c.in_ok-add_to_block.ensures in
+    let k = c.args.self.now.config in
+    let below = subst (λ k. c.args.packet.id.block < k.source_blocks) (sym added.configuration) (passes_below k c.args.packet added.adds.0) in
+    remembers_then c.args.self.now c.add_to_block.new.self c.args.packet _ c.get_result.result below c.get_result.ensures.memory c.get_result.ensures.complete added.remembers
 
 -- it isn't
 pub returns-in_err-add_to_block-clause-takes : goal.returns-in_err-add_to_block-clause-takes

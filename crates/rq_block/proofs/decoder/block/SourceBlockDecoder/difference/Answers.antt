@@ -1,4 +1,4 @@
-use Rattle.std.proofs.Common.{ℕ, ◌*◌, [], replicate, sym, ap, ◌∙◌}
+use Rattle.std.proofs.Common.{ℕ, [], replicate, sym, ap, ◌∙◌}
 use Rattle.std.specs.Option.{option_copied}
 use Rattle.rq_standard.specs.Equations.{symbol_coefficient}
 use Rattle.rq_standard.specs.Differences.{plain_sum}
