@@ -358,8 +358,8 @@ uint8_t reamertan_open_decoder(const struct reamertan_row *rows, size_t row_coun
  * WRONG_PAYLOAD_SIZE; the decoder then holds what it held. And then CONTRADICTION, where with the
  * packet those of its block, which has no answer yet, determine the block and no block fits them all: it
  * is taken, each later packet of its block is refused so too, and the object is never complete.
- * OUT_OF_MEMORY may come before any of these but NO_CODER, and then the packet may be taken or not, unless it is
- * one to be refused by the first four; hand it in again. */
+ * OUT_OF_MEMORY may come before any of these but NO_CODER and PACKET_TOO_SHORT, and then the packet may be taken or
+ * not, unless it is one to be refused by the first four; hand it in again. */
 uint8_t reamertan_add_packet(struct reamertan_handle *handle, const uint8_t *packet,
                              size_t packet_length);
 
@@ -387,8 +387,7 @@ uint8_t reamertan_is_complete(struct reamertan_handle *handle);
  * forged, or damaged but for their ids, and don't contradict each other, give other bytes. The decoder
  * stays as it is.
  *
- * Refuses, in this order: NO_CODER where the handle holds no decoder, INCOMPLETE, WRONG_BUFFER.
- * OUT_OF_MEMORY may come before the last two. */
+ * Refuses, in this order: NO_CODER where the handle holds no decoder, INCOMPLETE, OUT_OF_MEMORY, WRONG_BUFFER. */
 uint8_t reamertan_write_object(struct reamertan_handle *handle, uint8_t *object,
                                size_t object_length);
 

@@ -1,6 +1,6 @@
 -- What calls on handles say, by what the coders say.
 use Rattle.std.proofs.Common.{◌≡◌, ◌≢◌, ◌⊎◌, ◌<◌, ℕ, Bool, true, false, List, length, Option, Some, Result, Ok, Err, refl, sym, ap, ◌∙◌, subst, arith, inl, inr}
-use Rattle.std.specs.Prelude.{is_err, IsErr, IfOk, IfErr, OnOk, OnErr, MatchResult, nat_lt, ◌==◌}
+use Rattle.std.specs.Prelude.{IsErr, IfOk, IfErr, OnOk, OnErr, MatchResult, nat_lt, ◌==◌}
 use Rattle.rq_bytes.specs.declared.error.Error.{Error}
 use Rattle.rq_bytes.specs.declared.error.Error.TheVariants.{OutOfMemory, Contradiction, UnknownBlock, WrongPayloadSize}
 use Rattle.rq_bytes.specs.Error.{code_of}
@@ -21,7 +21,9 @@ use Rattle.raptorq_c.specs.declared.call_end.CallEnd.{CallEnd}
 use Rattle.raptorq_c.specs.declared.rows.Row.{Row}
 use Rattle.raptorq_c.specs.FurtherRows.{table_of}
 use Rattle.raptorq_c.specs.ObjectBuffers.{Answered, IsFilled, IsRefused, IsDecoded, IsDecodingRefusal, IsPacketsRefusal, frames_refusal, packets_in}
-use Rattle.raptorq.specs.Decoder.{IsAnswerOf}
+use Rattle.raptorq.specs.Decoder.{IsAnswerOf, state_of}
+use Rattle.raptorq.specs.Remembering.{Remembers}
+use Rattle.raptorq.specs.declared.decoder.object.Decoder.{Decoder}
 use Rattle.rq_block.proofs.TakenPackets.{packet_tests}
 use Rattle.raptorq_c.specs.Handles.{bytes_refusal, FillsWithAnswer, FillsWithBlock, IsAdded, IsPartOf, IsTakenNumber, StaysUnread, TakesRead}
 use Rattle.raptorq_c.specs.Numbers.{number_of, refusal_number}
@@ -50,6 +52,11 @@ filled_small number (inl done) = omega (arith, done)
 filled_small number (inr (inl other_length)) = omega (arith, other_length)
 filled_small number (inr (inr incomplete)) = omega (arith, incomplete)
 
+filled_without_memory : (number : ℕ) → IsFilled number → number ≢ 21
+filled_without_memory number (inl done) is = omega (arith, done, is)
+filled_without_memory number (inr (inl other_length)) is = omega (arith, other_length, is)
+filled_without_memory number (inr (inr incomplete)) is = omega (arith, incomplete, is)
+
 -- the decoder that is held answers
 pub fills_answer : (s : State) (ended : Result (Unit {0}) CallEnd) (before after : List ℕ) → IsFilled (number_of ended) → Answered (number_of ended) before after (IsAnswerOf s) → OnErr ended (after ≡ before) → FillsWithAnswer (Some s) (number_of ended) before after
 fills_answer s ended before after number answered kept =
@@ -57,6 +64,7 @@ fills_answer s ended before after number answered kept =
     record {
       none = (λ is. absurd (omega (arith, small, is)), λ none. absurd (cc none));
       refused = inr number;
+      complete = λ is. absurd (filled_without_memory (number_of ended) number is);
       answered = answered;
       kept = is_stopped ended (after ≡ before) kept;
     }
@@ -102,15 +110,19 @@ unread_number : (c : Configuration) (e : Error) (read : Result Packet Error) →
 unread_number c e (Ok p) memory = inl (inr (ap code_of memory))
 unread_number c e (Err w) same = inl (inl (ap code_of same))
 
-unread_packet : (s : State) (e : Error) (read : Result Packet Error) → IsRefusal e read → IfOk read (λ p. StaysUnread s (code_of e) s ⊎ TakesRead s p (code_of e) s)
-unread_packet s e (Ok p) memory = inl (ap code_of memory, refl)
-unread_packet s e (Err w) same = tt
+unread_packet : (d : Decoder) (e : Error) (read : Result Packet Error) → IsRefusal e read → IfOk read (λ p. StaysUnread d (code_of e) d ⊎ TakesRead d p (code_of e) d)
+unread_packet d e (Ok p) memory = inl (ap code_of memory, refl)
+unread_packet d e (Err w) same = tt
 
-pub unread_bytes : (s : State) (bytes : List ℕ) (e : Error) → IsRefusal e (read_packet bytes) → IsAdded s bytes (code_of e) s
-unread_bytes s bytes e refusal = record {
-  refused = unread_number s.configuration e (read_packet bytes) refusal;
-  short = λ _. refl;
-  takes = unread_packet s e (read_packet bytes) refusal;
+unread_short : (d : Decoder) (e : Error) (read : Result Packet Error) → IsRefusal e read → IfErr read (λ w. (code_of e ≡ code_of w) × (d ≡ d))
+unread_short d e (Ok p) memory = tt
+unread_short d e (Err w) same = (ap code_of same, refl)
+
+pub unread_bytes : (d : Decoder) (bytes : List ℕ) (e : Error) → IsRefusal e (read_packet bytes) → IsAdded d bytes (code_of e) d
+unread_bytes d bytes e refusal = record {
+  refused = unread_number (state_of d).configuration e (read_packet bytes) refusal;
+  short = unread_short d e (read_packet bytes) refusal;
+  takes = unread_packet d e (read_packet bytes) refusal;
   stops = λ _. inl refl;
   leaves_late = λ _ honest. inl honest.stands;
   leaves_refused = λ _ _. refl;
@@ -131,21 +143,23 @@ left_refused old new p (Ok x) takes is = absurd (cc is)
 left_refused old new p (Err e) takes is = refused_whole old.configuration p e old new takes.refused takes.unchanged
 
 -- what a decoder does with the packet that bytes spell
-pub taken_bytes : (old new : State) (bytes : List ℕ) (p : Packet) (r : Result (Unit {0}) Error) → read_packet bytes ≡ Ok p → TakesPacket old p r new
-    → IfErr r (λ e. e ≡ OutOfMemory → StopsEarly old p new) → IfErr r (λ e. e ≡ OutOfMemory → LeavesBlockLate old p new) → IsAdded old bytes (refusal_number r) new
-taken_bytes old new bytes p r read takes stops late =
+pub taken_bytes : (old new : Decoder) (bytes : List ℕ) (p : Packet) (r : Result (Unit {0}) Error) → read_packet bytes ≡ Ok p → TakesPacket (state_of old) p r (state_of new) → Remembers old p r new
+    → IfErr r (λ e. e ≡ OutOfMemory → StopsEarly (state_of old) p (state_of new)) → IfErr r (λ e. e ≡ OutOfMemory → LeavesBlockLate (state_of old) p (state_of new)) → IsAdded old bytes (refusal_number r) new
+taken_bytes old new bytes p r read takes remembers stops late =
     let n = refusal_number r in
-    let c = old.configuration in
+    let before = state_of old in
+    let after = state_of new in
+    let c = before.configuration in
     let refusal : Result Packet Error → Result (Unit {0}) Error = λ found. and_then {Y = Unit {0}} found (packet_refusal c) in
     let same : bytes_refusal c bytes ≡ packet_refusal c p = ap refusal read in
     let is = packet_read bytes p read in
     record {
       refused = subst (IsTakenNumber n) (sym same) (answered_number c p r takes.accepted takes.refused);
-      short = λ err. let none : true ≡ false = sym err ∙ ap is_err read in absurd (cc none);
-      takes = subst (λ found. IfOk found (λ q. StaysUnread old n new ⊎ TakesRead old q n new)) (sym read) (inr (record { result = r; number = refl; takes = takes }));
-      stops = λ memory. subst (λ q. StopsEarly old q new) is (for_memory (StopsEarly old p new) r stops memory);
-      leaves_late = λ memory. subst (λ q. LeavesBlockLate old q new) is (for_memory (LeavesBlockLate old p new) r late memory);
-      leaves_refused = λ memory err. left_refused old new p r takes memory (subst IsErr same err);
+      short = subst (λ found. IfErr found (λ e. (n ≡ code_of e) × (new ≡ old))) (sym read) tt;
+      takes = subst (λ found. IfOk found (λ q. StaysUnread old n new ⊎ TakesRead old q n new)) (sym read) (inr (record { result = r; number = refl; takes = takes; remembers = remembers }));
+      stops = λ memory. subst (λ q. StopsEarly before q after) is (for_memory (StopsEarly before p after) r stops memory);
+      leaves_late = λ memory. subst (λ q. LeavesBlockLate before q after) is (for_memory (LeavesBlockLate before p after) r late memory);
+      leaves_refused = λ memory err. left_refused before after p r takes memory (subst IsErr same err);
     }
 
 -- ---- packets in a buffer

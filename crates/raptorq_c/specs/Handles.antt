@@ -1,5 +1,5 @@
 -- What handles hold, and what calls do to it.
-use Rattle.std.specs.Prelude.{◌≡◌, ◌≢◌, ◌⊎◌, ◌↔◌, ℕ, ◌≤◌, List, length, true, is_some, Option, Some, None, IfSome, IsSomeAnd, MatchOption, IfOk, IsErr, option_and_then, Result, Ok, Err}
+use Rattle.std.specs.Prelude.{◌≡◌, ◌≢◌, ◌⊎◌, ◌↔◌, ℕ, ◌≤◌, List, [], length, replicate, true, is_some, Option, Some, None, IfSome, IsSome, IsSomeAnd, MatchOption, IfOk, IfErr, IsErr, option_and_then, option_map, Result, Ok, Err}
 use Rattle.std.specs.Arc.{arc_value}
 use Rattle.rq_bytes.specs.declared.error.Error.{Error}
 use Rattle.rq_bytes.specs.Error.{code_of}
@@ -9,33 +9,42 @@ use Rattle.rq_standard.specs.Packet.{SymbolId, Packet, packet_bytes, packet_of_b
 use Rattle.rq_standard.specs.Headline.{HasNonsingularRows}
 use Rattle.rq_standard.specs.DecoderState.{State, IsNewState, result_of}
 use Rattle.rq_standard.specs.DecoderSteps.{StopsEarly, IsBlockContradictory}
+use Rattle.rq_standard.specs.Following.{FollowsRun}
 use Rattle.rq_standard.specs.Standing.{StandsForNone, LeavesBlockLate}
 use Rattle.rq_standard.specs.TableRows.{greatest_size}
 use Rattle.rq_base.specs.RefusedInput.{new_id, read_packet}
 use Rattle.raptorq.specs.BlockBytes.{answered_part, AnswersPart, PartsMakeObject}
-use Rattle.raptorq.specs.Decoder.{state_of, missing_of, IsAnswerOf}
+use Rattle.raptorq.specs.Decoder.{state_of, solving_of_blocks, missing_of, IsAnswerOf}
 use Rattle.raptorq.specs.Encoder.{Encoded, encoded_of, id_in, IsEncoderOf, IsPacketIn}
+use Rattle.rq_block.specs.declared.encoder.TheConstants.{SPARSE_MATRIX_THRESHOLD}
 use Rattle.rq_block.specs.MissingPackets.{NeedsMore}
+use Rattle.rq_block.specs.SourceBlockDecoder.{unsolved}
 use Rattle.rq_block.specs.SourceBlockEncoder.{BlockEncoded, block_encoded_of}
 use Rattle.rq_block.specs.SourceBlockEncodingPlan.{Plan, plan_of}
+use Rattle.raptorq.specs.Remembering.{Remembers}
 use Rattle.raptorq.specs.Unanswered.{TellsMissingOf}
 use Rattle.raptorq.specs.Refused.{new_encoder, packet_refusal, RefusesEncoder}
 use Rattle.raptorq.specs.TakesPacket.{TakesPacket}
+use Rattle.raptorq.specs.declared.decoder.object.Decoder.{Decoder}
 use Rattle.raptorq_c.specs.ObjectBuffers.{Answered, IsFilled, IsRefused}
 use Rattle.raptorq_c.specs.Numbers.{refusal_number, IsNumber}
 use Rattle.raptorq_c.specs.Headers.{checked_header}
 use Rattle.raptorq_c.specs.declared.handle.Handle.{Handle}
 use Rattle.raptorq_c.specs.declared.owned.Coder.{Coder}
-use Rattle.raptorq_c.specs.declared.owned.Coder.TheVariants.{Encoder, Decoder, Plan as PlanCoder, BlockEncoder}
+use Rattle.raptorq_c.specs.declared.owned.Coder.TheVariants.{Encoder, Decoder as DecoderCoder, Plan as PlanCoder, BlockEncoder}
 use Rattle.raptorq_c.specs.declared.rows.Row.{Row}
 use Rattle.raptorq_c.specs.FurtherRows.{HoldsOver, RefusesOver}
 
 abbrev pub coder_of : Handle → Option Coder
 coder_of h = h.owned.value
 
-abbrev pub decoder_in : Coder → Option State
-decoder_in (Decoder d) = Some (state_of d)
+abbrev pub decoder_in : Coder → Option Decoder
+decoder_in (DecoderCoder d) = Some d
 decoder_in _ = None
+
+-- the state of the decoder that it is
+abbrev pub state_in : Coder → Option State
+state_in k = option_map state_of (decoder_in k)
 
 abbrev pub encoder_in : Coder → Option Encoded
 encoder_in (Encoder a) = Some (encoded_of (arc_value a))
@@ -50,8 +59,12 @@ block_encoder_in (BlockEncoder a) = Some (block_encoded_of (arc_value a))
 block_encoder_in _ = None
 
 -- the decoder that a handle holds, if it holds one
-abbrev pub decoder_of : Handle → Option State
+abbrev pub decoder_of : Handle → Option Decoder
 decoder_of h = option_and_then decoder_in (coder_of h)
+
+-- the state of it
+abbrev pub state_of_handle : Handle → Option State
+state_of_handle h = option_map state_of (decoder_of h)
 
 abbrev pub encoder_of : Handle → Option Encoded
 encoder_of h = option_and_then encoder_in (coder_of h)
@@ -66,10 +79,12 @@ block_encoder_of h = option_and_then block_encoder_in (coder_of h)
 abbrev pub Becomes : {X : Type 0} → Option X → Option X → (X → X → Type 0) → Type 0
 Becomes before after P = MatchOption before (after ≡ None) (λ x. IsSomeAnd after (P x))
 
--- a decoder of this configuration, over the table of these rows, to which nothing came yet
-pub record IsNewDecoder (rows : List Row) (header : List ℕ) (s : State) : Type 0 where
-  pub new : HoldsOver rows (λ table. IsNewState table (configuration_of_bytes header) s)
-  pub stands : HoldsOver rows (λ table. StandsForNone table (configuration_of_bytes header) s)
+-- A decoder of this configuration, over the table of these rows, to which nothing came yet. No block was tried, and each has the default threshold.
+pub record IsNewDecoder (rows : List Row) (header : List ℕ) (d : Decoder) : Type 0 where
+  pub new : HoldsOver rows (λ table. IsNewState table (configuration_of_bytes header) (state_of d))
+  pub stands : HoldsOver rows (λ table. StandsForNone table (configuration_of_bytes header) (state_of d))
+  pub follows : HoldsOver rows (λ table. FollowsRun table [] (state_of d))
+  pub solving : solving_of_blocks d ≡ replicate (configuration_of_bytes header).source_blocks (unsolved SPARSE_MATRIX_THRESHOLD)
 
 -- What a call answers and does to a handle: it holds a new decoder (0), or what it held.
 pub record OpensDecoder (rows : List Row) (header : List ℕ) (answer : ℕ) (before after : Handle) : Type 0 where
@@ -90,33 +105,36 @@ abbrev pub LeavesRefused : List ℕ → State → State → Type 0
 LeavesRefused bytes old new = IsErr (bytes_refusal old.configuration bytes) → new ≡ old
 
 -- memory is refused before a decoder has the packet
-abbrev pub StaysUnread : State → ℕ → State → Type 0
+abbrev pub StaysUnread : Decoder → ℕ → Decoder → Type 0
 StaysUnread old answer new = (answer ≡ 21) × (new ≡ old)
 
--- what a packet does to a decoder, and the number of what the decoder answers
-pub record TakesRead (old : State) (packet : Packet) (answer : ℕ) (new : State) : Type 0 where
+-- what a packet does to a decoder and to what it remembers, and the number of what the decoder answers
+pub record TakesRead (old : Decoder) (packet : Packet) (answer : ℕ) (new : Decoder) : Type 0 where
   pub result : Result (Unit {0}) Error
   pub number : answer ≡ refusal_number result
-  pub takes : TakesPacket old packet result new
+  pub takes : TakesPacket (state_of old) packet result (state_of new)
+  pub remembers : Remembers old packet result new
 
 -- What the bytes of a packet do to a decoder: what the packet does, and nothing where they are too short or memory is refused before it has the packet.
-pub record IsAdded (old : State) (bytes : List ℕ) (answer : ℕ) (new : State) : Type 0 where
-  pub refused : IsTakenNumber answer (bytes_refusal old.configuration bytes)
-  pub short : IsErr (read_packet bytes) → new ≡ old
+pub record IsAdded (old : Decoder) (bytes : List ℕ) (answer : ℕ) (new : Decoder) : Type 0 where
+  pub refused : IsTakenNumber answer (bytes_refusal (state_of old).configuration bytes)
+  pub short : IfErr (read_packet bytes) (λ e. (answer ≡ code_of e) × (new ≡ old))
   pub takes : IfOk (read_packet bytes) (λ packet. StaysUnread old answer new ⊎ TakesRead old packet answer new)
-  pub stops : answer ≡ 21 → StopsEarly old (packet_of_bytes bytes) new
-  pub leaves_late : answer ≡ 21 → LeavesBlockLate old (packet_of_bytes bytes) new
-  pub leaves_refused : answer ≡ 21 → LeavesRefused bytes old new
+  pub stops : answer ≡ 21 → StopsEarly (state_of old) (packet_of_bytes bytes) (state_of new)
+  pub leaves_late : answer ≡ 21 → LeavesBlockLate (state_of old) (packet_of_bytes bytes) (state_of new)
+  pub leaves_refused : answer ≡ 21 → LeavesRefused bytes (state_of old) (state_of new)
 
 -- what they do to the decoder that is held, if one is: 26 says that none is
-pub record TakesBytes (bytes : List ℕ) (answer : ℕ) (before after : Option State) : Type 0 where
+pub record TakesBytes (bytes : List ℕ) (answer : ℕ) (before after : Option Decoder) : Type 0 where
   pub none : (answer ≡ 26) ↔ (before ≡ None)
-  pub takes : Becomes before after (λ s t. IsAdded s bytes answer t)
+  pub takes : Becomes before after (λ old new. IsAdded old bytes answer new)
 
--- What a call answers and does to a buffer: it is filled with what the decoder answers that is held (0), or is as it was. 26 says that none is held.
+-- What a call answers and does to a buffer: it is filled with what the decoder answers that is held (0), or is as it was. 26 says that none is held,
+-- and 21 may come only where the object is complete.
 pub record FillsWithAnswer (held : Option State) (answer : ℕ) (before after : List ℕ) : Type 0 where
   pub none : (answer ≡ 26) ↔ (held ≡ None)
   pub refused : IfSome held (λ _. IsRefused answer (Ok tt))
+  pub complete : answer ≡ 21 → IsSomeAnd held (λ s. IsSome (result_of s))
   pub answered : IfSome held (λ s. Answered answer before after (IsAnswerOf s))
   pub kept : answer ≢ 0 → after ≡ before
 
@@ -188,11 +206,10 @@ pub record FillsWithPacket (held : Option Encoded) (block esi answer : ℕ) (bef
 
 -- how many packets more a decoder says that a block needs, no number being said of a contradictory one; another coder says nothing
 abbrev pub missing_in_coder : ℕ → Coder → Option (Option ℕ)
-missing_in_coder block (Decoder d) = Some (missing_of d block)
-missing_in_coder block _ = None
+missing_in_coder block k = option_map (λ d. missing_of d block) (decoder_in k)
 
 abbrev pub missing_of_handle : Handle → ℕ → Option (Option ℕ)
-missing_of_handle h block = option_and_then (missing_in_coder block) (coder_of h)
+missing_of_handle h block = option_map (λ d. missing_of d block) (decoder_of h)
 
 -- What a call answers and writes of a block of the decoder that is held: how many packets it needs (0), or nothing.
 -- 14 says that there is no such block, 22 that it is contradictory, and 26 that no decoder is held.

@@ -2,8 +2,7 @@
 ghost use Rattle.std.specs.Prelude.{◌≡◌, Some, None, IsSomeAnd, IfOk};
 ghost use Rattle.std.specs.Result.{result_unwrap_or};
 ghost use Rattle.rq_bytes.specs.Refusals.{Answers};
-ghost use Rattle.raptorq.specs.Decoder.{state_of};
-ghost use Rattle.raptorq_c.specs.Handles.{coder_of, decoder_in, decoder_of, missing_in_coder, missing_of_handle, FillsWithAnswer, FillsWithBlock, IsAdded, IsNewDecoder, OpensDecoder, TakesBytes, TellsComplete, WritesMissing};
+ghost use Rattle.raptorq_c.specs.Handles.{coder_of, decoder_in, decoder_of, state_in, state_of_handle, missing_in_coder, missing_of_handle, FillsWithAnswer, FillsWithBlock, IsAdded, IsNewDecoder, OpensDecoder, TakesBytes, TellsComplete, WritesMissing};
 ghost use Rattle.raptorq_c.specs.Numbers.{number_of, refusal_number};
 ghost use Rattle.raptorq_c.specs.Headers.{checked_header};
 
@@ -64,7 +63,7 @@ pub extern "C" fn reamertan_open_decoder(
 
 /// Takes the packet that bytes spell.
 pub(crate) fn add_bytes(alloc: Global, decoder: &mut Decoder, packet: &[u8]) -> Result<(), Error>
-    ensures { IsAdded (state_of decoder.old) packet.now (refusal_number result) (state_of decoder.new) }
+    ensures { IsAdded decoder.old packet.now (refusal_number result) decoder.new }
 {
     decoder.add_new_packet(EncodingPacket::deserialize(alloc, packet)?)
 }
@@ -84,8 +83,8 @@ fn add(alloc: Global, coder: &mut Coder, packet: &[u8]) -> Result<(), CallEnd>
 ///
 /// Answers 26 where the handle holds no decoder. Refuses bytes that are shorter than a payload id, and
 /// then what `Decoder::add_new_packet` refuses, a contradiction (22) last: the packet is then recorded.
-/// Want of memory may come before any of them, and a packet that isn't to be refused may then be
-/// recorded.
+/// Want of memory may come before what that call refuses. The packet may then be recorded, unless it
+/// is of a block that the object hasn't, or of another size.
 #[unsafe(no_mangle)]
 pub extern "C" fn reamertan_add_packet(alloc: Global, handle: &mut Handle, packet: &[u8]) -> u8
     ensures takes { TakesBytes packet.now result (decoder_of handle.old) (decoder_of handle.new) }
@@ -96,7 +95,7 @@ pub extern "C" fn reamertan_add_packet(alloc: Global, handle: &mut Handle, packe
 
 // Fills a buffer with the object, where the coder is a decoder.
 fn write(coder: &Coder, object: &mut [u8]) -> Result<(), CallEnd>
-    ensures { FillsWithAnswer (decoder_in coder.now) (number_of result) object.old object.new }
+    ensures { FillsWithAnswer (state_in coder.now) (number_of result) object.old object.new }
 {
     let Coder::Decoder(decoder) = coder else {
         return Err(CallEnd::NoCoder);
@@ -109,14 +108,14 @@ fn write(coder: &Coder, object: &mut [u8]) -> Result<(), CallEnd>
 ///
 /// Answers 26 where the handle holds no decoder, 25 where the packets don't determine the object or
 /// contradict each other, and then 24 where the buffer hasn't the object's length. Want of memory
-/// may come before 25 and 24.
+/// may come before 24.
 #[unsafe(no_mangle)]
 pub extern "C" fn reamertan_write_object(
     alloc: Global,
     handle: &mut Handle,
     object: &mut [u8],
 ) -> u8
-    ensures fills { FillsWithAnswer (decoder_of handle.old) result object.old object.new }
+    ensures fills { FillsWithAnswer (state_of_handle handle.old) result object.old object.new }
     ensures same { coder_of handle.new ≡ coder_of handle.old }
 {
     number(handle.fill(alloc, object, |coder, object| write(coder, object)))
@@ -124,7 +123,7 @@ pub extern "C" fn reamertan_write_object(
 
 // Fills a buffer with the object's bytes in a block, where the coder is a decoder.
 fn write_part(coder: &Coder, block: u8, bytes: &mut [u8]) -> Result<(), CallEnd>
-    ensures { FillsWithBlock (decoder_in coder.now) block (number_of result) bytes.old bytes.new }
+    ensures { FillsWithBlock (state_in coder.now) block (number_of result) bytes.old bytes.new }
 {
     let Coder::Decoder(decoder) = coder else {
         return Err(CallEnd::NoCoder);
@@ -148,7 +147,7 @@ pub extern "C" fn reamertan_write_block(
     block: u8,
     bytes: &mut [u8],
 ) -> u8
-    ensures fills { FillsWithBlock (decoder_of handle.old) block result bytes.old bytes.new }
+    ensures fills { FillsWithBlock (state_of_handle handle.old) block result bytes.old bytes.new }
     ensures same { coder_of handle.new ≡ coder_of handle.old }
 {
     number(handle.fill(alloc, bytes, |coder, bytes| write_part(coder, block, bytes)))
@@ -157,7 +156,7 @@ pub extern "C" fn reamertan_write_block(
 // How many packets more a block needs at least, where the coder is a decoder.
 fn missing_count(coder: &Coder, block: u8) -> Result<u32, CallEnd>
     // What a call does that writes it over a 0.
-    ensures writes { WritesMissing (decoder_in coder.now) block (number_of result) 0 (result_unwrap_or result 0) }
+    ensures writes { WritesMissing (state_in coder.now) block (number_of result) 0 (result_unwrap_or result 0) }
     ensures value { IfOk result (λ count. missing_in_coder block coder.now ≡ Some (Some count)) }
     ensures contradicted { number_of result ≡ 22 → missing_in_coder block coder.now ≡ Some None }
 {
@@ -182,7 +181,7 @@ pub extern "C" fn reamertan_missing_packets(
     block: u8,
     missing: &mut u32,
 ) -> u8
-    ensures writes { WritesMissing (decoder_of handle.old) block result missing.old missing.new }
+    ensures writes { WritesMissing (state_of_handle handle.old) block result missing.old missing.new }
     ensures value { result ≡ 0 → missing_of_handle handle.old block ≡ Some (Some missing.new) }
     ensures contradicted { result ≡ 22 → missing_of_handle handle.old block ≡ Some None }
     ensures same { coder_of handle.new ≡ coder_of handle.old }
@@ -198,7 +197,7 @@ pub extern "C" fn reamertan_missing_packets(
 
 // Tells whether the object is there, where the coder is a decoder.
 fn tell_complete(coder: &Coder) -> Result<(), CallEnd>
-    ensures { TellsComplete (decoder_in coder.now) (number_of result) }
+    ensures { TellsComplete (state_in coder.now) (number_of result) }
 {
     let Coder::Decoder(decoder) = coder else {
         return Err(CallEnd::NoCoder);
@@ -215,7 +214,7 @@ fn tell_complete(coder: &Coder) -> Result<(), CallEnd>
 /// Answers 26 where the handle holds no decoder, and 25 where the object isn't complete.
 #[unsafe(no_mangle)]
 pub extern "C" fn reamertan_is_complete(alloc: Global, handle: &mut Handle) -> u8
-    ensures tells { TellsComplete (decoder_of handle.old) result }
+    ensures tells { TellsComplete (state_of_handle handle.old) result }
     ensures same { coder_of handle.new ≡ coder_of handle.old }
 {
     number(handle.ask(alloc, |coder| tell_complete(coder)))

@@ -1,7 +1,6 @@
 //! Many packets taken in one call.
 ghost use Rattle.std.specs.Prelude.{◌≡◌, ◌<◌, None};
 ghost use Rattle.rq_standard.specs.Streams.{frames_in};
-ghost use Rattle.raptorq.specs.Decoder.{state_of};
 ghost use Rattle.raptorq_c.specs.Frames.{AddsFrames, AreAdded, TakesFrames};
 ghost use Rattle.raptorq_c.specs.Handles.{coder_of, decoder_in, decoder_of};
 ghost use Rattle.raptorq_c.specs.Numbers.{number_of, refusal_number};
@@ -22,7 +21,7 @@ fn add_frames(
     packets: &[u8],
 ) -> Result<(), Error>
     requires { 0 < size }
-    ensures { AddsFrames (frames_in size packets.now) (refusal_number result) (state_of decoder.old) (state_of decoder.new) }
+    ensures { AddsFrames (frames_in size packets.now) (refusal_number result) decoder.old decoder.new }
 {
     for frame in packets.chunks(size) {
         add_bytes(alloc, decoder, frame)?;
@@ -32,7 +31,7 @@ fn add_frames(
 
 // Takes them where the bytes are whole frames.
 fn add_whole(alloc: Global, decoder: &mut Decoder, packets: &[u8]) -> Result<(), Error>
-    ensures { AreAdded (state_of decoder.old) packets.now (refusal_number result) (state_of decoder.new) }
+    ensures { AreAdded decoder.old packets.now (refusal_number result) decoder.new }
 {
     let size = decoder.get_config().frame_size();
     if packets.len() % size != 0 {

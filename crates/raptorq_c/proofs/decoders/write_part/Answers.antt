@@ -3,7 +3,7 @@ use Rattle.std.specs.Option.{option_copied}
 use Rattle.rq_standard.specs.Configuration.{Configuration}
 use Rattle.raptorq.specs.Decoder.{state_of}
 use Rattle.raptorq.proofs.AnsweredParts.{parts_of_decoder}
-use Rattle.raptorq_c.specs.Handles.{FillsWithBlock, IsPartOf, decoder_in}
+use Rattle.raptorq_c.specs.Handles.{FillsWithBlock, IsPartOf, state_in}
 use Rattle.raptorq_c.specs.Numbers.{number_of}
 use Rattle.raptorq_c.proofs.HandleAnswers.{fills_block}
 use Rattle.raptorq_c.proofs.decoders.write_part.Goals as goal
@@ -18,5 +18,5 @@ returns c =
     let lent = c.block_bytes.ensures in
     let is : IsPartOf s c.args.block part = record { value = lent.bytes; object = lent.object; whole = parts_of_decoder c.in-Decoder.decoder } in
     let filled = c.fill_answer.ensures in
-    subst (λ k. FillsWithBlock (decoder_in k) c.args.block n c.args.bytes.now c.fill_answer.new.buffer) (sym c.in-Decoder.is)
+    subst (λ k. FillsWithBlock (state_in k) c.args.block n c.args.bytes.now c.fill_answer.new.buffer) (sym c.in-Decoder.is)
     (fills_block s c.args.block part c.fill_answer.result c.args.bytes.now c.fill_answer.new.buffer known is filled.number filled.answered filled.kept)

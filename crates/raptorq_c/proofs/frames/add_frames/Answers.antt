@@ -3,7 +3,6 @@ use Rattle.std.specs.Slice.Iter.{chunks_rest, chunks_size}
 use Rattle.std.proofs.lemmas.Result.{err_from_is_err_and}
 use Rattle.rq_standard.specs.Streams.{frames_in}
 use Rattle.rq_standard.proofs.FrameLaws.{frames_in-next, frames_in-none}
-use Rattle.raptorq.specs.Decoder.{state_of}
 use Rattle.raptorq_c.proofs.FrameSteps.{taken_none, taken_all, taken_more, taken_some}
 use Rattle.raptorq_c.proofs.frames.add_frames.Goals as goal
 
@@ -12,7 +11,7 @@ loop-frame-init c =
     let same = c.into_iter-frame-iterator.ensures.into_iter_gives in
     record {
       size = ap (λ d. chunks_size d) same ∙ c.chunks-frame-items.ensures.size;
-      taken = taken_none (state_of c.args.decoder.now) (frames_in c.args.size c.args.packets.now) _ (ap (frames_in c.args.size) (ap (λ d. chunks_rest d) same ∙ c.chunks-frame-items.ensures.rest));
+      taken = taken_none c.args.decoder.now (frames_in c.args.size c.args.packets.now) _ (ap (frames_in c.args.size) (ap (λ d. chunks_rest d) same ∙ c.chunks-frame-items.ensures.rest));
     }
 
 pub returns-in_err-add_bytes : goal.returns-in_err-add_bytes

@@ -1,7 +1,6 @@
 use Rattle.std.proofs.Common.{◌≡◌}
 use Rattle.std.specs.Slice.Iter.{chunks_size, chunks_rest}
 use Rattle.rq_standard.specs.Streams.{frames_in}
-use Rattle.raptorq.specs.Decoder.{state_of}
 use Rattle.raptorq_c.proofs.FrameSteps.{TakenBefore}
 use Rattle.raptorq_c.proofs.frames.add_frames.Given as goal
 
@@ -9,5 +8,5 @@ use Rattle.raptorq_c.proofs.frames.add_frames.Given as goal
 abbrev pub invariant-loop-frame : goal.invariant-loop-frame
 invariant-loop-frame l = record {
   size : chunks_size l.frame-iterator ≡ l.fn.size;
-  taken : TakenBefore (state_of l.fn.decoder) (frames_in l.fn.size l.fn.packets) (frames_in l.fn.size (chunks_rest l.frame-iterator)) (state_of l.decoder);
+  taken : TakenBefore l.fn.decoder (frames_in l.fn.size l.fn.packets) (frames_in l.fn.size (chunks_rest l.frame-iterator)) l.decoder;
 }
