@@ -1,6 +1,6 @@
 -- What calls on handles say, by what the coders say.
 use Rattle.std.proofs.Common.{◌≡◌, ◌≢◌, ◌⊎◌, ◌<◌, ℕ, Bool, true, false, List, length, Option, Some, Result, Ok, Err, refl, sym, ap, ◌∙◌, subst, arith, inl, inr}
-use Rattle.std.specs.Prelude.{IsErr, IfOk, IfErr, OnOk, OnErr, MatchResult, nat_lt, ◌==◌}
+use Rattle.std.specs.Prelude.{IsErr, IfOk, IfErr, OnOk, OnErr, MatchResult, nat_lt, ◌==◌, if◌then◌else◌}
 use Rattle.rq_bytes.specs.declared.error.Error.{Error}
 use Rattle.rq_bytes.specs.declared.error.Error.TheVariants.{OutOfMemory, Contradiction, UnknownBlock, WrongPayloadSize}
 use Rattle.rq_bytes.specs.Error.{code_of}
@@ -47,45 +47,41 @@ unanswered e before after P = record {
   incomplete = λ is. absurd (code_no_call e (omega (arith, is), omega (arith, is)));
 }
 
-filled_small : (number : ℕ) → IsFilled number → number < 26
-filled_small number (inl done) = omega (arith, done)
-filled_small number (inr (inl other_length)) = omega (arith, other_length)
-filled_small number (inr (inr incomplete)) = omega (arith, incomplete)
+-- whether it is a number that a call which fills a buffer with an answer ends with
+abbrev is_filled : ℕ → Bool
+is_filled n = if n == 0 then true else if n == 24 then true else n == 25
 
-filled_without_memory : (number : ℕ) → IsFilled number → number ≢ 21
-filled_without_memory number (inl done) is = omega (arith, done, is)
-filled_without_memory number (inr (inl other_length)) is = omega (arith, other_length, is)
-filled_without_memory number (inr (inr incomplete)) is = omega (arith, incomplete, is)
+numbered : (number : ℕ) → IsFilled number → is_filled number ≡ true
+numbered number (inl done) = ap is_filled done
+numbered number (inr (inl other_length)) = ap is_filled other_length
+numbered number (inr (inr incomplete)) = ap is_filled incomplete
+
+-- it ends with no other
+filled_otherwise : (n number : ℕ) → is_filled n ≡ false → IsFilled number → number ≢ n
+filled_otherwise n number other so is =
+    let none : true ≡ false = sym (numbered number so) ∙ ap is_filled is ∙ other in
+    cc none
 
 -- the decoder that is held answers
 pub fills_answer : (s : State) (ended : Result (Unit {0}) CallEnd) (before after : List ℕ) → IsFilled (number_of ended) → Answered (number_of ended) before after (IsAnswerOf s) → OnErr ended (after ≡ before) → FillsWithAnswer (Some s) (number_of ended) before after
-fills_answer s ended before after number answered kept =
-    let small = filled_small (number_of ended) number in
-    record {
-      none = (λ is. absurd (omega (arith, small, is)), λ none. absurd (cc none));
-      refused = inr number;
-      complete = λ is. absurd (filled_without_memory (number_of ended) number is);
-      answered = answered;
-      kept = is_stopped ended (after ≡ before) kept;
-    }
-
-filled_known : (number : ℕ) → IsFilled number → number ≢ 14
-filled_known number (inl done) is = omega (arith, done, is)
-filled_known number (inr (inl other_length)) is = omega (arith, other_length, is)
-filled_known number (inr (inr incomplete)) is = omega (arith, incomplete, is)
+fills_answer s ended before after number answered kept = record {
+  none = (λ is. absurd (filled_otherwise 26 (number_of ended) refl number is), λ none. absurd (cc none));
+  refused = inr number;
+  complete = λ is. absurd (filled_otherwise 21 (number_of ended) refl number is);
+  answered = answered;
+  kept = is_stopped ended (after ≡ before) kept;
+}
 
 -- the decoder that is held has the block's bytes, or none yet
 pub fills_block : (s : State) (block : ℕ) (part : Option (List ℕ)) (ended : Result (Unit {0}) CallEnd) (before after : List ℕ) → block < s.configuration.source_blocks → IsPartOf s block part
     → IsFilled (number_of ended) → Answered (number_of ended) before after (λ r. r ≡ part) → OnErr ended (after ≡ before) → FillsWithBlock (Some s) block (number_of ended) before after
-fills_block s block part ended before after known is number answered kept =
-    let small = filled_small (number_of ended) number in
-    record {
-      none = (λ other. absurd (omega (arith, small, other)), λ none. absurd (cc none));
-      number = inr number;
-      unknown = (λ other. absurd (filled_known (number_of ended) number other), λ over. absurd (omega (arith, known, over)));
-      answered = answered_by (IsPartOf s block) part (number_of ended) before after is answered;
-      kept = is_stopped ended (after ≡ before) kept;
-    }
+fills_block s block part ended before after known is number answered kept = record {
+  none = (λ other. absurd (filled_otherwise 26 (number_of ended) refl number other), λ none. absurd (cc none));
+  number = inr number;
+  unknown = (λ other. absurd (filled_otherwise 14 (number_of ended) refl number other), λ over. absurd (omega (arith, known, over)));
+  answered = answered_by (IsPartOf s block) part (number_of ended) before after is answered;
+  kept = is_stopped ended (after ≡ before) kept;
+}
 
 -- what the tests refuse of a packet is neither want of memory nor a contradiction
 tested : (b s : Bool) (e : Error) → IsPacketRefusal e (packet_tests b s) → IsErr (packet_tests b s) → (e ≢ OutOfMemory) × (e ≢ Contradiction)

@@ -204,12 +204,9 @@ pub record FillsWithPacket (held : Option Encoded) (block esi answer : ℕ) (bef
   pub other_length : answer ≡ 24 → IsSomeAnd held (λ e. HasOtherLength e block esi (length before))
   pub kept : answer ≢ 0 → after ≡ before
 
--- how many packets more a decoder says that a block needs, no number being said of a contradictory one; another coder says nothing
-abbrev pub missing_in_coder : ℕ → Coder → Option (Option ℕ)
-missing_in_coder block k = option_map (λ d. missing_of d block) (decoder_in k)
-
-abbrev pub missing_of_handle : Handle → ℕ → Option (Option ℕ)
-missing_of_handle h block = option_map (λ d. missing_of d block) (decoder_of h)
+-- how many packets more the decoder that is held says that a block needs, no number being said of a contradictory one
+abbrev pub missing_of_held : ℕ → Option Decoder → Option (Option ℕ)
+missing_of_held block held = option_map (λ d. missing_of d block) held
 
 -- What a call answers and writes of a block of the decoder that is held: how many packets it needs (0), or nothing.
 -- 14 says that there is no such block, 22 that it is contradictory, and 26 that no decoder is held.

@@ -2,7 +2,8 @@
 use Rattle.std.specs.Prelude.{◌≡◌, ◌≢◌, ◌⊎◌, ◌↔◌, ℕ, List, Bool, true, false, Option, Some, None, option_map}
 use Rattle.rq_block.specs.SourceBlockDecoder.{Solving}
 use Rattle.raptorq.specs.Decoder.{solving_of_blocks}
-use Rattle.raptorq_c.specs.Handles.{coder_of, decoder_in, decoder_of, state_of_handle, encoder_of, block_encoder_of, plan_of_handle}
+use Rattle.raptorq.specs.declared.decoder.object.Decoder.{Decoder}
+use Rattle.raptorq_c.specs.Handles.{coder_of, decoder_of, state_of_handle, encoder_of, block_encoder_of, plan_of_handle}
 use Rattle.raptorq_c.specs.declared.handle.Handle.{Handle}
 use Rattle.raptorq_c.specs.declared.owned.Coder.{Coder}
 use Rattle.raptorq_c.specs.declared.owned.Coder.TheVariants.{Encoder, Plan, BlockEncoder}
@@ -27,12 +28,9 @@ pub record Shares (answer : ℕ) (held before after : Handle) : Type 0 where
   pub plan : answer ≡ 0 → plan_of_handle after ≡ plan_of_handle held
   pub kept : answer ≢ 0 → coder_of after ≡ coder_of before
 
--- how the blocks of a decoder are solved: their sparse thresholds, and what the last attempts found
-abbrev pub solving_in : Coder → Option (List Solving)
-solving_in k = option_map solving_of_blocks (decoder_in k)
-
-abbrev pub solving_of_handle : Handle → Option (List Solving)
-solving_of_handle h = option_map solving_of_blocks (decoder_of h)
+-- how the blocks of the decoder that is held are solved: their sparse thresholds, and what the last attempts found
+abbrev pub solving_of_held : Option Decoder → Option (List Solving)
+solving_of_held held = option_map solving_of_blocks held
 
 -- What a call answers and does to a further handle: it holds a decoder that stands where that of the first one does, and solves its blocks as that one
 -- does (0), or what it held. 26 says that no decoder is held.
@@ -40,5 +38,5 @@ pub record CopiesDecoder (answer : ℕ) (held before after : Handle) : Type 0 wh
   pub none : (answer ≡ 26) ↔ (decoder_of held ≡ None)
   pub number : (answer ≡ 0) ⊎ (answer ≡ 21) ⊎ (answer ≡ 26)
   pub decoder : answer ≡ 0 → state_of_handle after ≡ state_of_handle held
-  pub solving : answer ≡ 0 → solving_of_handle after ≡ solving_of_handle held
+  pub solving : answer ≡ 0 → solving_of_held (decoder_of after) ≡ solving_of_held (decoder_of held)
   pub kept : answer ≢ 0 → coder_of after ≡ coder_of before

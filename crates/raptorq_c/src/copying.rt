@@ -1,8 +1,8 @@
 //! A further decoder that stands where another does.
 ghost use Rattle.std.specs.Prelude.{◌≡◌, ◌⊎◌, Some, None, IsSome, IfOk, IfErr, OnOk};
 ghost use Rattle.raptorq.specs.Decoder.{state_of, solving_of_blocks};
-ghost use Rattle.raptorq_c.specs.Handles.{coder_of, state_in};
-ghost use Rattle.raptorq_c.specs.Sharing.{solving_in, CopiesDecoder};
+ghost use Rattle.raptorq_c.specs.Handles.{coder_of, decoder_in, state_in};
+ghost use Rattle.raptorq_c.specs.Sharing.{solving_of_held, CopiesDecoder};
 
 use crate::call_end::{CallEnd, number};
 use crate::handle::Handle;
@@ -14,7 +14,7 @@ use std::alloc::{AllocError, Global};
 // A clone of a decoder.
 fn copied(alloc: Global, decoder: &Decoder) -> Result<Box<Coder>, AllocError>
     ensures decoder { IfOk result (λ b. state_in b.value ≡ Some (state_of decoder.now)) }
-    ensures solving { IfOk result (λ b. solving_in b.value ≡ Some (solving_of_blocks decoder.now)) }
+    ensures solving { IfOk result (λ b. solving_of_held (decoder_in b.value) ≡ Some (solving_of_blocks decoder.now)) }
 {
     Coder::Decoder(decoder.clone()?).boxed(alloc)
 }
@@ -22,10 +22,10 @@ fn copied(alloc: Global, decoder: &Decoder) -> Result<Box<Coder>, AllocError>
 // A clone of the decoder that a coder is, if it is one.
 fn copy_of(alloc: Global, coder: &Coder) -> Result<Box<Coder>, CallEnd>
     ensures decoder { IfOk result (λ b. state_in b.value ≡ state_in coder.now) }
-    ensures solving { IfOk result (λ b. solving_in b.value ≡ solving_in coder.now) }
-    ensures held { OnOk result (IsSome (state_in coder.now)) }
-    ensures refused { IfErr result (λ end. ((end ≡ CallEnd.NoCoder) × (state_in coder.now ≡ None))
-        ⊎ ((end ≡ CallEnd.Refused Error.OutOfMemory) × IsSome (state_in coder.now))) }
+    ensures solving { IfOk result (λ b. solving_of_held (decoder_in b.value) ≡ solving_of_held (decoder_in coder.now)) }
+    ensures held { OnOk result (IsSome (decoder_in coder.now)) }
+    ensures refused { IfErr result (λ end. ((end ≡ CallEnd.NoCoder) × (decoder_in coder.now ≡ None))
+        ⊎ ((end ≡ CallEnd.Refused Error.OutOfMemory) × IsSome (decoder_in coder.now))) }
 {
     let Coder::Decoder(decoder) = coder else {
         return Err(CallEnd::NoCoder);

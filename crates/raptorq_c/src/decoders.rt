@@ -2,7 +2,7 @@
 ghost use Rattle.std.specs.Prelude.{◌≡◌, Some, None, IsSomeAnd, IfOk};
 ghost use Rattle.std.specs.Result.{result_unwrap_or};
 ghost use Rattle.rq_bytes.specs.Refusals.{Answers};
-ghost use Rattle.raptorq_c.specs.Handles.{coder_of, decoder_in, decoder_of, state_in, state_of_handle, missing_in_coder, missing_of_handle, FillsWithAnswer, FillsWithBlock, IsAdded, IsNewDecoder, OpensDecoder, TakesBytes, TellsComplete, WritesMissing};
+ghost use Rattle.raptorq_c.specs.Handles.{coder_of, decoder_in, decoder_of, state_in, state_of_handle, missing_of_held, FillsWithAnswer, FillsWithBlock, IsAdded, IsNewDecoder, OpensDecoder, TakesBytes, TellsComplete, WritesMissing};
 ghost use Rattle.raptorq_c.specs.Numbers.{number_of, refusal_number};
 ghost use Rattle.raptorq_c.specs.Headers.{checked_header};
 
@@ -157,8 +157,8 @@ pub extern "C" fn reamertan_write_block(
 fn missing_count(coder: &Coder, block: u8) -> Result<u32, CallEnd>
     // What a call does that writes it over a 0.
     ensures writes { WritesMissing (state_in coder.now) block (number_of result) 0 (result_unwrap_or result 0) }
-    ensures value { IfOk result (λ count. missing_in_coder block coder.now ≡ Some (Some count)) }
-    ensures contradicted { number_of result ≡ 22 → missing_in_coder block coder.now ≡ Some None }
+    ensures value { IfOk result (λ count. missing_of_held block (decoder_in coder.now) ≡ Some (Some count)) }
+    ensures contradicted { number_of result ≡ 22 → missing_of_held block (decoder_in coder.now) ≡ Some None }
 {
     let Coder::Decoder(decoder) = coder else {
         return Err(CallEnd::NoCoder);
@@ -182,8 +182,8 @@ pub extern "C" fn reamertan_missing_packets(
     missing: &mut u32,
 ) -> u8
     ensures writes { WritesMissing (state_of_handle handle.old) block result missing.old missing.new }
-    ensures value { result ≡ 0 → missing_of_handle handle.old block ≡ Some (Some missing.new) }
-    ensures contradicted { result ≡ 22 → missing_of_handle handle.old block ≡ Some None }
+    ensures value { result ≡ 0 → missing_of_held block (decoder_of handle.old) ≡ Some (Some missing.new) }
+    ensures contradicted { result ≡ 22 → missing_of_held block (decoder_of handle.old) ≡ Some None }
     ensures same { coder_of handle.new ≡ coder_of handle.old }
 {
     match handle.ask(alloc, |coder| missing_count(coder, block)) {
