@@ -1,5 +1,5 @@
 -- The object's bytes in its blocks, one block after another, are the object.
-use Rattle.std.proofs.Common.{◌≡◌, ℕ, zero, suc, ◌+◌, ◌-◌, ◌*◌, ◌<◌, ◌≤◌, List, [], ◌∷◌, ◌++◌, All, length, get_or, take, drop, map, min, Bool, Option, Some, None, refl, sym, ap, ◌∙◌, subst, arith, inl, inr, append-nil, length-append, length-drop}
+use Rattle.std.proofs.Common.{◌≡◌, ℕ, zero, suc, ◌+◌, ◌-◌, ◌*◌, ◌<◌, ◌≤◌, List, [], ◌∷◌, ◌++◌, All, length, get_or, take, drop, map, min, Option, Some, None, refl, sym, ap, ◌∙◌, subst, arith, inl, inr, append-nil, length-append, length-drop}
 use Rattle.std.specs.Prelude.{option_map, vec_items, IfSome}
 use Rattle.std.specs.List.{range_with_len}
 use Rattle.std.specs.Option.{ForSome}
@@ -13,13 +13,16 @@ use Rattle.rq_standard.specs.Cutting.{block_symbols, symbols_before, block_bytes
 use Rattle.rq_standard.specs.Packet.{Packet}
 use Rattle.rq_standard.specs.ReceivedBlock.{ReceivedBlock}
 use Rattle.rq_standard.specs.DecoderState.{State, append_both, first_blocks}
-use Rattle.rq_standard.specs.Standing.{BlockStandsFor}
+use Rattle.rq_standard.specs.declared.row.TableRow.{TableRow}
+use Rattle.rq_standard.specs.Following.{Lateness}
 use Rattle.rq_standard.proofs.BlockCuts.{symbols_before-first, symbols_before-next}
+use Rattle.rq_standard.proofs.HonestBlocks.{BlockStandsFor, stands_block}
 use Rattle.rq_standard.proofs.ObjectAnswers.{answered, has_answer}
 use Rattle.rq_standard.proofs.PlainCut.{length-block_bytes}
 use Rattle.raptorq.specs.declared.decoder.object.Decoder.{Decoder}
 use Rattle.raptorq.specs.declared.decoder.object.ObjectBlock.{ObjectBlock}
-use Rattle.raptorq.specs.BlockBytes.{bytes_of_block, object_part, answered_part, PartsMakeObject, IsPartAnswer, AnswersPart}
+use Rattle.raptorq.specs.BlockBytes.{bytes_of_block, object_part, answered_part, PartsMakeObject}
+use Rattle.raptorq.specs.Laws.{PartsAreObjects}
 use Rattle.raptorq.specs.Decoder.{answer_of, state_of, HoldsBlock}
 use Rattle.rq_block.specs.SourceBlockDecoder.{received_of}
 use Rattle.raptorq.proofs.EncodedBlocks.{bytes_of_block-byte}
@@ -85,23 +88,22 @@ part_is c object b long =
     let same : length part ≡ length (bytes_of_block c object b) = omega (arith, size, length-take whole (drop start object), length-drop start object, long) in
     ext_get_or 0 part (bytes_of_block c object b) same (λ i below. get_or-take rest (block_bytes c object b) i 0 (omega (arith, below, size)) ∙ sym (bytes_of_block-byte c object b i))
 
-answered_is : (c : Configuration) (object : List ℕ) (packets : List Packet) (b : ℕ) (late : Bool) (h : ReceivedBlock) (a : Option (List ℕ)) → length object ≡ c.transfer_length → BlockStandsFor late (block_bytes c object b) b packets h a
+answered_is : (l : Lateness) (table : List TableRow) (c : Configuration) (object : List ℕ) (packets : List Packet) (b : ℕ) (h : ReceivedBlock) (a : Option (List ℕ)) → length object ≡ c.transfer_length → BlockStandsFor l table c object b packets h a
     → IfSome (option_map (object_part c b) a) (λ bytes. bytes ≡ bytes_of_block c object b)
-answered_is c object packets b late h None long stands = tt
-answered_is c object packets b late h (Some block) long stands = ap (object_part c b) stands.0 ∙ part_is c object b long
+answered_is l table c object packets b h None long stands = tt
+answered_is l table c object packets b h (Some block) long stands = ap (object_part c b) stands.0 ∙ part_is c object b long
 
-pub answers_part : (s : State) (b : ℕ) (r : Option (List ℕ)) → r ≡ answered_part s b → AnswersPart s b r
-answers_part s b r is table object packets late st below =
+pub parts_are_objects : PartsAreObjects
+parts_are_objects s b table object packets late st below =
     let c = s.configuration in
     let h = s.received b in
     let a = s.answer b in
-    let shape = st.shape b below in
-    let stands = st.block b below in
-    subst (IsPartAnswer table c object packets b (late b)) (sym is) (record {
-      part = answered_is c object packets b (late b) h a st.run.long stands;
-      only = λ some. (answered table object packets s (late b) b h a shape stands (sym (is_some-mapped (object_part c b) a) ∙ some)).1;
-      each = λ now determined. is_some-mapped (object_part c b) a ∙ has_answer table object packets s b h a shape (subst (λ l. BlockStandsFor l (block_bytes c object b) b packets h a) now stands) determined;
-    })
+    let stands = stands_block late table object packets s st b below in
+    record {
+      part = answered_is (late b) table c object packets b h a st.run.long stands;
+      only = λ some. (answered (late b) table c object packets b h a stands (sym (is_some-mapped (object_part c b) a) ∙ some)).1;
+      each = λ now determined. is_some-mapped (object_part c b) a ∙ has_answer (late b) table c object packets b h a stands now determined;
+    }
 
 -- ---- of blocks in a list
 

@@ -1,26 +1,24 @@
 -- A decoder that follows a list of packets refuses of the next one what is to be refused, and so of a whole list its first refusal.
-use Rattle.std.proofs.Common.{◌≡◌, ◌↔◌, ◌⊎◌, ℕ, ◌<◌, eqb, ltb, Bool, true, false, length, List, [], ◌∷◌, ◌++◌, Result, Ok, Err, Option, Some, None, refl, sym, ap, ◌∙◌, subst, inl, inr, append_assoc, append-nil, eq-eqb, arith}
-use Rattle.std.specs.Prelude.{IsSome, IfErr, MatchResult, is_some, is_err}
-use Rattle.std.proofs.lemmas.Bool.{cases_eq, ne_eqb, ltb-true}
+use Rattle.std.proofs.Common.{◌≡◌, ◌⊎◌, ℕ, ◌<◌, eqb, ltb, Bool, true, false, length, List, [], ◌∷◌, ◌++◌, Result, Ok, Err, Option, Some, None, refl, sym, ap, ◌∙◌, subst, inl, inr, append_assoc, append-nil}
+use Rattle.std.specs.Prelude.{IfErr, MatchResult, is_err}
+use Rattle.std.proofs.lemmas.Bool.{ltb-true}
 use Rattle.rq_bytes.specs.declared.error.Error.{Error}
-use Rattle.rq_bytes.specs.declared.error.Error.TheVariants.{OutOfMemory, Contradiction}
+use Rattle.rq_bytes.specs.declared.error.Error.TheVariants.{OutOfMemory}
 use Rattle.rq_bytes.specs.Refusals.{IsRefusal}
 use Rattle.rq_base.specs.RefusedInput.{checked_configuration}
 use Rattle.rq_standard.specs.declared.row.TableRow.{TableRow}
 use Rattle.rq_standard.specs.TableRows.{greatest_size}
 use Rattle.rq_standard.specs.Configuration.{Configuration}
-use Rattle.rq_standard.specs.Cutting.{block_symbols}
 use Rattle.rq_standard.specs.Packet.{Packet}
-use Rattle.rq_standard.specs.Headline.{block_row}
-use Rattle.rq_standard.specs.ReceivedBlock.{ReceivedBlock, with_received, CanAnswer, IsBlockAnswer, IsContradictory}
-use Rattle.rq_standard.specs.DecoderState.{State, IsReceivedOf, new_received, new_answer, IsNewState}
-use Rattle.rq_standard.specs.DecoderSteps.{AddsToBlock, Adds, Contradicts, received_after}
-use Rattle.rq_standard.specs.Following.{FollowsRun, IsFirstAnswer}
-use Rattle.rq_standard.proofs.FirstAnswers.{IsAnsweredBy, can_more, first_stays, first_now, first_none}
-use Rattle.rq_standard.proofs.KnownIds.{none_determined}
-use Rattle.rq_standard.proofs.Contradictions.{contradictory-no_answer, received_later, received_meanwhile, contradicted_after, received_more, received_none}
+use Rattle.rq_standard.specs.ReceivedBlock.{ReceivedBlock, with_received, CanAnswer, IsContradictory}
+use Rattle.rq_standard.specs.DecoderSteps.{AddsToBlock, RecordsInBlock, received_after}
+use Rattle.rq_standard.specs.Following.{InTime, Late, FollowsBlock}
+use Rattle.rq_standard.proofs.Contradictions.{contradictory-no_answer}
+use Rattle.rq_standard.proofs.FirstAnswers.{fewer_can}
+use Rattle.rq_standard.proofs.FollowingSteps.{received_later, recorded_after}
 use Rattle.rq_block.proofs.TakenPackets.{packet_tests}
-use Rattle.raptorq.specs.Refused.{packet_refusal, IsPacketRefusal}
+use Rattle.raptorq.specs.Laws.{TakenIsNext, RefusedIsNext}
+use Rattle.raptorq.specs.Refused.{packet_refusal}
 use Rattle.raptorq.specs.Runs.{ContradictsReceived, IsNextRefusal, IsRefusalBehind, IsRunRefusal, AnswersRun}
 
 -- ---- the tests
@@ -33,113 +31,39 @@ block_passes false s h = absurd (cc h)
 pub passes_below : (c : Configuration) (p : Packet) → packet_refusal c p ≡ Ok tt → p.id.block < c.source_blocks
 passes_below c p h = ltb-true p.id.block c.source_blocks (block_passes (ltb p.id.block c.source_blocks) (eqb (length p.payload) c.symbol_size) h)
 
--- ---- a block
+-- ---- a packet behind others
 
--- what a packet makes of its block
-module _ (table : List TableRow) (c : Configuration) (earlier : List Packet) (p : Packet) (old : ReceivedBlock) (new : ReceivedBlock) (after : Option (List ℕ)) where
-  abbrev b : ℕ
-  b = p.id.block
+no_lateness : InTime ≡ Late → ⊥
+no_lateness e = cc e
 
-  -- it is answered so, and isn't contradicted
-  added_here : (before : Option (List ℕ)) → AddsToBlock old before p new after → (before ≡ None → old ≡ received_after table c b earlier) → IsAnsweredBy table c b earlier before
-      → IsAnsweredBy table c b (earlier ++ p ∷ []) after × (ContradictsReceived table c earlier p → ⊥)
-  added_here None add holds answered =
-      let is : with_received old p.id.esi p.payload ≡ received_after table c b (earlier ++ p ∷ []) = ap (λ h. with_received h p.id.esi p.payload) (holds refl) ∙ received_later table c earlier p in
-      let answers : IsBlockAnswer (received_after table c b (earlier ++ p ∷ [])) after = subst (λ h. IsBlockAnswer h after) is add.answers in (
-        ((answers.some, answers.none), λ _. first_now table c b earlier p after (λ can. absurd (cc (answered.0.1 can))) answers),
-        λ x. contradictory-no_answer (with_received old p.id.esi p.payload) after add.answers (subst IsContradictory (sym is) x.contradictory),
-      )
-  added_here (Some bytes) add holds answered = (
-    ((λ some. can_more table c b earlier p (answered.0.0 refl), λ can. ap is_some add.1), λ _. subst (IsFirstAnswer table c b (earlier ++ p ∷ [])) (sym add.1) (first_stays table c b earlier p (Some bytes) (answered.1 refl))),
-    λ x. x.unanswered (answered.0.0 refl),
-  )
+module _ (table : List TableRow) (c : Configuration) (earlier : List Packet) (p : Packet) (old new : ReceivedBlock) where
+  fits_here : (before after : Option (List ℕ)) → FollowsBlock InTime table c p.id.block earlier old before → AddsToBlock old before p new after → ContradictsReceived table c earlier p → ⊥
+  fits_here None after f add x =
+      let is : with_received old p.id.esi p.payload ≡ received_after table c p.id.block (earlier ++ p ∷ []) = ap (λ h. with_received h p.id.esi p.payload) f.0 ∙ received_later table c earlier p in
+      contradictory-no_answer (with_received old p.id.esi p.payload) after add.answers (subst IsContradictory (sym is) x.contradictory)
+  fits_here (Some bytes) after f add x = x.unanswered (fewer_can table c p.id.block earlier f.count (f.answers.some refl))
 
--- ---- all blocks
-
-module _ (table : List TableRow) (earlier : List Packet) (p : Packet) (old new : State) (follows : FollowsRun table earlier old) where
-  -- what it makes of its block
-  added : p.id.block < old.configuration.source_blocks → Adds old p new → IsAnsweredBy table old.configuration p.id.block (earlier ++ p ∷ []) (new.answer p.id.block) × (ContradictsReceived table old.configuration earlier p → ⊥)
-  added within add =
-      let b = p.id.block in
-      added_here table old.configuration earlier p (old.received b) (new.received b) (new.answer b) (old.answer b) add.here (follows.received b within) (follows.answers b within, follows.first b within)
-
-  -- a packet that is taken doesn't contradict what was received,
-  pub taken_fits : p.id.block < old.configuration.source_blocks → Adds old p new → ContradictsReceived table old.configuration earlier p → ⊥
-  taken_fits within add = (added within add).1
-
-  -- and each block is answered so
-  answered_more : p.id.block < old.configuration.source_blocks → Adds old p new → (b : ℕ) → b < new.configuration.source_blocks → IsAnsweredBy table new.configuration b (earlier ++ p ∷ []) (new.answer b)
-  answered_more within add b below =
-      let c = old.configuration in
-      let in_old : b < c.source_blocks = subst (λ (k : Configuration). b < k.source_blocks) add.elsewhere.configuration below in
-      subst (λ (k : Configuration). IsAnsweredBy table k b (earlier ++ p ∷ []) (new.answer b)) (sym add.elsewhere.configuration)
-      (elim (cases_eq p.id.block b) [
-        | inl e ↦ subst (λ n. IsAnsweredBy table c n (earlier ++ p ∷ []) (new.answer n)) e (added within add).0
-        | inr ne ↦
-            let same : old.answer b ≡ new.answer b = sym (add.elsewhere.other b in_old (λ e. ne (sym e))).1 in
-            subst (IsAnsweredBy table c b (earlier ++ p ∷ [])) same (
-              subst (λ h. IsSome (old.answer b) ↔ CanAnswer h) (received_meanwhile table c b earlier p ne) (follows.answers b in_old),
-              λ some. first_stays table c b earlier p (old.answer b) (follows.first b in_old some),
-            )
-      ])
-
-  -- so they are followed
-  pub follows_more : p.id.block < old.configuration.source_blocks → Adds old p new → FollowsRun table (earlier ++ p ∷ []) new
-  follows_more within add = record {
-    received = received_more old p new within add table earlier follows.received;
-    answers = λ b below. (answered_more within add b below).0;
-    first = λ b below. (answered_more within add b below).1;
-  }
-
-  contradicted : p.id.block < old.configuration.source_blocks → Contradicts old p new → ContradictsReceived table old.configuration earlier p
-  contradicted within x =
-      let b = p.id.block in
+  contradicts_here : (before after : Option (List ℕ)) → FollowsBlock InTime table c p.id.block earlier old before → RecordsInBlock old before p new after → IsContradictory new → ContradictsReceived table c earlier p
+  contradicts_here before after f r x =
+      let open_block = subst (FollowsBlock InTime table c p.id.block earlier old) r.unanswered f in
       record {
-        unanswered = λ can. absurd (cc (ap is_some x.records.here.unanswered, (follows.answers b within).1 can));
-        contradictory = contradicted_after table earlier old p new within follows.received x;
+        unanswered = λ can. open_block.1 no_lateness (subst CanAnswer (sym open_block.0) can);
+        contradictory = subst IsContradictory (recorded_after table c earlier p InTime old new before after f r) x;
       }
 
-  -- one that is refused is refused for what is to be, memory aside
-  pub refused_next : (e : Error) → IsPacketRefusal e (packet_refusal old.configuration p) → (e ≡ Contradiction → Contradicts old p new) → (e ≡ OutOfMemory) ⊎ IsNextRefusal table old.configuration earlier p (Err e)
-  refused_next e refused contradicts = by_tests (packet_refusal old.configuration p) refl refused where
-    by_tests : (r : Result (Unit {0}) Error) → packet_refusal old.configuration p ≡ r → IsPacketRefusal e r → (e ≡ OutOfMemory) ⊎ IsNextRefusal table old.configuration earlier p (Err e)
-    by_tests (Ok u) passes (inl memory) = inl memory
-    by_tests (Ok u) passes (inr is) = inr (inr (passes, is, contradicted (passes_below old.configuration p passes) (contradicts is)))
-    by_tests (Err w) tested is = inr (inl (tested ∙ ap (λ x. Err x) (sym is)))
+-- one that is taken doesn't contradict what was received
+pub taken_is_next : TakenIsNext
+taken_is_next table earlier p old new follows passes add =
+    let b = p.id.block in
+    (passes, fits_here table old.configuration earlier p (old.received b) (new.received b) (old.answer b) (new.answer b) (follows.block b (passes_below old.configuration p passes)) add.here)
 
--- ---- before any packet
-
--- a block is answered then exactly where it has no symbols
-new_answers : (table : List TableRow) (c : Configuration) (b : ℕ) → IsReceivedOf table c b (new_received table c b) → IsAnsweredBy table c b [] (new_answer c b)
-new_answers table c b shape = elim (cases_eq (block_symbols c b) 0) [
-  | inl none ↦
-      let a : Some [] ≡ new_answer c b = sym (rw (eq-eqb (block_symbols c b) 0 none) refl) in
-      subst (IsAnsweredBy table c b []) a ((λ _. inl (record { each = λ e below. absurd (omega (arith, none)) }), λ _. refl), λ _. first_none table c b shape.checked none)
-  | inr some ↦
-      let a : None ≡ new_answer c b = sym (rw (ne_eqb (block_symbols c b) 0 some) refl) in
-      subst (IsAnsweredBy table c b []) a (
-        (
-          λ is. absurd (cc is),
-          λ can. absurd (elim can [
-            | inl all ↦ let first : false ≡ true = all.each 0 (omega (arith, some)) in cc first
-            | inr d ↦ none_determined (block_row table c b) (block_symbols c b) (omega (arith, some)) shape.fits d
-          ]),
-        ),
-        λ is. absurd (cc is),
-      )
-]
-
-pub follows_no_packets : (table : List TableRow) (c : Configuration) (s : State) → ((b : ℕ) → b < c.source_blocks → IsReceivedOf table c b (new_received table c b)) → IsNewState table c s → FollowsRun table [] s
-follows_no_packets table c s shape new = record {
-  received = received_none table c s new;
-  answers = λ b below. (answered b below).0;
-  first = λ b below. (answered b below).1;
-} where
-  answered : (b : ℕ) → b < s.configuration.source_blocks → IsAnsweredBy table s.configuration b [] (s.answer b)
-  answered b below =
-      let in_new : b < c.source_blocks = subst (λ (k : Configuration). b < k.source_blocks) new.configuration below in
-      subst (λ (k : Configuration). IsAnsweredBy table k b [] (s.answer b)) (sym new.configuration)
-      (subst (IsAnsweredBy table c b []) (sym (new.answer b in_new)) (new_answers table c b (shape b in_new)))
+-- one that is refused is refused for what is to be, memory aside
+pub refused_is_next : RefusedIsNext
+refused_is_next table earlier p old new e follows (inl tested) = inr (inl tested.0)
+refused_is_next table earlier p old new e follows (inr (inl memory)) = inl memory.1
+refused_is_next table earlier p old new e follows (inr (inr x)) =
+    let b = p.id.block in
+    inr (inr (x.0, x.1, contradicts_here table old.configuration earlier p (old.received b) (new.received b) (old.answer b) (new.answer b) (follows.block b (passes_below old.configuration p x.0)) x.2.records.here x.2.contradictory))
 
 -- ---- a list of packets
 

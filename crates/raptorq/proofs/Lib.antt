@@ -9,6 +9,5 @@ pub mod Lists
 pub mod ObjectBlocks
 pub mod Remembered
 pub mod RememberedHere
-pub mod ResultAnswers
 pub mod Stops
 pub mod Witnesses

@@ -1,5 +1,5 @@
 -- A list of an object's packets, taken one by one.
-use Rattle.std.proofs.Common.{◌≡◌, ◌↔◌, ℕ, false, List, [], ◌∷◌, ◌++◌, length, Ok, Option, refl, sym, ap, ◌∙◌, subst, append_assoc, append-nil, length-append, eq-eqb}
+use Rattle.std.proofs.Common.{◌≡◌, ◌↔◌, ℕ, List, [], ◌∷◌, ◌++◌, length, Ok, refl, sym, ap, ◌∙◌, subst, append_assoc, append-nil, length-append, eq-eqb}
 use Rattle.std.specs.Prelude.{IsSome}
 use Rattle.std.specs.List.{AllByRecursion}
 use Rattle.std.proofs.lemmas.Bool.{lt-ltb}
@@ -11,8 +11,11 @@ use Rattle.rq_standard.specs.Headline.{IsHonestRun, IsOnlyObject, block_row, blo
 use Rattle.rq_standard.specs.declared.row.TableRow.{TableRow}
 use Rattle.rq_standard.specs.TableRows.{IsChecked}
 use Rattle.rq_standard.specs.Equations.{internal_id}
-use Rattle.rq_standard.specs.DecoderState.{State}
-use Rattle.rq_standard.specs.Standing.{StandsFor, AnswersObject, AnswersOnlyObject}
+use Rattle.rq_standard.specs.DecoderState.{State, result_of}
+use Rattle.rq_standard.specs.Following.{InTime, FollowsRun}
+use Rattle.rq_standard.specs.Standing.{StandsFor, IsHonestPacket}
+use Rattle.rq_standard.proofs.ObjectAnswers.{answers_object}
+use Rattle.rq_standard.proofs.OtherObjects.{answers_only}
 use Rattle.rq_standard.proofs.Columns.{sum_symbol}
 use Rattle.raptorq.specs.Refused.{packet_refusal}
 use Rattle.raptorq.specs.Runs.{packets_of}
@@ -20,6 +23,10 @@ use Rattle.raptorq.specs.Runs.{packets_of}
 pub all_at : (P : Packet → Type 0) (front rest : List Packet) (p : Packet) → AllByRecursion P (front ++ p ∷ rest) → P p
 all_at P [] rest p h = h.0
 all_at P (x ∷ front) rest p h = all_at P front rest p h.1
+
+pub all_front : (P : Packet → Type 0) (front rest : List Packet) → AllByRecursion P (front ++ rest) → AllByRecursion P front
+all_front P [] rest h = tt
+all_front P (x ∷ front) rest h = (h.0, all_front P front rest h.1)
 
 -- a packet of the object carries a symbol
 pub length-payload : (table : List TableRow) (c : Configuration) (object : List ℕ) (p : Packet) → IsChecked (block_row table c p.id.block) → IsPacketOf table c object p → length p.payload ≡ c.symbol_size
@@ -43,13 +50,6 @@ packet_refusal-packet table c object p checked h =
 pub packets_of-push : (done : List (ℕ × Packet)) (step : ℕ × Packet) → packets_of (done ++ step ∷ []) ≡ packets_of done ++ step.1 ∷ []
 packets_of-push done step = map-append (λ (s : ℕ × Packet). s.1) done (step ∷ [])
 
-module _ (table : List TableRow) where
-  -- the next packet of a list is one of the object's
-  pub step_honest : (c d : Configuration) (object : List ℕ) (all done left : List (ℕ × Packet)) (step : ℕ × Packet) → d ≡ c → all ≡ done ++ step ∷ left → IsHonestRun table c object (packets_of all) → IsPacketOf table d object step.1
-  step_honest c d object all done left step same whole run =
-      subst (λ k. IsPacketOf table k object step.1) (sym same)
-      (all_at (IsPacketOf table c object) (packets_of done) (packets_of left) step.1 (subst (AllByRecursion (IsPacketOf table c object)) (ap packets_of whole ∙ map-append (λ (s : ℕ × Packet). s.1) done (step ∷ left)) run.honest))
-
 pub next_whole : {X : Type 0} → (all done rest left : List X) (x : X) → all ≡ done ++ rest → rest ≡ x ∷ left → all ≡ (done ++ x ∷ []) ++ left
 next_whole all done rest left x whole is = whole ∙ ap (λ l. done ++ l) is ∙ sym (append_assoc done (x ∷ []) left)
 
@@ -57,11 +57,26 @@ next_whole all done rest left x whole is = whole ∙ ap (λ l. done ++ l) is ∙
 pub done_is_all : {X : Type 0} → (all done rest : List X) → all ≡ done ++ rest → rest ≡ [] → done ≡ all
 done_is_all all done rest whole none = sym (whole ∙ ap (λ l. done ++ l) none ∙ append-nil done)
 
-module _ (table : List TableRow) (c : Configuration) (all : List Packet) (s : State) (r : Option (List ℕ)) (same : s.configuration ≡ c) (stands : (object : List ℕ) → IsHonestRun table c object all → StandsFor table object all s) where
+module _ (table : List TableRow) (c : Configuration) (packets : List Packet) (s : State) (same : s.configuration ≡ c) (follows : FollowsRun table packets s) where
+  -- a decoder that follows an honest run stands for it
+  stands : (object : List ℕ) → IsHonestRun table c object packets → StandsFor table object packets s
+  stands object run = record { run = subst (λ k. IsHonestRun table k object packets) (sym same) run; follows = follows }
+
   -- the answer after the whole list
-  pub answers_exactly : AnswersObject s r → AnswersExactly table c all r
-  answers_exactly is object run = subst (λ k. IsObjectAnswer table k object all r) same (is table object all (λ _. false) (stands object run) (λ b. refl))
+  pub answers_exactly : AnswersExactly table c packets (result_of s)
+  answers_exactly object run = subst (λ k. IsObjectAnswer table k object packets (result_of s)) same (answers_object s table object packets _ (stands object run) (λ b e. absurd (cc e)))
 
   -- an answer exactly where no other object fits the list
-  pub answers_where_any_can : AnswersOnlyObject s r → AnswersWhereAnyCan table c all r
-  answers_where_any_can is object run = subst (λ k. IsSome r ↔ IsOnlyObject table k all object) same (is table object all (stands object run))
+  pub answers_where_any_can : AnswersWhereAnyCan table c packets (result_of s)
+  answers_where_any_can object run = subst (λ k. IsSome (result_of s) ↔ IsOnlyObject table k packets object) same (answers_only s table object packets _ (stands object run) (λ b e. absurd (cc e)))
+
+  -- the next packet of an honest run
+  pub next_honest : (object : List ℕ) (rest : List Packet) (p : Packet) → IsHonestRun table c object (packets ++ p ∷ rest) → IsHonestPacket s p
+  next_honest object rest p run = record {
+    table = table;
+    object = object;
+    packets = packets;
+    late = λ _. InTime;
+    stands = stands object (record { long = run.long; nonsingular = run.nonsingular; honest = all_front (IsPacketOf table c object) packets (p ∷ rest) run.honest });
+    of_object = subst (λ k. IsPacketOf table k object p) (sym same) (all_at (IsPacketOf table c object) packets rest p run.honest);
+  }

@@ -17,15 +17,15 @@ use Rattle.rq_standard.specs.Cutting.{block_symbols}
 use Rattle.rq_standard.specs.TableRows.{no_row}
 use Rattle.rq_standard.specs.ReceivedBlock.{ReceivedBlock, nothing_received, IsContradictory}
 use Rattle.rq_standard.specs.DecoderState.{State, new_received, new_answer, IsNewState, append_both, first_blocks, result_of}
-use Rattle.rq_standard.specs.DecoderSteps.{AddsToBlock, RecordsInBlock, IsSameElsewhere, Adds, RecordsOnly}
-use Rattle.rq_standard.proofs.ObjectAnswers.{joined_some, joined_each}
+use Rattle.rq_standard.specs.DecoderSteps.{AddsToBlock, RecordsInBlock, IsSameElsewhere, Adds, RecordsOnly, StopsEarly}
+use Rattle.rq_standard.proofs.ObjectAnswers.{joined_some, joined_each, not_complete}
 use Rattle.rq_standard.proofs.OptionValues.{is_some-mapped, none_is}
 use Rattle.rq_block.specs.SourceBlockDecoder.{Solving, received_of, solving_of}
 use Rattle.rq_block.specs.declared.decoder.last_outcome.LastOutcome.TheVariants.{Untried}
 use Rattle.raptorq.specs.Decoder.{received_at, answer_at, answer_of, solving_at, IsBlockAt}
 use Rattle.raptorq.specs.Remembering.{Remembers, RemembersHere}
 use Rattle.rq_block.specs.RefusedBlocks.{block_refusal}
-use Rattle.raptorq.specs.Stopping.{AddsHereOrStops, AddsOrStops}
+use Rattle.raptorq.specs.TakesPacket.{AddsHereOrStops, TakesPacket}
 use Rattle.raptorq.specs.Refused.{packet_refusal}
 use Rattle.rq_block.proofs.Numbered.{length-mapped, length-numbered, mapped_through, some_at}
 use Rattle.raptorq.specs.declared.decoder.object.ObjectBlock.{ObjectBlock}
@@ -149,7 +149,7 @@ module _ (c : Configuration) (items : List ObjectBlock) (p : Packet) (x y : Obje
 
   -- what the packet did to its block it did to the object's decoder
   pub takes_at : (result : Result (Unit {0}) Error) → packet_refusal c p ≡ Ok tt
-      → AddsHereOrStops (received_of x.decoder) (answer_of x) p result (received_of y.decoder) (answer_of y) → AddsOrStops (state c items) p result (state c (set items p.id.block y))
+      → AddsHereOrStops (received_of x.decoder) (answer_of x) p result (received_of y.decoder) (answer_of y) → TakesPacket StopsEarly (state c items) p result (state c (set items p.id.block y))
   takes_at (Ok u) passes so = (passes, adds_at so)
   takes_at (Err e) passes (inl (is, inl same)) = inr (inl (passes, is, inl (stays_at same.0 same.1)))
   takes_at (Err e) passes (inl (is, inr more)) = inr (inl (passes, is, inr (records_at more)))
@@ -158,13 +158,6 @@ module _ (c : Configuration) (items : List ObjectBlock) (p : Packet) (x y : Obje
       inr (inr (passes, found.0, record { records = records_at found.1; contradictory = subst IsContradictory (sym there) found.2 }))
 
 -- ---- all blocks joined
-
--- a block without an answer
-pub not_complete : (s : State) (b : ℕ) → b < s.configuration.source_blocks → s.answer b ≡ None → is_some (result_of s) ≡ false
-not_complete s b below none = by_cases (is_some (result_of s)) refl where
-  by_cases : (t : Bool) → t ≡ is_some (result_of s) → is_some (result_of s) ≡ false
-  by_cases false e = sym e
-  by_cases true e = absurd (cc (joined_each s.answer s.configuration.source_blocks (sym (is_some-mapped (take s.configuration.transfer_length) (first_blocks s.configuration.source_blocks s.answer)) ∙ sym e) b below, none))
 
 pub unwrapped : (o : Option (List ℕ)) → IsSome o → o ≡ Some (unwrap_or o [])
 unwrapped None h = absurd (cc h)

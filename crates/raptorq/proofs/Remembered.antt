@@ -11,7 +11,7 @@ use Rattle.raptorq.specs.declared.decoder.object.Decoder.{Decoder}
 use Rattle.raptorq.specs.Decoder.{state_of}
 use Rattle.raptorq.specs.Refused.{packet_refusal}
 use Rattle.raptorq.specs.Remembering.{Remembers}
-use Rattle.raptorq.proofs.ObjectBlocks.{not_complete}
+use Rattle.rq_standard.proofs.ObjectAnswers.{not_complete}
 
 -- all stays
 pub remembers_refused : {X : Type 0} (d : Decoder) (p : Packet) (e : Error) → packet_refusal (state_of d).configuration p ≡ Err e → Remembers {X = X} d p (Err e) d

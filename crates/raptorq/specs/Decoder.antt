@@ -3,8 +3,7 @@ use Rattle.std.specs.Prelude.{◌≡◌, ◌<◌, ◌≤◌, ℕ, List, Option, 
 use Rattle.rq_standard.specs.TableRows.{no_row}
 use Rattle.rq_standard.specs.Configuration.{Configuration}
 use Rattle.rq_standard.specs.ReceivedBlock.{ReceivedBlock, nothing_received}
-use Rattle.rq_standard.specs.DecoderState.{State, result_of}
-use Rattle.rq_standard.specs.Standing.{AnswersObject, AnswersNothingElse, AnswersOnlyObject}
+use Rattle.rq_standard.specs.DecoderState.{State}
 use Rattle.raptorq.specs.declared.decoder.object.ObjectBlock.{ObjectBlock}
 use Rattle.raptorq.specs.declared.decoder.object.Decoder.{Decoder}
 use Rattle.rq_block.specs.declared.decoder.last_outcome.LastOutcome.TheVariants.{Untried}
@@ -47,10 +46,3 @@ pub record HoldsBlock (s : State) (number : ℕ) (block : ObjectBlock) : Type 0 
 -- it is found, exactly where the object has one of that number
 abbrev pub IsBlockAt : State → ℕ → Option ObjectBlock → Type 0
 IsBlockAt s number found = MatchOption found (s.configuration.source_blocks ≤ number) (HoldsBlock s number)
-
--- what a decoder answers: the object, exactly where its packets determine it
-pub record IsAnswerOf (s : State) (answer : Option (List ℕ)) : Type 0 where
-  pub value : answer ≡ result_of s
-  pub object : AnswersObject s answer
-  pub nothing_else : AnswersNothingElse s answer
-  pub only_object : AnswersOnlyObject s answer

@@ -10,6 +10,5 @@ pub mod Offsets
 pub mod Refused
 pub mod Remembering
 pub mod Runs
-pub mod Stopping
 pub mod TakesPacket
 pub mod Unanswered

@@ -9,9 +9,7 @@ use Rattle.rq_standard.specs.Configuration.{Configuration}
 use Rattle.rq_standard.specs.Headline.{IsHonestRun}
 use Rattle.rq_standard.specs.ReceivedBlock.{CanAnswer, IsContradictory}
 use Rattle.rq_standard.specs.Packet.{Packet}
-use Rattle.rq_standard.specs.DecoderState.{State}
 use Rattle.rq_standard.specs.DecoderSteps.{received_after}
-use Rattle.rq_standard.specs.Following.{FollowsRun}
 use Rattle.rq_base.specs.RefusedInput.{checked_configuration}
 use Rattle.raptorq.specs.Refused.{packet_refusal}
 
@@ -35,15 +33,6 @@ abbrev pub IsNextRefusal : List TableRow → Configuration → List Packet → P
 IsNextRefusal table c earlier p (Ok x) = (packet_refusal c p ≡ Ok tt) × ¬ (ContradictsReceived table c earlier p)
 IsNextRefusal table c earlier p (Err e) =
     (packet_refusal c p ≡ Err e) ⊎ ((packet_refusal c p ≡ Ok tt) × (e ≡ Contradiction) × ContradictsReceived table c earlier p)
-
--- what is answered of it: want of memory may come in place of any
-abbrev pub AnswersNext : {X : Type 0} → List TableRow → Configuration → List Packet → Packet → Result X Error → Type 0
-AnswersNext table c earlier p (Ok x) = IsNextRefusal table c earlier p (Ok tt)
-AnswersNext table c earlier p (Err e) = (e ≡ OutOfMemory) ⊎ IsNextRefusal table c earlier p (Err e)
-
--- a decoder that followed a list follows it with a packet more
-abbrev pub FollowsMore : State → Packet → State → Type 0
-FollowsMore old p new = (table : List TableRow) (earlier : List Packet) → FollowsRun table earlier old → FollowsRun table (earlier ++ p ∷ []) new
 
 -- the first refusal of a list of packets behind earlier ones
 abbrev pub IsRefusalBehind : List TableRow → Configuration → List Packet → List Packet → Result (Unit {0}) Error → Type 0

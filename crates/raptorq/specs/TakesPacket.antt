@@ -1,35 +1,30 @@
--- What a decoder of an object does with a packet, whoever sent it.
-use Rattle.std.specs.Prelude.{◌≡◌, ◌≢◌, List, Result, Ok, IfErr, OnOk}
+-- What a packet does to a decoder, whoever sent it: one relation of what was, what is returned, and what is then.
+use Rattle.std.specs.Prelude.{◌≡◌, ◌⊎◌, ℕ, List, Option, Result, Ok, Err}
 use Rattle.rq_bytes.specs.declared.error.Error.{Error}
 use Rattle.rq_bytes.specs.declared.error.Error.TheVariants.{OutOfMemory, Contradiction}
-use Rattle.rq_standard.specs.declared.row.TableRow.{TableRow}
+use Rattle.rq_standard.specs.ReceivedBlock.{ReceivedBlock, IsContradictory}
 use Rattle.rq_standard.specs.Packet.{Packet}
 use Rattle.rq_standard.specs.DecoderState.{State}
-use Rattle.rq_standard.specs.DecoderSteps.{Adds, Contradicts, IsBlockContradictory, KeepsContradictions, HasReceivedMore}
-use Rattle.rq_standard.specs.Standing.{IsHonestPacket, StandsForMore, AnswersLateBlock}
-use Rattle.raptorq.specs.Refused.{packet_refusal, IsPacketRefusal}
-use Rattle.rq_standard.specs.Following.{FollowsRun}
-use Rattle.raptorq.specs.Runs.{AnswersNext, FollowsMore}
+use Rattle.rq_standard.specs.DecoderSteps.{AddsToBlock, RecordsInBlock, Adds, Contradicts}
+use Rattle.raptorq.specs.Refused.{packet_refusal}
 
-pub record TakesPacket {X : Type 0} (old : State) (packet : Packet) (result : Result X Error) (new : State) : Type 0 where
-  -- a refusal is the tests', in their order, or comes where these refuse nothing
-  pub refused : IfErr result (λ e. IsPacketRefusal e (packet_refusal old.configuration packet))
-  pub accepted : OnOk result (packet_refusal old.configuration packet ≡ Ok tt)
-  -- a refusal by the tests changes nothing
-  pub unchanged : IfErr result (λ e. e ≢ OutOfMemory → e ≢ Contradiction → new ≡ old)
-  -- what is kept of what was received of its block, and its answer then
-  pub adds : OnOk result (Adds old packet new)
-  pub configuration : new.configuration ≡ old.configuration
-  -- a contradiction: the packet is recorded, and so is each later one of its block, which is refused too
-  pub contradiction : IfErr result (λ e. e ≡ Contradiction → Contradicts old packet new)
-  pub received : OnOk result (HasReceivedMore old packet new)
-  pub goes_on : OnOk result (IsBlockContradictory old packet.id.block → ⊥)
-  pub keeps : KeepsContradictions old new
-  -- behind packets that the decoder follows, exactly what is to be refused is
-  pub next : (table : List TableRow) (earlier : List Packet) → FollowsRun table earlier old → AnswersNext table old.configuration earlier packet result
-  pub follows : OnOk result (FollowsMore old packet new)
-  -- a packet of the object for whose packets the decoder stands is refused for want of memory alone
-  pub honest : IfErr result (λ e. IsHonestPacket old packet → e ≡ OutOfMemory)
-  -- from a decoder that stands for a list, one that stands for the longer list
-  pub stands : OnOk result (StandsForMore old packet new)
-  pub answers_late : OnOk result (AnswersLateBlock old packet new)
+-- What a packet of a block did to what was received and to its answer. Where memory is refused it did nothing, or is recorded; where the
+-- block is contradictory, it is recorded.
+abbrev pub AddsHereOrStops : ReceivedBlock → Option (List ℕ) → Packet → Result (Unit {0}) Error → ReceivedBlock → Option (List ℕ) → Type 0
+AddsHereOrStops old before p (Ok x) new after = AddsToBlock old before p new after
+AddsHereOrStops old before p (Err e) new after =
+    ((e ≡ OutOfMemory) × (((new ≡ old) × (after ≡ before)) ⊎ RecordsInBlock old before p new after))
+    ⊎ ((e ≡ Contradiction) × RecordsInBlock old before p new after × IsContradictory new)
+
+-- Why a packet isn't taken, and what it did to an object's decoder: by the tests, and nothing; or behind them for want of memory, which
+-- leaves one of some states, or as it contradicts what its block holds.
+abbrev pub StopsBy : Type 0 → State → Packet → Error → State → Type 0
+StopsBy Left old p e new =
+    ((packet_refusal old.configuration p ≡ Err e) × (new ≡ old))
+    ⊎ (((packet_refusal old.configuration p ≡ Ok tt) × (e ≡ OutOfMemory) × Left)
+    ⊎ ((packet_refusal old.configuration p ≡ Ok tt) × (e ≡ Contradiction) × Contradicts old p new))
+
+-- What a packet did to an object's decoder, whether it is taken or not. What comes of it over many packets are laws (`StepLaws`).
+abbrev pub TakesPacket : {X : Type 0} → (State → Packet → State → Type 0) → State → Packet → Result X Error → State → Type 0
+TakesPacket Left old p (Ok x) new = (packet_refusal old.configuration p ≡ Ok tt) × Adds old p new
+TakesPacket Left old p (Err e) new = StopsBy (Left old p new) old p e new

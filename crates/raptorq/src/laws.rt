@@ -1,6 +1,7 @@
 //! Laws of packets, blocks and answers: each is the contract of a function that does nothing.
 ghost use Rattle.rq_standard.specs.PacketLaws.{IntermediateSymbolsAreOnly, SourcePacketsAreSymbols, AnswerableIsOnlyObject, MorePacketsDetermine, MorePacketsAreAnswerable, AnswersStay, SameIdsAreAnswerable, SameIdsAnswerTheSame, AnswerIsOne, DeterminedByIdsAlone, ContradictionsStay, JoiningUndoesCutting, CuttingUndoesJoining};
-ghost use Rattle.raptorq.specs.Laws.{FirstRefusalIsOne, AnsweredPartsMakeObject};
+ghost use Rattle.rq_standard.specs.StepLaws.{TakenIsFollowed, TakenIsTried, RecordedIsLate, HonestRunsGrow, HonestPacketsFit, ContradictionsAreKept, ContradictoryTakesNone, ContradictoryIsNone, ResultIsObject, DifferenceIsNone, DifferencesFit};
+ghost use Rattle.raptorq.specs.Laws.{FirstRefusalIsOne, AnsweredPartsMakeObject, PartsAreObjects, TakenIsNext, RefusedIsNext, HonestIsTaken};
 
 /// A block has no more than one column of intermediate symbols where its row isn't singular: any two
 /// are the same below L (RFC 6330, sections 5.3.3 and 5.4.2).
@@ -44,6 +45,9 @@ pub fn order_and_repeats()
 pub fn contradictions()
     ensures ids { DeterminedByIdsAlone }
     ensures stay { ContradictionsStay }
+    ensures kept { ContradictionsAreKept }
+    ensures none_taken { ContradictoryTakesNone }
+    ensures no_object { ContradictoryIsNone }
 {}
 
 /// Over any packets, whoever sent them, a run has one first refusal at most: what
@@ -68,5 +72,37 @@ pub fn joined_sub_blocks()
 /// The bytes that a decoder lends of its blocks one after another are the object that it answers, where
 /// each block is answered, and else there is none (RFC 6330, section 4.4.1.2).
 pub fn joined_blocks()
-    ensures { AnsweredPartsMakeObject }
+    ensures object { AnsweredPartsMakeObject }
+    ensures parts { PartsAreObjects }
+{}
+
+/// From a decoder that follows packets and took one more, one that follows them with it, whoever sent
+/// them; the packet was refused exactly when the rules say so, or for want of memory. Where memory was
+/// refused behind the tests, the packet's block is late until its next one.
+pub fn followed_packets()
+    ensures followed { TakenIsFollowed }
+    ensures tried { TakenIsTried }
+    ensures late { RecordedIsLate }
+    ensures taken { TakenIsNext }
+    ensures refused { RefusedIsNext }
+{}
+
+/// An object's packets contradict nothing, and are refused for want of memory alone.
+pub fn honest_packets()
+    ensures runs { HonestRunsGrow }
+    ensures fit { HonestPacketsFit }
+    ensures taken { HonestIsTaken }
+{}
+
+/// A decoder that follows an object's packets answers the object, exactly where they determine it, and
+/// no decoder can do better.
+pub fn results()
+    ensures { ResultIsObject }
+{}
+
+/// What a decoder that follows an object's packets calls a difference is none exactly where the object
+/// is answered, and makes another object that fits of any that does.
+pub fn differences()
+    ensures none { DifferenceIsNone }
+    ensures fit { DifferencesFit }
 {}

@@ -1,34 +1,31 @@
 -- What calls on handles say, by what the coders say.
-use Rattle.std.proofs.Common.{◌≡◌, ◌≢◌, ◌⊎◌, ◌<◌, ℕ, Bool, true, false, List, length, Option, Some, Result, Ok, Err, refl, sym, ap, ◌∙◌, subst, arith, inl, inr}
-use Rattle.std.specs.Prelude.{IsErr, IfOk, IfErr, OnOk, OnErr, MatchResult, nat_lt, ◌==◌, if◌then◌else◌}
+use Rattle.std.proofs.Common.{◌≡◌, ◌≢◌, ◌⊎◌, ◌<◌, ℕ, Bool, true, false, List, Option, Some, Result, Ok, Err, refl, sym, ap, ◌∙◌, subst, arith, inl, inr}
+use Rattle.std.specs.Prelude.{IfOk, IfErr, OnErr, MatchResult, ◌==◌, if◌then◌else◌}
 use Rattle.rq_bytes.specs.declared.error.Error.{Error}
-use Rattle.rq_bytes.specs.declared.error.Error.TheVariants.{OutOfMemory, Contradiction, UnknownBlock, WrongPayloadSize}
+use Rattle.rq_bytes.specs.declared.error.Error.TheVariants.{OutOfMemory}
 use Rattle.rq_bytes.specs.Error.{code_of}
 use Rattle.rq_bytes.specs.Refusals.{and_then, IsRefusal}
 use Rattle.rq_standard.specs.declared.row.TableRow.{TableRow}
 use Rattle.rq_standard.specs.Configuration.{Configuration, configuration_of_bytes}
 use Rattle.rq_standard.specs.Packet.{Packet}
-use Rattle.rq_standard.specs.DecoderState.{State}
+use Rattle.rq_standard.specs.DecoderState.{State, result_of}
 use Rattle.rq_standard.specs.DecoderSteps.{StopsEarly}
-use Rattle.rq_standard.specs.Standing.{LeavesBlockLate}
 use Rattle.rq_standard.specs.Streams.{frame_size, frames_in}
 use Rattle.rq_base.specs.RefusedInput.{read_packet}
 use Rattle.rq_base.proofs.Accepted.{ok_of}
-use Rattle.raptorq.specs.Refused.{packet_refusal, IsPacketRefusal}
+use Rattle.raptorq.specs.Refused.{packet_refusal}
 use Rattle.raptorq.specs.Runs.{IsRunRefusal, AnswersRun}
 use Rattle.raptorq.specs.TakesPacket.{TakesPacket}
 use Rattle.raptorq_c.specs.declared.call_end.CallEnd.{CallEnd}
 use Rattle.raptorq_c.specs.declared.rows.Row.{Row}
 use Rattle.raptorq_c.specs.FurtherRows.{table_of}
 use Rattle.raptorq_c.specs.ObjectBuffers.{Answered, IsFilled, IsRefused, IsDecoded, IsDecodingRefusal, IsPacketsRefusal, frames_refusal, packets_in}
-use Rattle.raptorq.specs.Decoder.{IsAnswerOf, state_of}
+use Rattle.raptorq.specs.Decoder.{state_of}
 use Rattle.raptorq.specs.Remembering.{Remembers}
 use Rattle.raptorq.specs.declared.decoder.object.Decoder.{Decoder}
-use Rattle.rq_block.proofs.TakenPackets.{packet_tests}
 use Rattle.raptorq_c.specs.Handles.{bytes_refusal, FillsWithAnswer, FillsWithBlock, IsAdded, IsPartOf, IsTakenNumber, StaysUnread, TakesRead}
 use Rattle.raptorq_c.specs.Numbers.{number_of, refusal_number}
-use Rattle.raptorq_c.proofs.Ending.{code_positive, code_no_call, is_memory, is_stopped}
-use Rattle.raptorq_c.proofs.PacketFrames.{packet_read}
+use Rattle.raptorq_c.proofs.Ending.{code_positive, code_no_call, is_stopped}
 use Rattle.raptorq_c.proofs.Tables.{refused_over, row_refused}
 
 -- a buffer is filled with an answer, of which P
@@ -63,7 +60,7 @@ filled_otherwise n number other so is =
     cc none
 
 -- the decoder that is held answers
-pub fills_answer : (s : State) (ended : Result (Unit {0}) CallEnd) (before after : List ℕ) → IsFilled (number_of ended) → Answered (number_of ended) before after (IsAnswerOf s) → OnErr ended (after ≡ before) → FillsWithAnswer (Some s) (number_of ended) before after
+pub fills_answer : (s : State) (ended : Result (Unit {0}) CallEnd) (before after : List ℕ) → IsFilled (number_of ended) → Answered (number_of ended) before after (λ r. r ≡ result_of s) → OnErr ended (after ≡ before) → FillsWithAnswer (Some s) (number_of ended) before after
 fills_answer s ended before after number answered kept = record {
   none = (λ is. absurd (filled_otherwise 26 (number_of ended) refl number is), λ none. absurd (cc none));
   refused = inr number;
@@ -83,24 +80,6 @@ fills_block s block part ended before after known is number answered kept = reco
   kept = is_stopped ended (after ≡ before) kept;
 }
 
--- what the tests refuse of a packet is neither want of memory nor a contradiction
-tested : (b s : Bool) (e : Error) → IsPacketRefusal e (packet_tests b s) → IsErr (packet_tests b s) → (e ≢ OutOfMemory) × (e ≢ Contradiction)
-tested false s e is err = (λ h. let same : UnknownBlock ≡ OutOfMemory = sym is ∙ h in cc same, λ h. let same : UnknownBlock ≡ Contradiction = sym is ∙ h in cc same)
-tested true false e is err = (λ h. let same : WrongPayloadSize ≡ OutOfMemory = sym is ∙ h in cc same, λ h. let same : WrongPayloadSize ≡ Contradiction = sym is ∙ h in cc same)
-tested true true e is err = let none : false ≡ true = err in absurd (cc none)
-
--- a packet that is to be refused leaves a decoder as it was, whatever stopped it
-refused_whole : (c : Configuration) (p : Packet) (e : Error) (old new : State) → IsPacketRefusal e (packet_refusal c p) → (e ≢ OutOfMemory → e ≢ Contradiction → new ≡ old) → IsErr (packet_refusal c p) → new ≡ old
-refused_whole c p e old new answer same is_err =
-    let other = tested (nat_lt p.id.block c.source_blocks) (length p.payload == c.symbol_size) e answer is_err in
-    same other.0 other.1
-
--- the number of what is refused of the bytes
-taken_number : (e : Error) (r : Result (Unit {0}) Error) → IsPacketRefusal e r → IsTakenNumber (code_of e) r
-taken_number e (Ok x) (inl memory) = inl (inr (ap code_of memory))
-taken_number e (Ok x) (inr contradiction) = inr (ap code_of contradiction, refl)
-taken_number e (Err w) same = inl (inl (ap code_of same))
-
 -- bytes that aren't read leave a decoder as it was
 unread_number : (c : Configuration) (e : Error) (read : Result Packet Error) → IsRefusal e read → IsTakenNumber (code_of e) (and_then {Y = Unit {0}} read (packet_refusal c))
 unread_number c e (Ok p) memory = inl (inr (ap code_of memory))
@@ -119,43 +98,27 @@ unread_bytes d bytes e refusal = record {
   refused = unread_number (state_of d).configuration e (read_packet bytes) refusal;
   short = unread_short d e (read_packet bytes) refusal;
   takes = unread_packet d e (read_packet bytes) refusal;
-  stops = λ _. inl refl;
-  leaves_late = λ _ honest. inl honest.stands;
-  leaves_refused = λ _ _. refl;
 }
 
 -- the number of what a decoder answers
-answered_number : (c : Configuration) (p : Packet) (r : Result (Unit {0}) Error) → OnOk r (packet_refusal c p ≡ Ok tt) → IfErr r (λ e. IsPacketRefusal e (packet_refusal c p)) → IsTakenNumber (refusal_number r) (packet_refusal c p)
-answered_number c p (Ok x) accepted refused = inl (inl (sym (ap refusal_number accepted)))
-answered_number c p (Err e) accepted refused = taken_number e (packet_refusal c p) refused
-
--- what it does where memory is refused
-for_memory : (P : Type 0) (r : Result (Unit {0}) Error) → IfErr r (λ e. e ≡ OutOfMemory → P) → refusal_number r ≡ 21 → P
-for_memory P (Ok x) does is = absurd (cc is)
-for_memory P (Err e) does is = does (is_memory e is)
-
-left_refused : (old new : State) (p : Packet) (r : Result (Unit {0}) Error) → TakesPacket old p r new → refusal_number r ≡ 21 → IsErr (packet_refusal old.configuration p) → new ≡ old
-left_refused old new p (Ok x) takes is = absurd (cc is)
-left_refused old new p (Err e) takes is = refused_whole old.configuration p e old new takes.refused takes.unchanged
+answered_number : (Left : State → Packet → State → Type 0) (old new : State) (p : Packet) (r : Result (Unit {0}) Error) → TakesPacket Left old p r new → IsTakenNumber (refusal_number r) (packet_refusal old.configuration p)
+answered_number Left old new p (Ok x) takes = inl (inl (sym (ap refusal_number takes.0)))
+answered_number Left old new p (Err e) (inl tested) = inl (inl (sym (ap refusal_number tested.0)))
+answered_number Left old new p (Err e) (inr (inl memory)) = inl (inr (ap code_of memory.1))
+answered_number Left old new p (Err e) (inr (inr x)) = inr (ap code_of x.1, x.0)
 
 -- what a decoder does with the packet that bytes spell
-pub taken_bytes : (old new : Decoder) (bytes : List ℕ) (p : Packet) (r : Result (Unit {0}) Error) → read_packet bytes ≡ Ok p → TakesPacket (state_of old) p r (state_of new) → Remembers old p r new
-    → IfErr r (λ e. e ≡ OutOfMemory → StopsEarly (state_of old) p (state_of new)) → IfErr r (λ e. e ≡ OutOfMemory → LeavesBlockLate (state_of old) p (state_of new)) → IsAdded old bytes (refusal_number r) new
-taken_bytes old new bytes p r read takes remembers stops late =
+pub taken_bytes : (old new : Decoder) (bytes : List ℕ) (p : Packet) (r : Result (Unit {0}) Error) → read_packet bytes ≡ Ok p → TakesPacket StopsEarly (state_of old) p r (state_of new) → Remembers old p r new
+    → IsAdded old bytes (refusal_number r) new
+taken_bytes old new bytes p r read takes remembers =
     let n = refusal_number r in
     let before = state_of old in
-    let after = state_of new in
-    let c = before.configuration in
-    let refusal : Result Packet Error → Result (Unit {0}) Error = λ found. and_then {Y = Unit {0}} found (packet_refusal c) in
-    let same : bytes_refusal c bytes ≡ packet_refusal c p = ap refusal read in
-    let is = packet_read bytes p read in
+    let refusal : Result Packet Error → Result (Unit {0}) Error = λ found. and_then {Y = Unit {0}} found (packet_refusal before.configuration) in
+    let same : bytes_refusal before.configuration bytes ≡ packet_refusal before.configuration p = ap refusal read in
     record {
-      refused = subst (IsTakenNumber n) (sym same) (answered_number c p r takes.accepted takes.refused);
+      refused = subst (IsTakenNumber n) (sym same) (answered_number StopsEarly before (state_of new) p r takes);
       short = subst (λ found. IfErr found (λ e. (n ≡ code_of e) × (new ≡ old))) (sym read) tt;
       takes = subst (λ found. IfOk found (λ q. StaysUnread old n new ⊎ TakesRead old q n new)) (sym read) (inr (record { result = r; number = refl; takes = takes; remembers = remembers }));
-      stops = λ memory. subst (λ q. StopsEarly before q after) is (for_memory (StopsEarly before p after) r stops memory);
-      leaves_late = λ memory. subst (λ q. LeavesBlockLate before q after) is (for_memory (LeavesBlockLate before p after) r late memory);
-      leaves_refused = λ memory err. left_refused before after p r takes memory (subst IsErr same err);
     }
 
 -- ---- packets in a buffer

@@ -1,20 +1,19 @@
 -- What handles hold, and what calls do to it.
-use Rattle.std.specs.Prelude.{◌≡◌, ◌≢◌, ◌⊎◌, ◌↔◌, ℕ, ◌≤◌, List, [], length, replicate, true, is_some, Option, Some, None, IfSome, IsSome, IsSomeAnd, MatchOption, IfOk, IfErr, IsErr, option_and_then, option_map, Result, Ok, Err}
+use Rattle.std.specs.Prelude.{◌≡◌, ◌≢◌, ◌⊎◌, ◌↔◌, ℕ, ◌≤◌, List, [], length, replicate, true, is_some, Option, Some, None, IfSome, IsSome, IsSomeAnd, MatchOption, IfOk, IfErr, option_and_then, option_map, Result, Ok, Err}
 use Rattle.std.specs.Arc.{arc_value}
 use Rattle.rq_bytes.specs.declared.error.Error.{Error}
 use Rattle.rq_bytes.specs.Error.{code_of}
 use Rattle.rq_bytes.specs.Refusals.{and_then}
 use Rattle.rq_standard.specs.Configuration.{Configuration, configuration_of_bytes}
-use Rattle.rq_standard.specs.Packet.{SymbolId, Packet, packet_bytes, packet_of_bytes}
+use Rattle.rq_standard.specs.Packet.{SymbolId, Packet, packet_bytes}
 use Rattle.rq_standard.specs.Headline.{HasNonsingularRows}
 use Rattle.rq_standard.specs.DecoderState.{State, IsNewState, result_of}
 use Rattle.rq_standard.specs.DecoderSteps.{StopsEarly, IsBlockContradictory}
 use Rattle.rq_standard.specs.Following.{FollowsRun}
-use Rattle.rq_standard.specs.Standing.{StandsForNone, LeavesBlockLate}
 use Rattle.rq_standard.specs.TableRows.{greatest_size}
 use Rattle.rq_base.specs.RefusedInput.{new_id, read_packet}
 use Rattle.raptorq.specs.BlockBytes.{answered_part, AnswersPart, PartsMakeObject}
-use Rattle.raptorq.specs.Decoder.{state_of, solving_of_blocks, missing_of, IsAnswerOf}
+use Rattle.raptorq.specs.Decoder.{state_of, solving_of_blocks, missing_of}
 use Rattle.raptorq.specs.Encoder.{Encoded, encoded_of, id_in, IsEncoderOf, IsPacketIn}
 use Rattle.rq_block.specs.declared.encoder.TheConstants.{SPARSE_MATRIX_THRESHOLD}
 use Rattle.rq_block.specs.MissingPackets.{NeedsMore}
@@ -82,7 +81,6 @@ Becomes before after P = MatchOption before (after ≡ None) (λ x. IsSomeAnd af
 -- A decoder of this configuration, over the table of these rows, to which nothing came yet. No block was tried, and each has the default threshold.
 pub record IsNewDecoder (rows : List Row) (header : List ℕ) (d : Decoder) : Type 0 where
   pub new : HoldsOver rows (λ table. IsNewState table (configuration_of_bytes header) (state_of d))
-  pub stands : HoldsOver rows (λ table. StandsForNone table (configuration_of_bytes header) (state_of d))
   pub follows : HoldsOver rows (λ table. FollowsRun table [] (state_of d))
   pub solving : solving_of_blocks d ≡ replicate (configuration_of_bytes header).source_blocks (unsolved SPARSE_MATRIX_THRESHOLD)
 
@@ -100,10 +98,6 @@ bytes_refusal c bytes = and_then (read_packet bytes) (packet_refusal c)
 abbrev pub IsTakenNumber : ℕ → Result (Unit {0}) Error → Type 0
 IsTakenNumber number wanted = IsNumber number wanted ⊎ ((number ≡ 22) × (wanted ≡ Ok tt))
 
--- bytes that are refused anyway leave a decoder as it was
-abbrev pub LeavesRefused : List ℕ → State → State → Type 0
-LeavesRefused bytes old new = IsErr (bytes_refusal old.configuration bytes) → new ≡ old
-
 -- memory is refused before a decoder has the packet
 abbrev pub StaysUnread : Decoder → ℕ → Decoder → Type 0
 StaysUnread old answer new = (answer ≡ 21) × (new ≡ old)
@@ -112,7 +106,7 @@ StaysUnread old answer new = (answer ≡ 21) × (new ≡ old)
 pub record TakesRead (old : Decoder) (packet : Packet) (answer : ℕ) (new : Decoder) : Type 0 where
   pub result : Result (Unit {0}) Error
   pub number : answer ≡ refusal_number result
-  pub takes : TakesPacket (state_of old) packet result (state_of new)
+  pub takes : TakesPacket StopsEarly (state_of old) packet result (state_of new)
   pub remembers : Remembers old packet result new
 
 -- What the bytes of a packet do to a decoder: what the packet does, and nothing where they are too short or memory is refused before it has the packet.
@@ -120,9 +114,6 @@ pub record IsAdded (old : Decoder) (bytes : List ℕ) (answer : ℕ) (new : Deco
   pub refused : IsTakenNumber answer (bytes_refusal (state_of old).configuration bytes)
   pub short : IfErr (read_packet bytes) (λ e. (answer ≡ code_of e) × (new ≡ old))
   pub takes : IfOk (read_packet bytes) (λ packet. StaysUnread old answer new ⊎ TakesRead old packet answer new)
-  pub stops : answer ≡ 21 → StopsEarly (state_of old) (packet_of_bytes bytes) (state_of new)
-  pub leaves_late : answer ≡ 21 → LeavesBlockLate (state_of old) (packet_of_bytes bytes) (state_of new)
-  pub leaves_refused : answer ≡ 21 → LeavesRefused bytes (state_of old) (state_of new)
 
 -- what they do to the decoder that is held, if one is: 26 says that none is
 pub record TakesBytes (bytes : List ℕ) (answer : ℕ) (before after : Option Decoder) : Type 0 where
@@ -135,7 +126,7 @@ pub record FillsWithAnswer (held : Option State) (answer : ℕ) (before after : 
   pub none : (answer ≡ 26) ↔ (held ≡ None)
   pub refused : IfSome held (λ _. IsRefused answer (Ok tt))
   pub complete : answer ≡ 21 → IsSomeAnd held (λ s. IsSome (result_of s))
-  pub answered : IfSome held (λ s. Answered answer before after (IsAnswerOf s))
+  pub answered : IfSome held (λ s. Answered answer before after (λ r. r ≡ result_of s))
   pub kept : answer ≢ 0 → after ≡ before
 
 -- what a decoder has of a block: its bytes of the object, exactly where its packets determine it, and all blocks' are the object

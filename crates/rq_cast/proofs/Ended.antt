@@ -4,7 +4,7 @@ use Rattle.std.specs.Prelude.{is_ok, unwrap_or, IsSome}
 use Rattle.std.specs.Io.KnownBytes.{Consumes, Appends}
 use Rattle.std.proofs.KnownBytes.{Consumes-nil, Consumes-trans, Keeps-refl}
 use Rattle.std.proofs.lemmas.Bool.{and_parts, true≢false}
-use Rattle.std.specs.List.{starts_with, AllByRecursion}
+use Rattle.std.specs.List.{starts_with}
 use Rattle.std.specs.Prelude.{nat_eq}
 use Rattle.rq_bytes.specs.declared.error.Error.{Error}
 use Rattle.rq_bytes.specs.declared.error.Error.TheVariants.{OutOfMemory}
@@ -12,7 +12,7 @@ use Rattle.rq_bytes.specs.Refusals.{IsRefusal}
 use Rattle.rq_standard.specs.declared.row.TableRow.{TableRow}
 use Rattle.rq_standard.specs.TableRows.{greatest_size}
 use Rattle.rq_standard.specs.Configuration.{header_bytes}
-use Rattle.rq_standard.specs.Headline.{IsPacketOf, AnswersExactly, AnswersWhereAnyCan}
+use Rattle.rq_standard.specs.Headline.{IsHonestRun, AnswersExactly, AnswersWhereAnyCan}
 use Rattle.rq_standard.specs.DecoderState.{result_of}
 use Rattle.rq_standard.specs.Following.{IsAnswerAfter}
 use Rattle.rq_base.specs.RefusedInput.{checked_configuration}
@@ -37,7 +37,7 @@ use Rattle.rq_cast.specs.Reading.{IsStopOfReads}
 use Rattle.rq_cast.specs.Searching.{SeesNoneYet, FindsFirst}
 use Rattle.rq_cast.specs.Receiving.{SeesAll, IsNewReceiver, StopsBeginning, HasSeen, HasTaken, EndsDetermined, EndsUndetermined, RefusesPackets, StopsReceiving, SeesBehind}
 use Rattle.rq_cast.specs.Received.{received_packets, IsReceived, IsAnswered, IsSeen, SeesSoFar, Determines, DoesntDetermine, RefusesReceived, EndsReceiving}
-use Rattle.rq_cast.proofs.Answering.{answered_by, needs_by, run_of_none}
+use Rattle.rq_cast.proofs.Answering.{answered_by, needs_by}
 
 -- coders take what was found
 accepted : (r : Result (Unit {0}) Error) → is_ok r ≡ true → r ≡ Ok tt
@@ -176,7 +176,6 @@ module _ (table : List TableRow) (name : List ℕ) (before mid after : Option (L
 
   pub refuses : (e : Error) → RefusesPackets old old.bytes.items mid after e → RefusesReceived table name before after e
   refuses e r =
-      let c = h.configuration in
       let stops : StopsAmong (state_of old.decoder) (received_packets h (front ++ r.past)) e =
       subst (λ ps. StopsAmong (state_of old.decoder) ps e)
       ((λ i. known_packets (made.configuration i) (packets_in (made.head i) (old.bytes.items ++ r.past))) ∙ same_packets r.past) r.stops in
@@ -188,8 +187,7 @@ module _ (table : List TableRow) (name : List ℕ) (before mid after : Option (L
         refused = subst (λ k. (e ≡ OutOfMemory) ⊎ IsRefusalBehind table k [] (received_packets h (front ++ r.past)) (Err e)) made.configuration
             (stops.refused table [] made.follows);
         honest = λ object run.
-            stops.honest table object [] (made.stands object (run_of_none table c object (received_packets h (front ++ r.past)) run))
-            (subst (λ k. AllByRecursion (IsPacketOf table k object) (received_packets h (front ++ r.past))) (sym made.configuration) run.honest);
+            stops.honest table object [] made.follows (subst (λ k. IsHonestRun table k object (received_packets h (front ++ r.past))) (sym made.configuration) run);
       }
 
   -- what was seen before the last read

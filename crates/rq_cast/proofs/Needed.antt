@@ -1,11 +1,12 @@
 -- How many packets an object needs behind those that a decoder has taken.
 use Rattle.std.proofs.Common.{◌≡◌, ℕ, ◌<◌, List, Option, Some, None, refl, sym, ap, subst, inr}
-use Rattle.std.specs.Prelude.{IsSome, IfSome, unwrap_or}
+use Rattle.std.specs.Prelude.{IsSome, IfSome, unwrap_or, ◌↔◌}
 use Rattle.rq_standard.specs.declared.row.TableRow.{TableRow}
 use Rattle.rq_standard.specs.Packet.{Packet}
 use Rattle.rq_standard.specs.ReceivedBlock.{ReceivedBlock, CanAnswer}
 use Rattle.rq_standard.specs.DecoderSteps.{received_after}
-use Rattle.rq_standard.specs.Following.{FollowsRun}
+use Rattle.rq_standard.specs.Following.{InTime, FollowsBlock, FollowsRun}
+use Rattle.rq_standard.proofs.FirstAnswers.{answered_by}
 use Rattle.rq_block.specs.MissingPackets.{NeedsMore, IsMissing, TellsMissing}
 use Rattle.raptorq.specs.declared.decoder.object.Decoder.{Decoder}
 use Rattle.raptorq.specs.Decoder.{state_of, missing_of}
@@ -28,21 +29,24 @@ module _ (table : List TableRow) (packets : List Packet) (d : Decoder) (follows 
     abbrev h : ReceivedBlock
     h = received_after table (state_of d).configuration b packets
 
+    answered : IsSome ((state_of d).answer b) ↔ CanAnswer h
+    answered = (answered_by table (state_of d).configuration b packets ((state_of d).received b) ((state_of d).answer b) (follows.block b below)).0
+
     zero_of : CanAnswer h → (answer : Option (List ℕ)) → (state_of d).answer b ≡ answer
         → TellsMissingOf ((state_of d).received b) answer (missing_of d b) → told_of d b ≡ 0
     zero_of can (Some block) is told = ap (λ o. unwrap_or o 0) told
-    zero_of can None is told = let some : IsSome {T = List ℕ} None = subst IsSome is ((follows.answers b below).1 can) in absurd (cc some)
+    zero_of can None is told = let some : IsSome {T = List ℕ} None = subst IsSome is (answered.1 can) in absurd (cc some)
 
     none_of : ¬ CanAnswer h → (answer : Option (List ℕ)) → (state_of d).answer b ≡ answer → answer ≡ None
     none_of cannot None is = refl
-    none_of cannot (Some block) is = absurd (cannot ((follows.answers b below).0 (subst IsSome (sym is) refl)))
+    none_of cannot (Some block) is = absurd (cannot (answered.0 (subst IsSome (sym is) refl)))
 
     module _ (cannot : ¬ CanAnswer h) where
       unanswered : (state_of d).answer b ≡ None
       unanswered = none_of cannot ((state_of d).answer b) refl
 
       same : (state_of d).received b ≡ h
-      same = follows.received b below unanswered
+      same = (subst (FollowsBlock InTime table (state_of d).configuration b packets ((state_of d).received b)) unanswered (follows.block b below)).0
 
       told : TellsMissing h (missing_of d b)
       told =

@@ -1,78 +1,51 @@
 -- Packets that a decoder takes one by one.
-use Rattle.std.proofs.Common.{◌≡◌, ℕ, ◌+◌, List, [], ◌∷◌, ◌++◌, Bool, true, false, cond, Result, Ok, Err, refl, sym, ap, subst, ◌∙◌, arith, append_assoc, append-nil, inl, inr, not, length}
-use Rattle.std.specs.List.{AllByRecursion}
+use Rattle.std.proofs.Common.{◌≡◌, ℕ, ◌+◌, List, [], ◌∷◌, ◌++◌, Bool, true, false, cond, Ok, Err, refl, sym, ap, subst, ◌∙◌, arith, append_assoc, append-nil, inl, inr, not, length}
 use Rattle.std.proofs.lemmas.List.Elements.{filter-append}
 use Rattle.std.proofs.lemmas.List.Sums.{sum_by-append, sum_by-cons}
 use Rattle.rq_bytes.specs.declared.error.Error.{Error}
-use Rattle.rq_standard.specs.declared.row.TableRow.{TableRow}
 use Rattle.rq_standard.specs.Configuration.{Configuration}
 use Rattle.rq_standard.specs.Packet.{Packet}
-use Rattle.rq_standard.specs.Headline.{IsPacketOf}
+use Rattle.rq_standard.specs.Headline.{IsHonestRun}
 use Rattle.rq_standard.specs.DecoderState.{State}
-use Rattle.rq_standard.specs.Standing.{StandsFor}
+use Rattle.rq_standard.specs.DecoderSteps.{Adds, StopsEarly}
 use Rattle.rq_standard.specs.Following.{FollowsRun}
 use Rattle.raptorq.specs.Runs.{IsNextRefusal, IsRefusalBehind}
-use Rattle.raptorq.specs.TakesPacket.{TakesPacket}
-use Rattle.raptorq.proofs.FollowedRuns.{refusal_behind-front}
-use Rattle.raptorq.proofs.Lists.{all_at}
+use Rattle.rq_standard.proofs.FollowingSteps.{taken_is_followed}
+use Rattle.raptorq.specs.Refused.{packet_refusal}
+use Rattle.raptorq.specs.TakesPacket.{StopsBy}
+use Rattle.raptorq.proofs.FollowedRuns.{passes_below, taken_is_next, refused_is_next, refusal_behind-front}
+use Rattle.raptorq.proofs.Lists.{next_honest}
+use Rattle.raptorq.proofs.Stops.{not_joined, honest_is_taken}
 use Rattle.rq_cast.specs.Taken.{is_known, known_packets, unknown_count, TakesAll, StopsAmong}
 
--- the front of packets that are all the object's
-all_front : (P : Packet → Type 0) (front rest : List Packet) → AllByRecursion P (front ++ rest) → AllByRecursion P front
-all_front P [] rest all = tt
-all_front P (p ∷ front) rest all = (all.0, all_front P front rest all.1)
-
-all_behind : (P : Packet → Type 0) (front rest : List Packet) → AllByRecursion P (front ++ rest) → AllByRecursion P rest
-all_behind P [] rest all = all
-all_behind P (p ∷ front) rest all = all_behind P front rest all.1
-
 module _ (old now : State) (front : List Packet) (taken : TakesAll old front now) (p : Packet) where
-  next : {X : Type 0} (r : Result X Error) (new : State) → TakesPacket now p r new → (table : List TableRow) (earlier : List Packet)
-      → FollowsRun table earlier old → FollowsRun table (earlier ++ front) now
-  next r new takes table earlier follows = taken.follows table earlier follows
-
-  of_object : (rest : List Packet) (table : List TableRow) (object : List ℕ)
-      → AllByRecursion (IsPacketOf table old.configuration object) (front ++ p ∷ rest) → IsPacketOf table now.configuration object p
-  of_object rest table object honest =
-      subst (λ k. IsPacketOf table k object p) (sym taken.configuration) (all_at (IsPacketOf table old.configuration object) front rest p honest)
-
   -- one packet more is taken
-  pub takes_more : {X : Type 0} (x : X) (new : State) → TakesPacket now p (Ok x) new → TakesAll old (front ++ p ∷ []) new
-  takes_more x new takes = record {
-    configuration = takes.configuration ∙ taken.configuration;
+  pub takes_more : (new : State) → packet_refusal now.configuration p ≡ Ok tt → Adds now p new → TakesAll old (front ++ p ∷ []) new
+  takes_more new passes adds = record {
+    configuration = adds.elsewhere.configuration ∙ taken.configuration;
     passed = λ table earlier follows.
         refusal_behind-front table old.configuration earlier front (p ∷ []) (Ok tt) (taken.passed table earlier follows)
         (inr (
           subst (λ k. IsNextRefusal table k (earlier ++ front) p (Ok tt)) taken.configuration
-              (takes.next table (earlier ++ front) (taken.follows table earlier follows)),
+              (taken_is_next table (earlier ++ front) p now new (taken.follows table earlier follows) passes adds),
           refl,
         ));
     follows = λ table earlier follows.
         subst (λ ps. FollowsRun table ps new) (append_assoc earlier front (p ∷ []))
-        (takes.follows table (earlier ++ front) (taken.follows table earlier follows));
-    stands = λ table object earlier st honest.
-        subst (λ ps. StandsFor table object ps new) (append_assoc earlier front (p ∷ []))
-        (takes.stands table object (earlier ++ front)
-        (taken.stands table object earlier st (all_front (IsPacketOf table old.configuration object) front (p ∷ []) honest))
-        (of_object [] table object honest));
+        (taken_is_followed table (earlier ++ front) p now new (taken.follows table earlier follows) (passes_below now.configuration p passes) adds);
   }
 
   -- or it is refused
-  pub stops_at : {X : Type 0} (rest : List Packet) (new : State) (e : Error) → TakesPacket {X = X} now p (Err e) new → StopsAmong old (front ++ p ∷ rest) e
-  stops_at {X} rest new e takes = record {
-    refused = λ table earlier follows. elim (takes.next table (earlier ++ front) (taken.follows table earlier follows)) [
+  pub stops_at : (rest : List Packet) (new : State) (e : Error) → StopsBy (StopsEarly now p new) now p e new → StopsAmong old (front ++ p ∷ rest) e
+  stops_at rest new e stops = record {
+    refused = λ table earlier follows. elim (refused_is_next table (earlier ++ front) p now new e (taken.follows table earlier follows) (not_joined now p e new stops)) [
       | inl memory ↦ inl memory
       | inr first ↦ inr (refusal_behind-front table old.configuration earlier front (p ∷ rest) (Err e) (taken.passed table earlier follows)
           (inl (refl, subst (λ k. IsNextRefusal table k (earlier ++ front) p (Err e)) taken.configuration first)))
     ];
-    honest = λ table object earlier st honest. takes.honest (record {
-      table = table;
-      object = object;
-      packets = earlier ++ front;
-      late = λ _. false;
-      stands = taken.stands table object earlier st (all_front (IsPacketOf table old.configuration object) front (p ∷ rest) honest);
-      of_object = of_object rest table object honest;
-    });
+    honest = λ table object earlier follows run. honest_is_taken now p new e
+        (next_honest table old.configuration (earlier ++ front) now taken.configuration (taken.follows table earlier follows) object rest p
+        (subst (IsHonestRun table old.configuration object) (sym (append_assoc earlier front (p ∷ rest))) run)) (not_joined now p e new stops);
   }
 
 -- one list behind another
@@ -85,12 +58,6 @@ takes_both s t u front behind one other = record {
       (other.passed table (earlier ++ front) (one.follows table earlier follows)));
   follows = λ table earlier follows.
       subst (λ ps. FollowsRun table ps u) (append_assoc earlier front behind) (other.follows table (earlier ++ front) (one.follows table earlier follows));
-  stands = λ table object earlier st honest.
-      subst (λ ps. StandsFor table object ps u) (append_assoc earlier front behind)
-      (other.stands table object (earlier ++ front)
-      (one.stands table object earlier st (all_front (IsPacketOf table s.configuration object) front behind honest))
-      (subst (λ k. AllByRecursion (IsPacketOf table k object) behind) (sym one.configuration)
-      (all_behind (IsPacketOf table s.configuration object) front behind honest)));
 }
 
 pub stops_behind : (s t : State) (front behind : List Packet) (e : Error) → TakesAll s front t → StopsAmong t behind e → StopsAmong s (front ++ behind) e
@@ -100,11 +67,9 @@ stops_behind s t front behind e one stops = record {
     | inr first ↦ inr (refusal_behind-front table s.configuration earlier front behind (Err e) (one.passed table earlier follows)
         (subst (λ k. IsRefusalBehind table k (earlier ++ front) behind (Err e)) one.configuration first))
   ];
-  honest = λ table object earlier st honest.
-      stops.honest table object (earlier ++ front)
-      (one.stands table object earlier st (all_front (IsPacketOf table s.configuration object) front behind honest))
-      (subst (λ k. AllByRecursion (IsPacketOf table k object) behind) (sym one.configuration)
-      (all_behind (IsPacketOf table s.configuration object) front behind honest));
+  honest = λ table object earlier follows run. stops.honest table object (earlier ++ front) (one.follows table earlier follows)
+      (subst (λ k. IsHonestRun table k object ((earlier ++ front) ++ behind)) (sym one.configuration)
+      (subst (IsHonestRun table s.configuration object) (sym (append_assoc earlier front behind)) run));
 }
 
 -- ---- packets of blocks that the object has, and others

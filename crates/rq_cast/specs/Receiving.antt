@@ -11,8 +11,6 @@ use Rattle.rq_standard.specs.TableRows.{greatest_size}
 use Rattle.rq_bytes.specs.Refusals.{IsRefusal}
 use Rattle.rq_base.specs.RefusedInput.{checked_configuration}
 use Rattle.rq_standard.specs.Packet.{Packet}
-use Rattle.rq_standard.specs.Headline.{IsHonestRun}
-use Rattle.rq_standard.specs.Standing.{StandsFor}
 use Rattle.rq_standard.specs.Following.{FollowsRun}
 use Rattle.raptorq.specs.Decoder.{state_of}
 use Rattle.rq_cells.specs.declared.head.Head.{Head}
@@ -41,7 +39,6 @@ pub record IsNewReceiver (table : List TableRow) (found : Found) (r : Receiver) 
   pub head : r.scanner ≡ found.head
   pub configuration : (state_of r.decoder).configuration ≡ found.head.configuration
   pub follows : FollowsRun table [] (state_of r.decoder)
-  pub stands : (object : List ℕ) → IsHonestRun table found.head.configuration object [] → StandsFor table object [] (state_of r.decoder)
   pub bytes : r.bytes ≡ found.bytes
   pub seen_is : r.seen ≡ found.seen
 

@@ -7,9 +7,11 @@ pub mod DifferenceColumns
 pub mod FirstAnswers
 pub mod FirstOctets
 pub mod Firsts
+pub mod FollowingSteps
 pub mod FrameLaws
 pub mod HdpcLaws
 pub mod HeaderBytes
+pub mod HonestBlocks
 pub mod Interleaved
 pub mod Joined
 pub mod KnownIds

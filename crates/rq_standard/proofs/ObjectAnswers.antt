@@ -1,19 +1,20 @@
 -- What a decoder that stands for a list of packets answers.
-use Rattle.std.proofs.Common.{◌≡◌, ℕ, zero, suc, ◌<◌, Bool, false, List, take, Option, Some, None, refl, sym, ap, ◌∙◌, subst, arith, inl, inr}
+use Rattle.std.proofs.Common.{◌≡◌, ◌≢◌, ℕ, zero, suc, ◌<◌, Bool, true, false, List, take, Option, Some, None, refl, sym, ap, ◌∙◌, subst, arith, inl, inr}
 use Rattle.std.specs.Prelude.{option_map, is_some, IsSome, IsNone, IfSome}
 use Rattle.std.proofs.lemmas.Bool.{cases_lt, true_from_ne_false}
 use Rattle.std.proofs.lemmas.Option.{same_Some}
 use Rattle.rq_standard.specs.declared.row.TableRow.{TableRow}
 use Rattle.rq_standard.specs.Packet.{Packet}
-use Rattle.rq_standard.specs.Cutting.{block_symbols, block_bytes}
-use Rattle.rq_standard.specs.Received.{has_id}
-use Rattle.rq_standard.specs.Headline.{DetermineBlock, block_row, IsObjectAnswer}
-use Rattle.rq_standard.specs.ReceivedBlock.{ReceivedBlock, has_received, ReceivedDetermine}
-use Rattle.rq_standard.specs.DecoderState.{State, IsReceivedOf, append_both, first_blocks, result_of}
-use Rattle.rq_standard.specs.Standing.{BlockStandsFor, StandsForButLate, AnswersObject, AnswersNothingElse}
-use Rattle.rq_standard.specs.Differences.{AreUnansweredDetermined, IsNoneWhereAnswered}
+use Rattle.rq_standard.specs.Configuration.{Configuration}
+use Rattle.rq_standard.specs.Cutting.{block_bytes}
+use Rattle.rq_standard.specs.Headline.{IsObjectAnswer}
+use Rattle.rq_standard.specs.ReceivedBlock.{ReceivedBlock, ReceivedDetermine}
+use Rattle.rq_standard.specs.DecoderState.{State, append_both, first_blocks, result_of}
+use Rattle.rq_standard.specs.Following.{Lateness, InTime, Late, FollowsBlock}
+use Rattle.rq_standard.specs.Standing.{StandsForButLate, AnswersObject, AnswersNothingElse}
+use Rattle.rq_standard.specs.StepLaws.{ContradictoryIsNone, DifferenceIsNone}
 use Rattle.rq_standard.proofs.BlockCuts.{pieces, whole_object}
-use Rattle.rq_standard.proofs.KnownIds.{block_same}
+use Rattle.rq_standard.proofs.HonestBlocks.{Determined, BlockStandsFor, stands_block}
 use Rattle.rq_standard.proofs.OptionValues.{is_some-mapped, none_is}
 
 -- blocks are joined where each has an answer
@@ -35,60 +36,70 @@ joined_each answer (suc n) h b below =
       | inr past ↦ let here : n ≡ b = omega arith in subst (λ m. IsSome (answer m)) here q.1
     ]
 
-module _ (table : List TableRow) (object : List ℕ) (packets : List Packet) (s : State) where
-  -- the ids that were received determine a block, by its row and by what was received
-  by_row : (b : ℕ) (h : ReceivedBlock) → IsReceivedOf table s.configuration b h → DetermineBlock h.row h.source_symbols (has_id b packets) → DetermineBlock (block_row table s.configuration b) (block_symbols s.configuration b) (has_id b packets)
-  by_row b h shape d = subst (λ r. DetermineBlock r (block_symbols s.configuration b) (has_id b packets)) shape.row (subst (λ k. DetermineBlock h.row k (has_id b packets)) shape.source_symbols d)
+-- where one has none there is none
+pub not_complete : (s : State) (b : ℕ) → b < s.configuration.source_blocks → s.answer b ≡ None → is_some (result_of s) ≡ false
+not_complete s b below none = by_cases (is_some (result_of s)) refl where
+  by_cases : (t : Bool) → t ≡ is_some (result_of s) → is_some (result_of s) ≡ false
+  by_cases false e = sym e
+  by_cases true e = absurd (cc (joined_each s.answer s.configuration.source_blocks (sym (is_some-mapped (take s.configuration.transfer_length) (first_blocks s.configuration.source_blocks s.answer)) ∙ sym e) b below, none))
 
-  by_received : (b : ℕ) (h : ReceivedBlock) → IsReceivedOf table s.configuration b h → DetermineBlock (block_row table s.configuration b) (block_symbols s.configuration b) (has_id b packets) → DetermineBlock h.row h.source_symbols (has_id b packets)
-  by_received b h shape d = subst (λ k. DetermineBlock h.row k (has_id b packets)) (sym shape.source_symbols) (subst (λ r. DetermineBlock r (block_symbols s.configuration b) (has_id b packets)) (sym shape.row) d)
+pub contradictory_is_none : ContradictoryIsNone
+contradictory_is_none s b c = none_is (result_of s) (not_complete s b c.below c.unanswered)
 
-  -- a block with an answer
-  pub answered : (late : Bool) (b : ℕ) (h : ReceivedBlock) (a : Option (List ℕ)) → IsReceivedOf table s.configuration b h → BlockStandsFor late (block_bytes s.configuration object b) b packets h a → IsSome a
-      → (a ≡ Some (block_bytes s.configuration object b)) × DetermineBlock (block_row table s.configuration b) (block_symbols s.configuration b) (has_id b packets)
-  answered late b h None shape st some = absurd (cc some)
-  answered late b h (Some bytes) shape st some = (ap (λ xs. Some xs) st.0, by_row b h shape st.1)
+-- a block with an answer
+pub answered : (l : Lateness) (table : List TableRow) (c : Configuration) (object : List ℕ) (packets : List Packet) (b : ℕ) (h : ReceivedBlock) (a : Option (List ℕ)) → BlockStandsFor l table c object b packets h a → IsSome a
+    → (a ≡ Some (block_bytes c object b)) × Determined table c b packets
+answered l table c object packets b h None st some = absurd (cc some)
+answered l table c object packets b h (Some bytes) st some = (ap (λ xs. Some xs) st.0, st.1)
 
-  -- a block that is determined has an answer, unless it is late
-  pub has_answer : (b : ℕ) (h : ReceivedBlock) (a : Option (List ℕ)) → IsReceivedOf table s.configuration b h → BlockStandsFor false (block_bytes s.configuration object b) b packets h a → DetermineBlock (block_row table s.configuration b) (block_symbols s.configuration b) (has_id b packets) → IsSome a
-  has_answer b h None shape st d = absurd (st.1 refl (by_received b h shape d))
-  has_answer b h (Some bytes) shape st d = refl
+-- a block that is determined has one, unless it is late
+pub has_answer : (l : Lateness) (table : List TableRow) (c : Configuration) (object : List ℕ) (packets : List Packet) (b : ℕ) (h : ReceivedBlock) (a : Option (List ℕ)) → BlockStandsFor l table c object b packets h a → l ≢ Late → Determined table c b packets → IsSome a
+has_answer l table c object packets b h None st now d = absurd (st.1 now d)
+has_answer l table c object packets b h (Some bytes) st now d = refl
 
-  module _ (late : ℕ → Bool) (some : 0 < s.configuration.source_blocks) (pos : 0 < s.configuration.symbol_size) (st : StandsForButLate late table object packets s) where
-    -- the object, where each block has an answer
-    from_all : ((b : ℕ) → b < s.configuration.source_blocks → IsSome (s.answer b)) → result_of s ≡ Some object
-    from_all each =
-        ap (λ o. option_map (take s.configuration.transfer_length) o) (joined_some (block_bytes s.configuration object) s.answer s.configuration.source_blocks (λ b below. (answered (late b) b (s.received b) (s.answer b) (st.shape b below) (st.block b below) (each b below)).0))
-        ∙ ap (λ xs. Some xs) (whole_object s.configuration object some pos st.run.long)
+module _ (late : ℕ → Lateness) (table : List TableRow) (object : List ℕ) (packets : List Packet) (s : State) (st : StandsForButLate late table object packets s) where
+  block_answered : (b : ℕ) → b < s.configuration.source_blocks → IsSome (s.answer b) → (s.answer b ≡ Some (block_bytes s.configuration object b)) × Determined table s.configuration b packets
+  block_answered b below = answered (late b) table s.configuration object packets b (s.received b) (s.answer b) (stands_block late table object packets s st b below)
 
-    each_of : IsSome (result_of s) → (b : ℕ) → b < s.configuration.source_blocks → IsSome (s.answer b)
-    each_of h = joined_each s.answer s.configuration.source_blocks (sym (is_some-mapped (take s.configuration.transfer_length) (first_blocks s.configuration.source_blocks s.answer)) ∙ h)
+  -- the object, where each block has an answer
+  from_all : ((b : ℕ) → b < s.configuration.source_blocks → IsSome (s.answer b)) → result_of s ≡ Some object
+  from_all each =
+      ap (λ o. option_map (take s.configuration.transfer_length) o) (joined_some (block_bytes s.configuration object) s.answer s.configuration.source_blocks (λ b below. (block_answered b below (each b below)).0))
+      ∙ ap (λ xs. Some xs) (whole_object s.configuration object st.follows.accepted.blocks_positive st.follows.accepted.size_positive st.run.long)
 
-    the_object : (r : Option (List ℕ)) → r ≡ result_of s → IfSome r (λ bytes. bytes ≡ object)
-    the_object None is = tt
-    the_object (Some bytes) is = same_Some bytes object (is ∙ from_all (each_of (subst IsSome is refl)))
+  each_of : IsSome (result_of s) → (b : ℕ) → b < s.configuration.source_blocks → IsSome (s.answer b)
+  each_of h = joined_each s.answer s.configuration.source_blocks (sym (is_some-mapped (take s.configuration.transfer_length) (first_blocks s.configuration.source_blocks s.answer)) ∙ h)
 
-    exactly : ((b : ℕ) → late b ≡ false) → IsObjectAnswer table s.configuration object packets (result_of s)
-    exactly now = record {
-      whole = λ all. from_all (λ b below. has_answer b (s.received b) (s.answer b) (st.shape b below) (subst (λ l. BlockStandsFor l (block_bytes s.configuration object b) b packets (s.received b) (s.answer b)) (now b) (st.block b below)) (all b below));
-      only = λ h b below. (answered (late b) b (s.received b) (s.answer b) (st.shape b below) (st.block b below) (each_of h b below)).1;
-    }
+  the_object : (r : Option (List ℕ)) → r ≡ result_of s → IfSome r (λ bytes. bytes ≡ object)
+  the_object None is = tt
+  the_object (Some bytes) is = same_Some bytes object (is ∙ from_all (each_of (subst IsSome is refl)))
+
+  exactly : ((b : ℕ) → late b ≢ Late) → IsObjectAnswer table s.configuration object packets (result_of s)
+  exactly now = record {
+    whole = λ all. from_all (λ b below. has_answer (late b) table s.configuration object packets b (s.received b) (s.answer b) (stands_block late table object packets s st b below) (now b) (all b below));
+    only = λ h b below. (block_answered b below (each_of h b below)).1;
+  }
+
+-- ---- its difference
+
+in_time : (b : ℕ) → InTime ≡ Late → ⊥
+in_time b e = absurd (cc e)
 
 -- no block without an answer is determined
-not_determined : (packets : List Packet) (block : List ℕ) (b : ℕ) (h : ReceivedBlock) (a : Option (List ℕ)) → BlockStandsFor false block b packets h a → a ≡ None → ReceivedDetermine h → ⊥
-not_determined packets block b h None st none d = st.1 refl (block_same h.row h.source_symbols (has_received h) (has_id b packets) (λ e. ap is_some (st.0 e)) d)
-not_determined packets block b h (Some bytes) st none d = absurd (cc none)
+not_determined : (l : Lateness) (table : List TableRow) (c : Configuration) (packets : List Packet) (b : ℕ) (h : ReceivedBlock) (a : Option (List ℕ)) → FollowsBlock l table c b packets h a → l ≢ Late → a ≡ None → ReceivedDetermine h → ⊥
+not_determined l table c packets b h None f now none d = f.1 now (inr d)
+not_determined l table c packets b h (Some bytes) f now none d = absurd (cc none)
 
 -- a decoder whose difference is none where what was received of each open block determines it, and that stands for a list, has it none where it answers
-pub none_where_answered : (s : State) (difference : Option (List ℕ)) → 0 < s.configuration.source_blocks → 0 < s.configuration.symbol_size → (difference ≡ None → AreUnansweredDetermined s) → (AreUnansweredDetermined s → difference ≡ None) → IsNoneWhereAnswered s difference
-none_where_answered s difference some pos told tells table object packets st = (
-  λ none. subst IsSome (sym (from_all table object packets s (λ _. false) some pos st (λ b below. true_from_ne_false (is_some (s.answer b)) (λ unanswered.
-      not_determined packets (block_bytes s.configuration object b) b (s.received b) (s.answer b) (st.block b below) (none_is (s.answer b) unanswered) (told (none_is difference none) b below (none_is (s.answer b) unanswered)))))) refl,
-  λ answered. subst IsNone (sym (tells (λ b below unanswered. absurd (cc (ap is_some unanswered, each_of table object packets s (λ _. false) some pos st answered b below))))) refl,
+pub none_where_answered : DifferenceIsNone
+none_where_answered s difference exactly table object packets st = (
+  λ none. subst IsSome (sym (from_all _ table object packets s st (λ b below. true_from_ne_false (is_some (s.answer b)) (λ unanswered.
+      not_determined InTime table s.configuration packets b (s.received b) (s.answer b) (st.follows.block b below) (in_time b) (none_is (s.answer b) unanswered) (exactly.0 (none_is difference none) b below (none_is (s.answer b) unanswered)))))) refl,
+  λ answered. subst IsNone (sym (exactly.1 (λ b below unanswered. absurd (cc (ap is_some unanswered, each_of _ table object packets s st answered b below))))) refl,
 )
 
-pub answers_object : (s : State) (r : Option (List ℕ)) → 0 < s.configuration.source_blocks → 0 < s.configuration.symbol_size → r ≡ result_of s → AnswersObject s r
-answers_object s r some pos is table object packets late st none = subst (IsObjectAnswer table s.configuration object packets) (sym is) (exactly table object packets s late some pos st none)
+pub answers_object : (s : State) → AnswersObject s (result_of s)
+answers_object s table object packets late st none = exactly late table object packets s st none
 
-pub answers_nothing_else : (s : State) (r : Option (List ℕ)) → 0 < s.configuration.source_blocks → 0 < s.configuration.symbol_size → r ≡ result_of s → AnswersNothingElse s r
-answers_nothing_else s r some pos is table object packets late st = the_object table object packets s late some pos st r is
+pub answers_nothing_else : (s : State) → AnswersNothingElse s (result_of s)
+answers_nothing_else s table object packets late st = the_object late table object packets s st (result_of s) refl

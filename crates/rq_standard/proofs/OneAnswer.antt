@@ -10,9 +10,9 @@ use Rattle.rq_standard.specs.ReceivedBlock.{ReceivedBlock, IsBlockAnswer}
 use Rattle.rq_standard.specs.DecoderState.{State, append_both, first_blocks, result_of}
 use Rattle.rq_standard.specs.DecoderSteps.{received_after}
 use Rattle.rq_standard.proofs.Interleaved.{same_symbols}
-use Rattle.rq_standard.specs.Following.{FollowsRun, IsFirstAnswer}
+use Rattle.rq_standard.specs.Following.{InTime, FollowsRun, IsFirstAnswer}
 use Rattle.rq_standard.specs.PacketLaws.{AnswerIsOne}
-use Rattle.rq_standard.proofs.FirstAnswers.{IsAnsweredBy}
+use Rattle.rq_standard.proofs.FirstAnswers.{IsAnsweredBy, answered_by}
 
 -- ---- a block
 
@@ -32,16 +32,16 @@ one_block h x y aligned one other = same_symbols h.configuration h.source_symbol
 
 module _ (table : List TableRow) (c : Configuration) (b : ℕ) (packets : List Packet) (aligned : IsAligned c) where
   -- the first packets that can answer it are as many
-  same_count : (x y : List ℕ) (f : IsFirstAnswer table c b packets (Some x)) (g : IsFirstAnswer table c b packets (Some y)) → g.count ≡ f.count
+  same_count : (x y : List ℕ) (f : IsFirstAnswer InTime table c b packets (Some x)) (g : IsFirstAnswer InTime table c b packets (Some y)) → g.count ≡ f.count
   same_count x y f g = elim (cases_lt f.count g.count) [
-    | inl less ↦ absurd (g.needed f.count less (f.answers.some refl))
+    | inl less ↦ absurd (g.needed refl f.count less (f.answers.some refl))
     | inr from ↦ elim (cases_lt g.count f.count) [
-      | inl less ↦ absurd (f.needed g.count less (g.answers.some refl))
+      | inl less ↦ absurd (f.needed refl g.count less (g.answers.some refl))
       | inr back ↦ omega arith
     ]
   ]
 
-  one_first : (x y : List ℕ) → IsFirstAnswer table c b packets (Some x) → IsFirstAnswer table c b packets (Some y) → x ≡ y
+  one_first : (x y : List ℕ) → IsFirstAnswer InTime table c b packets (Some x) → IsFirstAnswer InTime table c b packets (Some y) → x ≡ y
   one_first x y f g = one_block (received_after table c b (take f.count packets)) x y aligned f.answers
       (subst (λ n. IsBlockAnswer (received_after table c b (take n packets)) (Some y)) (same_count x y f g) g.answers)
 
@@ -62,7 +62,7 @@ same_blocks one other (suc n) each =
 answered_block : (table : List TableRow) (c : Configuration) (packets : List Packet) (s : State) → s.configuration ≡ c → FollowsRun table packets s → (b : ℕ) → b < c.source_blocks → IsAnsweredBy table c b packets (s.answer b)
 answered_block table c packets s is follows b below =
     let within : b < s.configuration.source_blocks = subst (λ (k : Configuration). b < k.source_blocks) (sym is) below in
-    subst (λ k. IsAnsweredBy table k b packets (s.answer b)) is (follows.answers b within, follows.first b within)
+    subst (λ k. IsAnsweredBy table k b packets (s.answer b)) is (answered_by table s.configuration b packets (s.received b) (s.answer b) (follows.block b within))
 
 result_in : (c : Configuration) (s : State) → s.configuration ≡ c → result_of s ≡ option_map (take c.transfer_length) (first_blocks c.source_blocks s.answer)
 result_in c s is = ap (λ (k : Configuration). option_map (take k.transfer_length) (first_blocks k.source_blocks s.answer)) is

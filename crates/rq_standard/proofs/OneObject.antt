@@ -17,13 +17,14 @@ use Rattle.rq_standard.specs.Cutting.{block_symbols, block_bytes}
 use Rattle.rq_standard.specs.Equations.{precode_equations, symbol_coefficient, zero_symbol, internal_id, tuple_sum}
 use Rattle.rq_standard.specs.Received.{or_later, first_payload, has_id}
 use Rattle.rq_standard.specs.Headline.{SolvesZeros, DetermineBlock, block_row, block_source, known_ids, IsEncodingSymbol, IsPacketOf, IsHonestRun, IsAnswerable}
+use Rattle.rq_standard.specs.DecoderSteps.{received_after}
 use Rattle.rq_standard.specs.ReceivedBlock.{ReceivedBlock, has_received, SolvesReceived, ReceivedDetermine}
 use Rattle.rq_standard.proofs.BlockCuts.{pieces_same, whole_object}
 use Rattle.rq_standard.proofs.Columns.{sum_at, tuple_sum-same, source_sum, solves_received}
 use Rattle.rq_standard.proofs.Interleaved.{same_symbols}
 use Rattle.rq_standard.proofs.KnownIds.{known_source, known_repair, none_determined, block_same}
 use Rattle.rq_standard.proofs.PlainCut.{length-block_bytes}
-use Rattle.rq_standard.proofs.StandingSteps.{HasRow, received_with, received_symbol, length-block_source, source_at, source_sized}
+use Rattle.rq_standard.proofs.StandingSteps.{HasRow, received_symbol, length-block_source, source_at, source_sized}
 
 -- ---- columns that solve what was received
 
@@ -86,7 +87,7 @@ pub record IsShared (table : List TableRow) (c : Configuration) (one other : Lis
   pub is_other : IsPacketOf table c other packet
 
 module _ (table : List TableRow) (c : Configuration) (one other : List ℕ) (b : ℕ) where
-  shared_packet : (packets : List Packet) → AllByRecursion (IsPacketOf table c one) packets → AllByRecursion (IsPacketOf table c other) packets → IsShared table c one other b ⊎ ((e : ℕ) → has_id b packets e ≡ false)
+  pub shared_packet : (packets : List Packet) → AllByRecursion (IsPacketOf table c one) packets → AllByRecursion (IsPacketOf table c other) packets → IsShared table c one other b ⊎ ((e : ℕ) → has_id b packets e ≡ false)
   shared_packet [] is also = inr (λ e. refl)
   shared_packet (p ∷ packets) is also = elim (cases_eq p.id.block b) [
     | inl here ↦ inl (record { packet = p; here = here; is_one = is.0; is_other = also.0 })
@@ -103,7 +104,7 @@ module _ (table : List TableRow) (c : Configuration) (one other : List ℕ) (b :
 
     -- what was received of the block
     abbrev came : ReceivedBlock
-    came = received_with table c b (first_payload b packets)
+    came = received_after table c b packets
 
     column_of : (object : List ℕ) (p : Packet) → p.id.block ≡ b → IsPacketOf table c object p → IsEncodingSymbol row c.symbol_size (block_source c object b) p.id.esi p.payload
     column_of object p here is = subst (λ n. IsEncodingSymbol (block_row table c n) c.symbol_size (block_source c object n) p.id.esi p.payload) here is.symbol

@@ -11,7 +11,7 @@ use Rattle.rq_algebra.proofs.Sums.{add_twice, mul_zero, dot_zero}
 use Rattle.rq_algebra.proofs.SymbolSums.{add_symbols_comm, add_zeros, length-add_symbols}
 use Rattle.rq_standard.specs.declared.row.TableRow.{TableRow}
 use Rattle.rq_standard.specs.OctetField.{octets}
-use Rattle.rq_standard.specs.TableRows.{intermediate_symbols}
+use Rattle.rq_standard.specs.TableRows.{intermediate_symbols, greatest_size}
 use Rattle.rq_standard.specs.Packet.{Packet}
 use Rattle.rq_standard.specs.Configuration.{Configuration, IsAligned}
 use Rattle.rq_standard.specs.Cutting.{block_symbols, symbols_before, sub_block_size, place_in_block, block_bytes, symbol_of_block}
@@ -19,14 +19,18 @@ use Rattle.rq_standard.specs.Equations.{zero_symbol, symbol_coefficient, interna
 use Rattle.rq_standard.specs.Received.{or_later, payload_for, first_payload, has_id}
 use Rattle.rq_standard.specs.Headline.{IsNonsingular, IsEncodingSymbol, SolvesZeros, known_ids, block_row, block_source, IsPacketOf, HasNonsingularRows, IsAnswerable, IsHonestRun, IsOnlyObject}
 use Rattle.rq_standard.specs.ReceivedBlock.{has_received}
-use Rattle.rq_standard.specs.DecoderState.{State}
-use Rattle.rq_standard.specs.Standing.{BlockStandsFor, AnswersObject, AnswersOnlyObject}
-use Rattle.rq_standard.specs.Differences.{xor_bytes, HasNonsingularBlocks, IsDifference, MakesOthersFit, plain_sum}
+use Rattle.rq_standard.specs.DecoderState.{State, result_of}
+use Rattle.rq_standard.specs.Following.{FollowsBlock}
+use Rattle.rq_standard.specs.Standing.{AnswersOnlyObject}
+use Rattle.rq_standard.specs.StepLaws.{ResultIsObject, DifferencesFit}
+use Rattle.rq_standard.specs.Differences.{xor_bytes, HasNonsingularBlocks, IsDifference, plain_sum}
 use Rattle.rq_standard.proofs.BlockCuts.{block_byte}
 use Rattle.rq_standard.proofs.Columns.{sum_symbol}
 use Rattle.rq_standard.proofs.DifferenceColumns.{length-zero, add_zero_symbols, encoding-add, known_are_zeros, zeros_solve, zeros_are_octets, zeros_encode, no_change_is_zero, some_change}
 use Rattle.rq_standard.proofs.FirstOctets.{first_octet_symbol, first_octets_object, zero_octets, length-first_octets_object, block_of_first_octets, symbol_of_object, object_at_first, first_is_before_end}
 use Rattle.rq_standard.proofs.Interleaved.{get_or-symbol_of_block}
+use Rattle.rq_standard.proofs.HonestBlocks.{aligned_of}
+use Rattle.rq_standard.proofs.ObjectAnswers.{answers_object, answers_nothing_else}
 use Rattle.rq_standard.proofs.OneObject.{one_object}
 use Rattle.rq_standard.proofs.PlainCut.{length-block_bytes}
 use Rattle.rq_standard.proofs.StandingSteps.{HasRow, row_of_shape, length-symbol_of_block, length-block_source, source_at}
@@ -197,15 +201,20 @@ module _ (table : List TableRow) (c : Configuration) (pos : 0 < c.symbol_size) (
       solves_one true r known h = h refl
       solves_one false r known h = zeros_solve r known
 
--- what a decoder that stands for a list answers
-pub answers_only : (s : State) (answer : Option (List ℕ)) → 0 < s.configuration.source_blocks → 0 < s.configuration.symbol_size → IsAligned s.configuration → AnswersObject s answer → AnswersOnlyObject s answer
-answers_only s answer some pos aligned is table object packets st =
+-- what a decoder answers that stands for a list
+pub answers_only : (s : State) → AnswersOnlyObject s (result_of s)
+answers_only s table object packets late st now =
     let c = s.configuration in
-    let own = is table object packets (λ _. false) st (λ b. refl) in
-    let rows : (b : ℕ) → b < c.source_blocks → HasRow (block_row table c b) (block_symbols c b) = λ b below. row_of_shape table c b (s.received b) (st.shape b below) in (
-      λ h other fits. one_object table c object other packets pos some aligned rows st.run fits (own.only h),
-      λ only. subst IsSome (sym (own.whole (only_is_answerable table c pos some aligned rows object packets st.run only))) refl,
+    let f = st.follows in
+    let own = answers_object s table object packets late st now in
+    let aligned = aligned_of (greatest_size table) c f.accepted in
+    let rows : (b : ℕ) → b < c.source_blocks → HasRow (block_row table c b) (block_symbols c b) = λ b below. row_of_shape table c b (s.received b) (f.shape b below) in (
+      λ h other fits. one_object table c object other packets f.accepted.size_positive f.accepted.blocks_positive aligned rows st.run fits (own.only h),
+      λ only. subst IsSome (sym (own.whole (only_is_answerable table c f.accepted.size_positive f.accepted.blocks_positive aligned rows object packets st.run only))) refl,
     )
+
+pub result_is_object : ResultIsObject
+result_is_object s = (answers_object s, answers_nothing_else s, answers_only s)
 
 -- ---- what a decoder's bytes are
 
@@ -227,38 +236,38 @@ module _ (s : State) (pos : 0 < s.configuration.symbol_size) (some : 0 < s.confi
     nonzero = λ nonsingular. nonzero_byte s.configuration row_at columns pos some aligned (λ m. has_received (s.received m)) are b below (nonsingular b below) nonzero;
   }
 
-  -- a block of zeros has zero symbols
-  zero_source : (bytes : List ℕ) (b e : ℕ) → ((i : ℕ) → get_or (block_bytes s.configuration bytes b) i 0 ≡ 0) → e < block_symbols s.configuration b → get_or (block_source s.configuration bytes b) e (zero_symbol s.configuration.symbol_size) ≡ zero_symbol s.configuration.symbol_size
-  zero_source bytes b e zeros in_block =
-      let c = s.configuration in
-      let symbol = symbol_of_block c (block_symbols c b) (block_bytes c bytes b) e in
-      let long = length-symbol_of_block c (block_symbols c b) (block_bytes c bytes b) e in
-      source_at c bytes b e in_block ∙ ext_get_or 0 symbol (zero_symbol c.symbol_size) (long ∙ sym (length-zero c.symbol_size))
-      (λ t lt. get_or-symbol_of_block c (block_symbols c b) (block_bytes c bytes b) e t (omega (arith, long)) ∙ zeros (place_in_block c (block_symbols c b) e t) ∙ sym (at-zeros c.symbol_size t))
+-- a block of zeros has zero symbols
+zero_source : (s : State) (bytes : List ℕ) (b e : ℕ) → ((i : ℕ) → get_or (block_bytes s.configuration bytes b) i 0 ≡ 0) → e < block_symbols s.configuration b → get_or (block_source s.configuration bytes b) e (zero_symbol s.configuration.symbol_size) ≡ zero_symbol s.configuration.symbol_size
+zero_source s bytes b e zeros in_block =
+    let c = s.configuration in
+    let symbol = symbol_of_block c (block_symbols c b) (block_bytes c bytes b) e in
+    let long = length-symbol_of_block c (block_symbols c b) (block_bytes c bytes b) e in
+    source_at c bytes b e in_block ∙ ext_get_or 0 symbol (zero_symbol c.symbol_size) (long ∙ sym (length-zero c.symbol_size))
+    (λ t lt. get_or-symbol_of_block c (block_symbols c b) (block_bytes c bytes b) e t (omega (arith, long)) ∙ zeros (place_in_block c (block_symbols c b) e t) ∙ sym (at-zeros c.symbol_size t))
 
-  -- they make other objects fit
-  pub makes_others_fit : (bytes : List ℕ) → IsDifference s bytes → MakesOthersFit s bytes
-  makes_others_fit bytes d late table object other packets st fits =
-      let c = s.configuration in (
-        fits-xor table c rows st.run.nonsingular other bytes packets fits (record {
-          long = d.long;
-          zeros = λ b e below came. by_answer b e below came (s.answer b) refl;
-        }),
-        λ same. (d.nonzero received).2 (xor-same other bytes same (d.nonzero received).0),
-      ) where
-        rows : (b : ℕ) → b < s.configuration.source_blocks → HasRow (block_row table s.configuration b) (block_symbols s.configuration b)
-        rows b below = row_of_shape table s.configuration b (s.received b) (st.shape b below)
+-- they make other objects fit
+pub makes_others_fit : DifferencesFit
+makes_others_fit s bytes d late table object other packets st fits =
+    let c = s.configuration in (
+      fits-xor table c rows st.run.nonsingular other bytes packets fits (record {
+        long = d.long;
+        zeros = λ b e below came. by_answer b e below came (s.answer b) refl;
+      }),
+      λ same. (d.nonzero received).2 (xor-same other bytes same (d.nonzero received).0),
+    ) where
+      rows : (b : ℕ) → b < s.configuration.source_blocks → HasRow (block_row table s.configuration b) (block_symbols s.configuration b)
+      rows b below = row_of_shape table s.configuration b (s.received b) (st.follows.shape b below)
 
-        received : HasNonsingularBlocks s
-        received b below = subst IsNonsingular (sym (st.shape b below).row) (st.run.nonsingular b below)
+      received : HasNonsingularBlocks s
+      received b below = subst IsNonsingular (sym (st.follows.shape b below).row) (st.run.nonsingular b below)
 
-        by_answer : (b e : ℕ) → b < s.configuration.source_blocks → has_id b packets e ≡ true → (a : Option (List ℕ)) → s.answer b ≡ a
-            → IsEncodingSymbol (block_row table s.configuration b) s.configuration.symbol_size (block_source s.configuration bytes b) e (zero_symbol s.configuration.symbol_size)
-        by_answer b e below came (Some block) is =
-            let c = s.configuration in
-            zeros_encode (block_row table c b) c.symbol_size (block_symbols c b) (block_source c bytes b) e pos (rows b below).checked (st.run.nonsingular b below) (rows b below).fits (length-block_source c bytes b)
-            (λ i in_block. zero_source bytes b i (λ n. d.answered b n below (subst IsSome (sym is) refl)) in_block)
-        by_answer b e below came None is =
-            let c = s.configuration in
-            let reads = (subst (BlockStandsFor (late b) (block_bytes c object b) b packets (s.received b)) is (st.block b below)).0 in
-            subst (λ (r : TableRow). IsEncodingSymbol r c.symbol_size (block_source c bytes b) e (zero_symbol c.symbol_size)) (st.shape b below).row (d.zeros b e below (received b below) (ap is_some (reads e) ∙ came))
+      by_answer : (b e : ℕ) → b < s.configuration.source_blocks → has_id b packets e ≡ true → (a : Option (List ℕ)) → s.answer b ≡ a
+          → IsEncodingSymbol (block_row table s.configuration b) s.configuration.symbol_size (block_source s.configuration bytes b) e (zero_symbol s.configuration.symbol_size)
+      by_answer b e below came (Some block) is =
+          let c = s.configuration in
+          zeros_encode (block_row table c b) c.symbol_size (block_symbols c b) (block_source c bytes b) e st.follows.accepted.size_positive (rows b below).checked (st.run.nonsingular b below) (rows b below).fits (length-block_source c bytes b)
+          (λ i in_block. zero_source s bytes b i (λ n. d.answered b n below (subst IsSome (sym is) refl)) in_block)
+      by_answer b e below came None is =
+          let c = s.configuration in
+          let kept = (subst (FollowsBlock (late b) table c b packets (s.received b)) is (st.follows.block b below)).0 in
+          subst (λ (r : TableRow). IsEncodingSymbol r c.symbol_size (block_source c bytes b) e (zero_symbol c.symbol_size)) (st.follows.shape b below).row (d.zeros b e below (received b below) (ap (λ h. has_received h e) kept ∙ came))

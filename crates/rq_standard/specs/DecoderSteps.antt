@@ -1,5 +1,5 @@
 -- What a packet does to a decoder of an object, whoever sent it, and where memory is refused.
-use Rattle.std.specs.Prelude.{◌≡◌, ℕ, ◌<◌, ◌≢◌, ◌⊎◌, List, [], ◌∷◌, ◌++◌, Option, Some, None, MatchOption}
+use Rattle.std.specs.Prelude.{◌≡◌, ℕ, ◌<◌, ◌≢◌, ◌⊎◌, List, Option, Some, None, MatchOption}
 use Rattle.rq_standard.specs.declared.row.TableRow.{TableRow}
 use Rattle.rq_standard.specs.Packet.{Packet}
 use Rattle.rq_standard.specs.Configuration.{Configuration}
@@ -67,14 +67,6 @@ KeepsContradictions old new = (b : ℕ) → IsBlockContradictory old b → IsBlo
 abbrev pub received_after : List TableRow → Configuration → ℕ → List Packet → ReceivedBlock
 received_after table c b packets =
     record { configuration = c; number = b; row = block_row table c b; source_symbols = block_symbols c b; received = first_payload b packets }
-
--- of each block without an answer this is held
-abbrev pub HasReceivedRun : List TableRow → List Packet → State → Type 0
-HasReceivedRun table packets s = (b : ℕ) → b < s.configuration.source_blocks → s.answer b ≡ None → s.received b ≡ received_after table s.configuration b packets
-
--- a decoder that received a list has received the list with a packet more
-abbrev pub HasReceivedMore : State → Packet → State → Type 0
-HasReceivedMore old p new = (table : List TableRow) (packets : List Packet) → HasReceivedRun table packets old → HasReceivedRun table (packets ++ p ∷ []) new
 
 -- Where memory is refused for a packet: everything is as it was, or the packet is recorded and its block waits for its answer.
 abbrev pub StopsEarly : State → Packet → State → Type 0

@@ -1,5 +1,5 @@
 -- What several objects that make the same packets differ by.
-use Rattle.std.specs.Prelude.{◌≡◌, ◌≢◌, ℕ, ◌*◌, ◌/◌, ◌%◌, ◌<◌, Bool, true, List, length, map, slice_index, Option, None, IsNone, IsSome, ◌↔◌, if◌then◌else◌, ◌==◌, ◌&&◌, nat_lt}
+use Rattle.std.specs.Prelude.{◌≡◌, ◌≢◌, ℕ, ◌*◌, ◌/◌, ◌%◌, ◌<◌, true, List, length, map, slice_index, Option, None, IsNone, IsSome, ◌↔◌, if◌then◌else◌, ◌==◌, ◌&&◌, nat_lt}
 use Rattle.std.specs.List.{range_with_len}
 use Rattle.rq_algebra.specs.Symbols.{add_symbols}
 use Rattle.rq_algebra.specs.Systems.{dot}
@@ -13,6 +13,7 @@ use Rattle.rq_standard.specs.TableRows.{intermediate_symbols}
 use Rattle.rq_standard.specs.Headline.{IsNonsingular, IsEncodingSymbol, IsHonestRun, block_source}
 use Rattle.rq_standard.specs.ReceivedBlock.{has_received, ReceivedDetermine}
 use Rattle.rq_standard.specs.DecoderState.{State, result_of}
+use Rattle.rq_standard.specs.Following.{Lateness}
 use Rattle.rq_standard.specs.Standing.{StandsForButLate, StandsFor}
 
 -- the xor of two objects, byte by byte
@@ -48,7 +49,7 @@ IsNoneWhereAnswered s difference =
 -- of a decoder that stands for a list: bytes whose xor with any object that fits the list is another one that fits it
 abbrev pub MakesOthersFit : State → List ℕ → Type 0
 MakesOthersFit s bytes =
-    (late : ℕ → Bool) (table : List TableRow) (object other : List ℕ) (packets : List Packet)
+    (late : ℕ → Lateness) (table : List TableRow) (object other : List ℕ) (packets : List Packet)
     → StandsForButLate late table object packets s
     → IsHonestRun table s.configuration other packets
     → IsHonestRun table s.configuration (xor_bytes other bytes) packets × (xor_bytes other bytes ≢ other)

@@ -27,6 +27,7 @@ pub mod Received
 pub mod Rows
 pub mod SameIds
 pub mod Standing
+pub mod StepLaws
 pub mod Streams
 pub mod SymbolRows
 pub mod TableLaws

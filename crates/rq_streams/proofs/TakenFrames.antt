@@ -1,22 +1,26 @@
 -- Packets of an object, taken frame by frame.
-use Rattle.std.proofs.Common.{◌≡◌, ℕ, ◌+◌, ◌<◌, ◌≤◌, min, length, length-append, true, false, cond, Bool, Option, List, [], ◌∷◌, ◌++◌, Some, None, Ok, Err, refl, sym, ap, ◌∙◌, subst, arith, append_assoc, append-nil, inl, inr}
-use Rattle.std.specs.List.{AllByRecursion, cons_option}
+use Rattle.std.proofs.Common.{◌≡◌, ◌⊎◌, ℕ, ◌+◌, ◌<◌, ◌≤◌, min, length, length-append, true, false, cond, Bool, Option, List, [], ◌∷◌, ◌++◌, Some, None, Ok, Err, refl, sym, ap, ◌∙◌, subst, arith, append_assoc, append-nil, inl, inr}
+use Rattle.std.specs.List.{cons_option}
 use Rattle.rq_standard.specs.Packet.{Packet, packet_of_bytes}
 use Rattle.rq_standard.specs.Configuration.{Configuration}
 use Rattle.rq_standard.specs.declared.row.TableRow.{TableRow}
-use Rattle.rq_standard.specs.Headline.{IsPacketOf}
+use Rattle.rq_standard.specs.Headline.{IsHonestRun}
 use Rattle.rq_standard.specs.DecoderState.{State}
-use Rattle.rq_standard.specs.Standing.{StandsFor, IsHonestPacket}
+use Rattle.rq_standard.specs.DecoderSteps.{Adds, StopsEarly, Stops}
+use Rattle.rq_standard.specs.Standing.{IsHonestPacket}
 use Rattle.rq_bytes.specs.declared.error.Error.{Error}
-use Rattle.rq_bytes.specs.declared.error.Error.TheVariants.{Contradiction}
+use Rattle.rq_bytes.specs.declared.error.Error.TheVariants.{OutOfMemory}
 use Rattle.rq_standard.specs.Following.{FollowsRun}
 use Rattle.raptorq.specs.Runs.{IsNextRefusal, IsRefusalBehind}
-use Rattle.raptorq.specs.TakesPacket.{TakesPacket}
-use Rattle.raptorq.proofs.FollowedRuns.{one_passes, one_stops}
-use Rattle.raptorq.proofs.Lists.{all_at}
+use Rattle.raptorq.specs.Refused.{packet_refusal}
+use Rattle.raptorq.specs.TakesPacket.{StopsBy}
+use Rattle.rq_standard.proofs.FollowingSteps.{taken_is_followed}
+use Rattle.raptorq.proofs.FollowedRuns.{passes_below, taken_is_next, refused_is_next, one_passes, one_stops}
+use Rattle.raptorq.proofs.Lists.{next_honest}
+use Rattle.raptorq.proofs.Stops.{not_joined}
 use Rattle.rq_standard.specs.Streams.{frame_size, frames_in}
 use Rattle.rq_streams.specs.Frames.{is_skipped, kept_packet, kept_packets, skipped_count, packets_in_bytes, skipped_in_bytes}
-use Rattle.rq_streams.specs.ReceivedStreams.{StandsForFrames, FollowsFrames, IsFramesRefusal}
+use Rattle.rq_streams.specs.ReceivedStreams.{FollowsFrames, IsFramesRefusal}
 use Rattle.rq_standard.proofs.FrameLaws.{frames_in-next, frames_in-none}
 use Rattle.rq_streams.proofs.Skipping.{skipped_count-cons}
 
@@ -28,7 +32,6 @@ pub record AreFramesTaken (c : Configuration) (bytes left : List ℕ) (skipped :
   pub few : skipped + length left ≤ length bytes
   pub passed : (table : List TableRow) → FollowsRun table [] old → IsRefusalBehind table c [] done (Ok tt)
   pub follows : (table : List TableRow) → FollowsRun table [] old → FollowsRun table done now
-  pub stands : (table : List TableRow) (object : List ℕ) → StandsFor table object [] old → AllByRecursion (IsPacketOf table c object) (packets_in_bytes c bytes) → StandsFor table object done now
 
 unskipped_by : (skipped : Bool) (q p : Packet) → Some p ≡ cond skipped None (Some q) → skipped ≡ false
 unskipped_by true q p h = absurd (cc h)
@@ -56,44 +59,37 @@ module _ (c : Configuration) (bytes before after frame : List ℕ) (size skipped
   whole_next o kept = t.whole ∙ ap (λ fs. t.done ++ kept_packets c fs) cut ∙ ap (λ d. t.done ++ cons_option d (packets_in_bytes c after)) (sym kept)
 
   -- the frame's packet is the object's, where all are
-  honest_frame : (p : Packet) → now.configuration ≡ c → Some p ≡ kept_packet c frame → (table : List TableRow) (object : List ℕ) → AllByRecursion (IsPacketOf table c object) (packets_in_bytes c bytes) → IsPacketOf table now.configuration object p
-  honest_frame p same kept table object honest =
-      subst (λ k. IsPacketOf table k object p) (sym same)
-      (all_at (IsPacketOf table c object) t.done (packets_in_bytes c after) p (subst (AllByRecursion (IsPacketOf table c object)) (whole_next (Some p) kept) honest))
+  pub honest_packet : (p : Packet) → now.configuration ≡ c → Some p ≡ kept_packet c frame → (table : List TableRow) (object : List ℕ) → FollowsRun table [] old → IsHonestRun table c object (packets_in_bytes c bytes) → IsHonestPacket now p
+  honest_packet p same kept table object none run =
+      next_honest table c t.done now same (t.follows table none) object (packets_in_bytes c after) p (subst (IsHonestRun table c object) (whole_next (Some p) kept) run)
 
-  -- so it isn't refused
-  pub honest_packet : (p : Packet) → now.configuration ≡ c → Some p ≡ kept_packet c frame → (table : List TableRow) (object : List ℕ) → StandsFor table object [] old → AllByRecursion (IsPacketOf table c object) (packets_in_bytes c bytes) → IsHonestPacket now p
-  honest_packet p same kept table object st honest = record {
-    table = table;
-    object = object;
-    packets = t.done;
-    late = λ _. false;
-    stands = t.stands table object st honest;
-    of_object = honest_frame p same kept table object honest;
-  }
+  -- a packet that is refused, memory aside, is the first of them
+  pub stopped_frames : (p : Packet) (new : State) (e : Error) → now.configuration ≡ c → Some p ≡ kept_packet c frame → StopsBy (StopsEarly now p new) now p e new → (e ≡ OutOfMemory) ⊎ IsFramesRefusal c old bytes (Err e)
+  stopped_frames p new e same kept stops = by_cause stops (not_joined now p e new stops) where
+    first : (table : List TableRow) → FollowsRun table [] old → IsNextRefusal table now.configuration t.done p (Err e) → IsRefusalBehind table c [] (packets_in_bytes c bytes) (Err e)
+    first table none next =
+        subst (λ ps. IsRefusalBehind table c [] ps (Err e)) (sym (whole_next (Some p) kept))
+        (one_stops table c t.done (packets_in_bytes c after) p e (t.passed table none) (subst (λ k. IsNextRefusal table k t.done p (Err e)) same next))
 
-  -- a packet that contradicts those before it
-  pub contradicts_frames : {X : Type 0} (p : Packet) (new : State) (e : Error) → now.configuration ≡ c → Some p ≡ kept_packet c frame → e ≡ Contradiction → TakesPacket {X = X} now p (Err e) new → IsFramesRefusal c old bytes (Err e)
-  contradicts_frames p new e same kept is takes table none =
-      let next : IsNextRefusal table now.configuration t.done p (Err e) = elim (takes.next table t.done (t.follows table none)) [
-        | inl memory ↦ absurd (cc (memory, is))
-        | inr first ↦ first
-      ] in
-      subst (λ ps. IsRefusalBehind table c [] ps (Err e)) (sym (whole_next (Some p) kept))
-      (one_stops table c t.done (packets_in_bytes c after) p e (t.passed table none) (subst (λ k. IsNextRefusal table k t.done p (Err e)) same next))
+    by_cause : StopsBy (StopsEarly now p new) now p e new → StopsBy (Stops now p new) now p e new → (e ≡ OutOfMemory) ⊎ IsFramesRefusal c old bytes (Err e)
+    by_cause (inl tested) so = inr (λ table none. first table none (inl tested.0))
+    by_cause (inr (inl memory)) so = inl memory.1
+    by_cause (inr (inr x)) so = inr (λ table none. elim (refused_is_next table t.done p now new e (t.follows table none) so) [
+      | inl memory ↦ absurd (cc (memory, x.1))
+      | inr next ↦ first table none next
+    ])
 
   -- one packet more
-  pub taken_packet : {X : Type 0} (p : Packet) (x : X) (new : State) → now.configuration ≡ c → Some p ≡ kept_packet c frame → TakesPacket now p (Ok x) new → AreFramesTaken c bytes after skipped old new
-  taken_packet p x new same kept takes =
+  pub taken_packet : (p : Packet) (new : State) → now.configuration ≡ c → Some p ≡ kept_packet c frame → packet_refusal now.configuration p ≡ Ok tt → Adds now p new → AreFramesTaken c bytes after skipped old new
+  taken_packet p new same kept passes adds =
       let more = packets_in_bytes c after in
       record {
         done = t.done ++ p ∷ [];
         whole = whole_next (Some p) kept ∙ sym (append_assoc t.done (p ∷ []) more);
         counted = counted_next false (unskipped_by (is_skipped c frame) (packet_of_bytes frame) p kept) ∙ omega arith;
         few = omega (arith, t.few, longer);
-        passed = λ table none. one_passes table c t.done p (t.passed table none) (subst (λ k. IsNextRefusal table k t.done p (Ok tt)) same (takes.next table t.done (t.follows table none)));
-        follows = λ table none. takes.follows table t.done (t.follows table none);
-        stands = λ table object st honest. takes.stands table object t.done (t.stands table object st honest) (honest_frame p same kept table object honest);
+        passed = λ table none. one_passes table c t.done p (t.passed table none) (subst (λ k. IsNextRefusal table k t.done p (Ok tt)) same (taken_is_next table t.done p now new (t.follows table none) passes adds));
+        follows = λ table none. taken_is_followed table t.done p now new (t.follows table none) (passes_below now.configuration p passes) adds;
       }
 
   -- one frame skipped
@@ -105,7 +101,6 @@ module _ (c : Configuration) (bytes before after frame : List ℕ) (size skipped
     few = omega (arith, t.few, is.1, is.2, wide, longer);
     passed = t.passed;
     follows = t.follows;
-    stands = t.stands;
   }
 
 -- behind the last frame
@@ -118,9 +113,6 @@ module _ (c : Configuration) (bytes left : List ℕ) (skipped : ℕ) (old now : 
 
   all_done : packets_in_bytes c bytes ≡ t.done
   all_done = t.whole ∙ ap (λ fs. t.done ++ kept_packets c fs) no_frames ∙ append-nil t.done
-
-  pub taken_all : StandsForFrames c old bytes now
-  taken_all table object st honest = subst (λ ps. StandsFor table object ps now) (sym all_done) (t.stands table object st honest)
 
   pub taken_follows : FollowsFrames c old bytes now
   taken_follows table none = subst (λ ps. FollowsRun table ps now) (sym all_done) (t.follows table none)

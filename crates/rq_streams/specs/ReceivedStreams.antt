@@ -1,14 +1,12 @@
 -- What a receiver refuses and skips of any bytes, and what it answers over a mixed stream of an object's packets.
 use Rattle.std.specs.Prelude.{◌≡◌, ℕ, List, [], length, Option, Result, Ok, Err, MatchResult, Some, None, IfSome, IfOk, IsOkAnd, unwrap_or, if◌then◌else◌, nat_lt, ◌⊎◌}
-use Rattle.std.specs.List.{AllByRecursion}
 use Rattle.rq_bytes.specs.declared.error.Error.{Error}
 use Rattle.rq_bytes.specs.declared.error.Error.TheVariants.{HeaderTooShort, OutOfMemory}
 use Rattle.rq_standard.specs.Packet.{Packet}
 use Rattle.rq_standard.specs.Configuration.{Configuration}
 use Rattle.rq_standard.specs.declared.row.TableRow.{TableRow}
-use Rattle.rq_standard.specs.Headline.{IsPacketOf, IsAnswerable, IsOnlyObject, IsObjectAnswer}
+use Rattle.rq_standard.specs.Headline.{IsHonestRun, IsAnswerable, IsOnlyObject, IsObjectAnswer}
 use Rattle.rq_standard.specs.DecoderState.{State, result_of}
-use Rattle.rq_standard.specs.Standing.{StandsFor}
 use Rattle.rq_standard.specs.Streams.{stream_of}
 use Rattle.raptorq.specs.declared.decoder.object.Decoder.{Decoder}
 use Rattle.raptorq.specs.Decoder.{state_of}
@@ -51,14 +49,6 @@ pub record IsStreamOf (table : List TableRow) (c : Configuration) (object : List
 abbrev pub object_of : Decoder → List ℕ
 object_of d = unwrap_or (result_of (state_of d)) []
 
--- a decoder that stood for no packets stands for those of the frames that aren't skipped, where they are the object's
-abbrev pub StandsForFrames : Configuration → State → List ℕ → State → Type 0
-StandsForFrames c old bytes new =
-    (table : List TableRow) (object : List ℕ)
-    → let packets = packets_in_bytes c bytes in
-    StandsFor table object [] old → AllByRecursion (IsPacketOf table c object) packets
-    → StandsFor table object packets new
-
 -- a decoder that followed no packets follows those of the frames that aren't skipped
 abbrev pub FollowsFrames : Configuration → State → List ℕ → State → Type 0
 FollowsFrames c old bytes new = (table : List TableRow) → FollowsRun table [] old → FollowsRun table (packets_in_bytes c bytes) new
@@ -77,8 +67,7 @@ AnswersFrames c old bytes (Err e) = (e ≡ OutOfMemory) ⊎ IsFramesRefusal c ol
 abbrev pub StopsHonestFrames : Configuration → State → List ℕ → Error → Type 0
 StopsHonestFrames c old bytes e =
     (table : List TableRow) (object : List ℕ)
-    → StandsFor table object [] old → AllByRecursion (IsPacketOf table c object) (packets_in_bytes c bytes)
-    → e ≡ OutOfMemory
+    → FollowsRun table [] old → IsHonestRun table c object (packets_in_bytes c bytes) → e ≡ OutOfMemory
 
 -- the object of a mixed stream, exactly where the packets among its frames determine it
 abbrev pub AnswersStream : List TableRow → List ℕ → Option (List ℕ) → Type 0

@@ -7,7 +7,7 @@ ghost use Rattle.rq_standard.specs.Streams.{frame_size};
 ghost use Rattle.rq_standard.specs.DecoderState.{result_of};
 ghost use Rattle.rq_streams.specs.Ends.{AnswersAs, Ends, EndsAtFailure, failed_calls};
 ghost use Rattle.rq_streams.specs.Frames.{header_length, kept_packet, skipped_in, skipped_in_bytes};
-ghost use Rattle.rq_streams.specs.ReceivedStreams.{header_configuration, object_of, StandsForFrames, FollowsFrames, AnswersFrames, StopsHonestFrames, IsStreamAnswer, IsWantedOf, AnswersStream, RefusesStream, RefusesFirst, ReceivesAnswer, CountsSkipped, ReceivesExactly, ReceivesWhereAnyCan, CountsOthers};
+ghost use Rattle.rq_streams.specs.ReceivedStreams.{header_configuration, object_of, FollowsFrames, AnswersFrames, StopsHonestFrames, IsStreamAnswer, IsWantedOf, AnswersStream, RefusesStream, RefusesFirst, ReceivesAnswer, CountsSkipped, ReceivesExactly, ReceivesWhereAnyCan, CountsOthers};
 
 use crate::counted::Counted;
 use crate::run::{Outcome, Stop, flush, read_all, write_bytes};
@@ -64,7 +64,6 @@ fn add_frames(
     ensures honest { IfErr result (StopsHonestFrames config.now (state_of decoder.old) frames.now) }
     ensures configuration { (state_of decoder.new).configuration ≡ (state_of decoder.old).configuration }
     ensures follows { OnOk result (FollowsFrames config.now (state_of decoder.old) frames.now (state_of decoder.new)) }
-    ensures stands { OnOk result (StandsForFrames config.now (state_of decoder.old) frames.now (state_of decoder.new)) }
 {
     let size = config.frame_size();
     let mut skipped = 0;

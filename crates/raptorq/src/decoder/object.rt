@@ -32,7 +32,7 @@ struct ObjectBlock {
 impl ObjectBlock {
     ghost use Rattle.raptorq.specs.Unanswered.{ShowsUnanswered};
     ghost use Rattle.rq_standard.specs.DecoderState.{IsReceivedOf, new_received, new_answer};
-    ghost use Rattle.raptorq.specs.Stopping.{AddsHereOrStops};
+    ghost use Rattle.raptorq.specs.TakesPacket.{AddsHereOrStops};
     ghost use Rattle.raptorq.specs.Decoder.{answer_of};
     ghost use Rattle.raptorq.specs.Remembering.{RemembersHere};
     ghost use Rattle.rq_block.specs.MissingPackets.{NeedsMore};
@@ -150,17 +150,15 @@ pub struct Decoder {
 
 impl Decoder {
     ghost use Rattle.rq_standard.specs.Cutting.{symbols_before};
-    ghost use Rattle.rq_standard.specs.Differences.{AreUnansweredDetermined, IsDifference, IsNoneWhereAnswered, MakesOthersFit};
+    ghost use Rattle.rq_standard.specs.Differences.{AreUnansweredDetermined, IsDifference};
     ghost use Rattle.rq_standard.specs.DecoderState.{IsNewState, result_of};
-    ghost use Rattle.rq_standard.specs.DecoderSteps.{Stops, StopsEarly, IsBlockContradictory};
-    ghost use Rattle.rq_standard.specs.Standing.{StandsForNone, LeavesBlockLate, LeavesOrAnswersLateBlock};
+    ghost use Rattle.rq_standard.specs.DecoderSteps.{Stops, StopsEarly};
     ghost use Rattle.std.specs.Option.{option_copied};
-    ghost use Rattle.raptorq.specs.BlockBytes.{answered_part, AnswersPart};
+    ghost use Rattle.raptorq.specs.BlockBytes.{answered_part};
     ghost use Rattle.raptorq.specs.TakesPacket.{TakesPacket};
-    ghost use Rattle.raptorq.specs.Stopping.{AddsOrStops};
     ghost use Rattle.rq_block.specs.MissingPackets.{NeedsMore};
     ghost use Rattle.raptorq.specs.Unanswered.{TellsMissingOf};
-    ghost use Rattle.raptorq.specs.Decoder.{state_of, solving_at, solving_of_blocks, missing_of, IsAnswerOf, IsBlockAt};
+    ghost use Rattle.raptorq.specs.Decoder.{state_of, solving_at, solving_of_blocks, missing_of, IsBlockAt};
     ghost use Rattle.raptorq.specs.Remembering.{Remembers};
 
     /// The decoder of an object in this configuration, before any packet.
@@ -174,7 +172,6 @@ impl Decoder {
         ensures refused { IsAnswer (λ _. tt) result (checked_configuration (greatest_size table.now) config) }
         ensures accepted { OnOk result (IsAccepted (greatest_size table.now) config) }
         ensures state { IfOk result (λ d. IsNewState table.now config (state_of d)) }
-        ensures stands { IfOk result (λ d. StandsForNone table.now config (state_of d)) }
         ensures follows { IfOk result (λ d. FollowsRun table.now [] (state_of d)) }
         ensures solving { IfOk result (λ d. solving_of_blocks d ≡ replicate config.source_blocks (unsolved SPARSE_MATRIX_THRESHOLD)) }
     {
@@ -211,7 +208,7 @@ impl Decoder {
 
     // Takes a packet, whoever sent it.
     fn add_to_block(&mut self, packet: EncodingPacket) -> Result<(), Error>
-        ensures adds { AddsOrStops (state_of self.old) packet result (state_of self.new) }
+        ensures takes { TakesPacket StopsEarly (state_of self.old) packet result (state_of self.new) }
         ensures configuration { (state_of self.new).configuration ≡ (state_of self.old).configuration }
         ensures remembers { Remembers self.old packet result self.new }
     {
@@ -233,9 +230,7 @@ impl Decoder {
     /// Where memory is refused after the packet was recorded, the next packet of its block tries to
     /// answer it again.
     pub fn add_new_packet(&mut self, packet: EncodingPacket) -> Result<(), Error>
-        ensures takes { TakesPacket (state_of self.old) packet result (state_of self.new) }
-        ensures stops { IfErr result (λ e. e ≡ Error.OutOfMemory → StopsEarly (state_of self.old) packet (state_of self.new)) }
-        ensures leaves_late { IfErr result (λ e. e ≡ Error.OutOfMemory → LeavesBlockLate (state_of self.old) packet (state_of self.new)) }
+        ensures takes { TakesPacket StopsEarly (state_of self.old) packet result (state_of self.new) }
         ensures remembers { Remembers self.old packet result self.new }
     {
         self.add_to_block(packet)
@@ -251,8 +246,7 @@ impl Decoder {
 
     /// The object, where each of its blocks is answered.
     pub fn get_result(&self) -> Result<Option<Vec<u8>>, Error>
-        ensures answer { IfOk result (λ r. IsAnswerOf (state_of self.now) (option_map vec_items r)) }
-        ensures contradicted { IfOk result (λ r. (b : ℕ) → IsBlockContradictory (state_of self.now) b → r ≡ None) }
+        ensures answer { IfOk result (λ r. option_map vec_items r ≡ result_of (state_of self.now)) }
         ensures memory { IfErr result (λ e. e ≡ Error.OutOfMemory) }
         ensures complete { OnErr result (IsSome (result_of (state_of self.now))) }
     {
@@ -309,7 +303,6 @@ impl Decoder {
     pub fn block_bytes(&self, source_block_number: u8) -> Option<&[u8]>
         ensures bytes { option_copied result ≡ answered_part (state_of self.now) source_block_number }
         ensures unknown { (state_of self.now).configuration.source_blocks ≤ source_block_number → result ≡ None }
-        ensures object { AnswersPart (state_of self.now) source_block_number (option_copied result) }
     {
         let Some(block) = self.block(source_block_number) else {
             return None;
@@ -327,11 +320,6 @@ impl Decoder {
     pub fn difference(&self) -> Result<Option<Vec<u8>>, Error>
         ensures exactly { IfOk result (λ r. (r ≡ None) ↔ AreUnansweredDetermined (state_of self.now)) }
         ensures bytes { IfOk result (λ r. IfSome (option_map vec_items r) (IsDifference (state_of self.now))) }
-
-        // Of a decoder that stands for a list: none exactly where the object is answered, and else
-        // bytes whose xor with any object that fits the list fits it.
-        ensures answered { IfOk result (λ r. IsNoneWhereAnswered (state_of self.now) (option_map vec_items r)) }
-        ensures fits { IfOk result (λ r. IfSome (option_map vec_items r) (MakesOthersFit (state_of self.now))) }
         ensures memory { IfErr result (λ e. e ≡ Error.OutOfMemory) }
     {
         let mut bytes = Vec::with_capacity(self.alloc, self.padded_length())?;
@@ -376,10 +364,8 @@ impl Decoder {
     /// Refuses as [`Decoder::add_new_packet`] does. Where memory is refused for the object, the
     /// blocks stay answered, and [`Decoder::get_result`] tries again.
     pub fn decode(&mut self, packet: EncodingPacket) -> Result<Option<Vec<u8>>, Error>
-        ensures takes { TakesPacket (state_of self.old) packet result (state_of self.new) }
-        ensures stops { IfErr result (λ e. e ≡ Error.OutOfMemory → Stops (state_of self.old) packet (state_of self.new)) }
-        ensures answer { IfOk result (λ r. IsAnswerOf (state_of self.new) (option_map vec_items r)) }
-        ensures leaves_late { IfErr result (λ e. e ≡ Error.OutOfMemory → LeavesOrAnswersLateBlock (state_of self.old) packet (state_of self.new)) }
+        ensures takes { TakesPacket Stops (state_of self.old) packet result (state_of self.new) }
+        ensures answer { IfOk result (λ r. option_map vec_items r ≡ result_of (state_of self.new)) }
         ensures remembers { Remembers self.old packet result self.new }
     {
         self.add_to_block(packet)?;

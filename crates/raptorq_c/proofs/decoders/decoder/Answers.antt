@@ -4,7 +4,6 @@ use Rattle.rq_block.specs.SourceBlockDecoder.{unsolved}
 use Rattle.rq_standard.specs.Configuration.{Configuration}
 use Rattle.rq_standard.specs.DecoderState.{IsNewState}
 use Rattle.rq_standard.specs.Following.{FollowsRun}
-use Rattle.rq_standard.specs.Standing.{StandsForNone}
 use Rattle.raptorq.specs.Decoder.{state_of}
 use Rattle.raptorq_c.specs.Handles.{IsNewDecoder, decoder_in}
 use Rattle.raptorq_c.specs.FurtherRows.{table_of}
@@ -18,7 +17,6 @@ returns-clause-decoder c =
     let rows = c.args.rows.now in
     let made : IsNewDecoder rows c.args.configuration.now d = record {
       new = holds_over (λ t k. IsNewState t k s) (table_of rows) _ _ _ c.in_ok-table.ensures c.deserialize-config.ensures c.in_ok-decoder.ensures.state;
-      stands = holds_over (λ t k. StandsForNone t k s) (table_of rows) _ _ _ c.in_ok-table.ensures c.deserialize-config.ensures c.in_ok-decoder.ensures.stands;
       follows = holds_over (λ t k. FollowsRun t [] s) (table_of rows) _ _ _ c.in_ok-table.ensures c.deserialize-config.ensures c.in_ok-decoder.ensures.follows;
       solving = c.in_ok-decoder.ensures.solving ∙ ap (λ (k : Configuration). replicate k.source_blocks (unsolved SPARSE_MATRIX_THRESHOLD)) c.deserialize-config.ensures;
     } in

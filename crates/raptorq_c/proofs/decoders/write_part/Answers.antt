@@ -2,7 +2,8 @@ use Rattle.std.proofs.Common.{◌≡◌, ◌<◌, ap, ◌∙◌, sym, subst}
 use Rattle.std.specs.Option.{option_copied}
 use Rattle.rq_standard.specs.Configuration.{Configuration}
 use Rattle.raptorq.specs.Decoder.{state_of}
-use Rattle.raptorq.proofs.AnsweredParts.{parts_of_decoder}
+use Rattle.raptorq.proofs.AnsweredParts.{parts_of_decoder, parts_are_objects}
+use Rattle.raptorq.specs.BlockBytes.{AnswersPart}
 use Rattle.raptorq_c.specs.Handles.{FillsWithBlock, IsPartOf, state_in}
 use Rattle.raptorq_c.specs.Numbers.{number_of}
 use Rattle.raptorq_c.proofs.HandleAnswers.{fills_block}
@@ -16,7 +17,7 @@ returns c =
     let known = subst (λ k. c.args.block < k) blocks c.if-block-source_blocks.false in
     let part = option_copied c.block_bytes.result in
     let lent = c.block_bytes.ensures in
-    let is : IsPartOf s c.args.block part = record { value = lent.bytes; object = lent.object; whole = parts_of_decoder c.in-Decoder.decoder } in
+    let is : IsPartOf s c.args.block part = record { value = lent.bytes; object = subst (AnswersPart s c.args.block) (sym lent.bytes) (parts_are_objects s c.args.block); whole = parts_of_decoder c.in-Decoder.decoder } in
     let filled = c.fill_answer.ensures in
     subst (λ k. FillsWithBlock (state_in k) c.args.block n c.args.bytes.now c.fill_answer.new.buffer) (sym c.in-Decoder.is)
     (fills_block s c.args.block part c.fill_answer.result c.args.bytes.now c.fill_answer.new.buffer known is filled.number filled.answered filled.kept)

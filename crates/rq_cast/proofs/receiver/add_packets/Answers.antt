@@ -20,8 +20,8 @@ loop-packet-preserved-in-Continue-1 c =
       whole = kept.whole ∙ ap (λ xs. c.loop-packet.yielded ++ xs) c.in-Some.ensures.steps.0
           ∙ sym (append_assoc c.loop-packet.yielded (p ∷ []) (into_iter_items c.next.new.self));
       taken = subst (λ ps. TakesAll (state_of c.args.decoder.now) ps (state_of c.add_new_packet.new.self)) (sym (known_more k c.loop-packet.yielded p known))
-          (takes_more (state_of c.args.decoder.now) (state_of c.loop-packet.decoder) (known_packets k c.loop-packet.yielded) kept.taken p tt
-          (state_of c.add_new_packet.new.self) c.in_ok-add_new_packet.ensures.takes);
+          (takes_more (state_of c.args.decoder.now) (state_of c.loop-packet.decoder) (known_packets k c.loop-packet.yielded) kept.taken p
+          (state_of c.add_new_packet.new.self) c.in_ok-add_new_packet.ensures.takes.0 c.in_ok-add_new_packet.ensures.takes.1);
       unknown = let more = unknown_more k c.loop-packet.yielded p true known in omega (arith, kept.unknown, more);
       few = omega (arith, kept.few, length-append c.loop-packet.yielded (p ∷ []));
     }

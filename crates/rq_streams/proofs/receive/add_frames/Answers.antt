@@ -1,11 +1,8 @@
-use Rattle.std.proofs.Common.{◌≡◌, ◌≤◌, ◌⊎◌, length, sym, ap, ◌∙◌, subst, arith, inl, inr, Ok, Some}
+use Rattle.std.proofs.Common.{◌≡◌, sym, ◌∙◌, inl, Some}
 use Rattle.std.proofs.lemmas.Result.{err_from_is_err_and}
-use Rattle.rq_bytes.specs.declared.error.Error.TheVariants.{OutOfMemory, Contradiction}
-use Rattle.raptorq.specs.Refused.{packet_refusal, IsPacketRefusal}
-use Rattle.rq_standard.specs.Streams.{frame_size}
+use Rattle.raptorq.proofs.Stops.{not_joined, honest_is_taken}
 use Rattle.rq_streams.specs.Frames.{kept_packet}
-use Rattle.rq_streams.proofs.Skipping.{packet_refusal-kept}
-use Rattle.rq_streams.proofs.TakenFrames.{taken_packet, taken_skipped, taken_count, taken_all, taken_follows, taken_passed, honest_packet, contradicts_frames}
+use Rattle.rq_streams.proofs.TakenFrames.{taken_packet, taken_skipped, taken_count, taken_follows, taken_passed, honest_packet, stopped_frames}
 use Rattle.rq_streams.proofs.receive.add_frames.Goals as goal
 use Rattle.rq_streams.proofs.receive.add_frames.Goals.{In-Some-2}
 
@@ -13,11 +10,6 @@ use Rattle.rq_streams.proofs.receive.add_frames.Goals.{In-Some-2}
 module _ (c : In-Some-2) where
   kept : Some c.in-Some-2.packet ≡ kept_packet c.args.config.now c.in-Some.frame.now
   kept = sym c.in-Some-2.is ∙ c.in_ok-packet.ensures.packet
-
-  passes : packet_refusal c.args.config.now c.in-Some-2.packet ≡ Ok tt
-  passes =
-      let short : length c.in-Some.frame.now ≤ frame_size c.args.config.now = omega (arith, c.in-Some.ensures.steps.1.1, c.loop-frame.invariant.size) in
-      packet_refusal-kept c.args.config.now c.in-Some.frame.now c.in-Some-2.packet short kept
 
 pub loop-frame-preserved-in-Continue-branch-3 : goal.loop-frame-preserved-in-Continue-branch-3
 loop-frame-preserved-in-Continue-branch-3 c =
@@ -28,8 +20,8 @@ loop-frame-preserved-in-Continue-branch-3 c =
     record {
       wide = kept_so.wide;
       size = step.0 ∙ kept_so.size;
-      configuration = added.configuration ∙ kept_so.configuration;
-      taken = taken_packet _ _ _ _ c.in-Some.frame.now _ _ _ _ kept_so.size step.1 kept_so.taken c.in-Some-2.packet tt _ kept_so.configuration (kept at) added;
+      configuration = added.1.elsewhere.configuration ∙ kept_so.configuration;
+      taken = taken_packet _ _ _ _ c.in-Some.frame.now _ _ _ _ kept_so.size step.1 kept_so.taken c.in-Some-2.packet _ kept_so.configuration (kept at) added.0 added.1;
     }
 
 pub loop-frame-preserved : goal.loop-frame-preserved
@@ -47,29 +39,20 @@ pub returns-in_err-add_new_packet-in-Some-2-clause-refused : goal.returns-in_err
 returns-in_err-add_new_packet-in-Some-2-clause-refused c =
     let at = (goal.at.returns-in_err-add_new_packet-in-Some-2-clause-refused c).In-Some-2 in
     let kept_so = c.loop-frame.invariant in
-    let step = c.in-Some.ensures.steps in
-    let e = c.in_err-add_new_packet-in-Some-2.field-0.0 in
-    let packet = c.in-Some-2.packet in
-    let refused : (e ≡ OutOfMemory) ⊎ (e ≡ Contradiction) = subst (IsPacketRefusal e) (ap (λ k. packet_refusal k packet) kept_so.configuration ∙ passes at) c.in_err-add_new_packet-in-Some-2.ensures.takes.refused in
     let p = err_from_is_err_and c.from_residual-in_err-add_new_packet-in-Some-2.result c.from_residual-in_err-add_new_packet-in-Some-2.ensures.1 in
-    rw (p.1, p.2) (elim refused [
-      | inl memory ↦ inl memory
-      | inr contradiction ↦ inr (contradicts_frames _ _ _ _ c.in-Some.frame.now _ _ _ _ kept_so.size step.1 kept_so.taken packet _ e kept_so.configuration (kept at) contradiction c.in_err-add_new_packet-in-Some-2.ensures.takes)
-    ])
+    rw (p.1, p.2) (stopped_frames _ _ _ _ c.in-Some.frame.now _ _ _ _ kept_so.size c.in-Some.ensures.steps.1 kept_so.taken c.in-Some-2.packet _ _ kept_so.configuration (kept at) c.in_err-add_new_packet-in-Some-2.ensures.takes)
 
 pub returns-in_err-add_new_packet-in-Some-2-clause-honest : goal.returns-in_err-add_new_packet-in-Some-2-clause-honest
 returns-in_err-add_new_packet-in-Some-2-clause-honest c =
     let at = (goal.at.returns-in_err-add_new_packet-in-Some-2-clause-honest c).In-Some-2 in
     let kept_so = c.loop-frame.invariant in
     let p = err_from_is_err_and c.from_residual-in_err-add_new_packet-in-Some-2.result c.from_residual-in_err-add_new_packet-in-Some-2.ensures.1 in
-    rw (p.1, p.2) (λ table object st honest. c.in_err-add_new_packet-in-Some-2.ensures.takes.honest
-    (honest_packet _ _ _ _ c.in-Some.frame.now _ _ _ _ kept_so.size c.in-Some.ensures.steps.1 kept_so.taken c.in-Some-2.packet kept_so.configuration (kept at) table object st honest))
+    let stops = not_joined _ c.in-Some-2.packet _ _ c.in_err-add_new_packet-in-Some-2.ensures.takes in
+    rw (p.1, p.2) (λ table object none run. honest_is_taken _ c.in-Some-2.packet _ _
+    (honest_packet _ _ _ _ c.in-Some.frame.now _ _ _ _ kept_so.size c.in-Some.ensures.steps.1 kept_so.taken c.in-Some-2.packet kept_so.configuration (kept at) table object none run) stops)
 
 pub returns-clause-skipped : goal.returns-clause-skipped
 returns-clause-skipped c = taken_count _ _ _ _ _ _ c.in-None.ensures.steps.1.0 c.loop-frame.invariant.taken
-
-pub returns-clause-stands : goal.returns-clause-stands
-returns-clause-stands c = taken_all _ _ _ _ _ _ c.in-None.ensures.steps.1.0 c.loop-frame.invariant.taken
 
 pub returns-clause-follows : goal.returns-clause-follows
 returns-clause-follows c = taken_follows _ _ _ _ _ _ c.in-None.ensures.steps.1.0 c.loop-frame.invariant.taken

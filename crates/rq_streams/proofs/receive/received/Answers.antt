@@ -1,13 +1,11 @@
-use Rattle.std.proofs.Common.{◌≡◌, ◌-◌, [], take, drop, length, sym, ap, ◌∙◌, subst, refl, ℕ, false, List, Result, Ok, Err, inl, inr}
+use Rattle.std.proofs.Common.{◌≡◌, ◌-◌, take, drop, length, sym, ap, ◌∙◌, subst, refl, ℕ, List, Result, Ok, Err, inl, inr}
 use Rattle.std.specs.Prelude.{IsOkAnd}
-use Rattle.std.specs.List.{AllByRecursion}
 use Rattle.std.proofs.lemmas.List.{take_rest}
 use Rattle.std.proofs.lemmas.Result.{err_from_is_err_and}
 use Rattle.rq_bytes.specs.Refusals.{IsRefusal}
-use Rattle.rq_standard.specs.Headline.{IsHonestRun, IsPacketOf, IsObjectAnswer}
+use Rattle.rq_standard.specs.Headline.{IsHonestRun, IsObjectAnswer}
 use Rattle.rq_standard.specs.DecoderState.{result_of}
-use Rattle.rq_standard.specs.Standing.{StandsFor}
-use Rattle.rq_standard.proofs.ObjectAnswers.{answers_object}
+use Rattle.raptorq.proofs.Lists.{answers_exactly}
 use Rattle.rq_standard.specs.TableRows.{greatest_size}
 use Rattle.rq_base.specs.RefusedInput.{checked_configuration}
 use Rattle.raptorq.specs.Decoder.{state_of}
@@ -73,18 +71,15 @@ module _ (c : In_ok-decoder) where
     are : packets ≡ packets_among frames
     are = ap (λ d. packets_in_bytes d behind) same ∙ ap (λ xs. packets_in_bytes k xs) (take_rest bytes 12) ∙ stream_packets c.args.table.now k object frames rest bytes s
 
-    starts : StandsFor c.args.table.now object [] (state_of c.in_ok-decoder.decoder)
-    starts = c.in_ok-decoder.ensures.stands object (subst (λ d. IsHonestRun c.args.table.now d object []) (sym same) (record { long = s.stream_run.run.long; nonsingular = s.stream_run.run.nonsingular; honest = tt }))
-
-    honest : AllByRecursion (IsPacketOf c.args.table.now config object) packets
-    honest = subst (AllByRecursion (IsPacketOf c.args.table.now config object)) (sym are) (subst (λ d. AllByRecursion (IsPacketOf c.args.table.now d object) (packets_among frames)) (sym same) s.stream_run.run.honest)
+    run : IsHonestRun c.args.table.now config object packets
+    run = subst (IsHonestRun c.args.table.now config object) (sym are) (subst (λ d. IsHonestRun c.args.table.now d object (packets_among frames)) (sym same) s.stream_run.run)
 
 pub returns-in_err-skipped-clause-memory : goal.returns-in_err-skipped-clause-memory
 returns-in_err-skipped-clause-memory c =
     let at = (goal.at.returns-in_err-skipped-clause-memory c).In_ok-decoder in
     let p = err_from_is_err_and c.from_residual-in_err-skipped.result c.from_residual-in_err-skipped.ensures.1 in
     rw (p.1, p.2) (subst (λ read. RefusesStream c.args.table.now read c.in_err-skipped.field-0.0) c.as_slice-stream.ensures.value (λ k object frames rest s.
-    c.in_err-skipped.ensures.honest c.args.table.now object (starts at k object frames rest s) (honest at k object frames rest s)))
+    c.in_err-skipped.ensures.honest c.args.table.now object c.in_ok-decoder.ensures.follows (run at k object frames rest s)))
 
 pub returns-in_err-config-clause-refused : goal.returns-in_err-config-clause-refused
 returns-in_err-config-clause-refused c =
@@ -140,7 +135,7 @@ returns-clause-answer c =
     let decoder = c.add_frames.new.decoder in
     let answer = result_of (state_of decoder) in
     subst (λ read. AnswersStream table read answer) c.as_slice-stream.ensures.value (λ k object frames rest s.
-    let end = subst (λ ps. StandsFor table object ps (state_of decoder)) (are at k object frames rest s)
-    (c.in_ok-skipped.ensures.stands table object (starts at k object frames rest s) (honest at k object frames rest s)) in
-    subst (λ d. IsObjectAnswer table d object (packets_among frames) answer) (c.in_ok-skipped.ensures.configuration ∙ c.in_ok-decoder.ensures.state.configuration ∙ same at k object frames rest s)
-    (answers_object (state_of decoder) answer decoder.some decoder.positive refl table object (packets_among frames) (λ _. false) end (λ b. refl)))
+    let now : (state_of decoder).configuration ≡ config at = c.in_ok-skipped.ensures.configuration ∙ c.in_ok-decoder.ensures.state.configuration in
+    subst (λ ps. IsObjectAnswer table k object ps answer) (are at k object frames rest s)
+    (subst (λ d. IsObjectAnswer table d object (packets at) answer) (same at k object frames rest s)
+    (answers_exactly table (config at) (packets at) (state_of decoder) now (c.in_ok-skipped.ensures.follows table c.in_ok-decoder.ensures.follows) object (run at k object frames rest s))))

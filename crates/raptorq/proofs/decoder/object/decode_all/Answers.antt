@@ -1,16 +1,17 @@
-use Rattle.std.proofs.Common.{◌≡◌, ℕ, Option, Vec, Global, ◌⊎◌, List, ◌∙◌, ◌∷◌, ◌++◌, [], Ok, Err, false, sym, ap, subst, arith}
+use Rattle.std.proofs.Common.{◌≡◌, ℕ, Option, Vec, Global, ◌⊎◌, ◌∙◌, ◌∷◌, ◌++◌, [], Ok, Err, sym, ap, subst, arith, append_assoc}
 use Rattle.std.specs.Vec.Iter.{into_iter_items}
 use Rattle.std.proofs.lemmas.Result.{IfOk-weaker, err_from_is_err_and}
 use Rattle.std.proofs.lemmas.List.{nil_from_length, map-append}
 use Rattle.rq_bytes.specs.declared.error.Error.TheVariants.{OutOfMemory}
 use Rattle.rq_bytes.specs.Refusals.{IsRefusal}
-use Rattle.rq_standard.specs.Headline.{IsHonestRun}
-use Rattle.rq_standard.specs.Standing.{StandsFor}
+use Rattle.rq_standard.specs.Headline.{IsHonestRun, AnswersExactly, AnswersWhereAnyCan}
 use Rattle.raptorq.specs.Decoder.{state_of}
 use Rattle.rq_standard.specs.Following.{FollowsRun}
 use Rattle.raptorq.specs.Runs.{packets_of, IsNextRefusal, IsRefusalBehind}
-use Rattle.raptorq.proofs.FollowedRuns.{one_passes, run_unmade, run_answers, run_stops}
-use Rattle.raptorq.proofs.Lists.{next_whole, done_is_all, step_honest, packets_of-push, answers_exactly, answers_where_any_can}
+use Rattle.rq_standard.proofs.FollowingSteps.{taken_is_followed}
+use Rattle.raptorq.proofs.FollowedRuns.{passes_below, taken_is_next, refused_is_next, one_passes, run_unmade, run_answers, run_stops}
+use Rattle.raptorq.proofs.Lists.{next_whole, done_is_all, next_honest, packets_of-push, answers_exactly, answers_where_any_can}
+use Rattle.raptorq.proofs.Stops.{not_joined, honest_is_taken}
 use Rattle.raptorq.proofs.decoder.object.decode_all.Goals as goal
 use Rattle.raptorq.proofs.decoder.object.decode_all.Goals.{After-set_sparse_threshold, In-None}
 
@@ -24,9 +25,6 @@ module _ (c : After-set_sparse_threshold) where
 
   same : (state_of c.set_sparse_threshold.new.self).configuration ≡ c.args.config
   same = ap (λ s. s.configuration) c.set_sparse_threshold.ensures.same ∙ c.loop-step.invariant.configuration
-
-  stands : (object : List ℕ) → IsHonestRun c.args.table.now c.args.config object (packets_of c.args.steps.items) → StandsFor c.args.table.now object (packets_of c.loop-step.yielded) (state_of c.set_sparse_threshold.new.self)
-  stands object run = subst (StandsFor c.args.table.now object (packets_of c.loop-step.yielded)) (sym c.set_sparse_threshold.ensures.same) (c.loop-step.invariant.stands object run)
 
   follows : FollowsRun c.args.table.now (packets_of c.loop-step.yielded) (state_of c.set_sparse_threshold.new.self)
   follows = subst (FollowsRun c.args.table.now (packets_of c.loop-step.yielded)) (sym c.set_sparse_threshold.ensures.same) c.loop-step.invariant.follows
@@ -46,15 +44,15 @@ loop-step-preserved c =
     let step = c.in-Some.step in
     let left = into_iter_items c.next.new.self in
     let done = packets_of c.loop-step.yielded in
+    let old = state_of c.set_sparse_threshold.new.self in
+    let new = state_of c.add_new_packet.new.self in
+    let taken = c.in_ok-add_new_packet.ensures.takes in
     record {
-      configuration = c.in_ok-add_new_packet.ensures.takes.configuration ∙ same at;
+      configuration = taken.1.elsewhere.configuration ∙ same at;
       whole = next_whole c.args.steps.items c.loop-step.yielded (into_iter_items c.loop-step.step-iterator) left step kept.whole (next at);
       passed = subst (λ ps. IsRefusalBehind table k [] ps (Ok tt)) (sym (packets_of-push c.loop-step.yielded step))
-          (one_passes table k done step.1 kept.passed (subst (λ d. IsNextRefusal table d done step.1 (Ok tt)) (same at) (c.in_ok-add_new_packet.ensures.takes.next table done (follows at))));
-      follows = subst (λ ps. FollowsRun table ps (state_of c.add_new_packet.new.self)) (sym (packets_of-push c.loop-step.yielded step)) (c.in_ok-add_new_packet.ensures.takes.follows table done (follows at));
-      stands = λ object run. subst (λ ps. StandsFor table object ps (state_of c.add_new_packet.new.self)) (sym (packets_of-push c.loop-step.yielded step))
-          (c.in_ok-add_new_packet.ensures.takes.stands table object (packets_of c.loop-step.yielded) (stands at object run)
-          (step_honest table k (state_of c.set_sparse_threshold.new.self).configuration object c.args.steps.items c.loop-step.yielded left step (same at) (whole at) run));
+          (one_passes table k done step.1 kept.passed (subst (λ d. IsNextRefusal table d done step.1 (Ok tt)) (same at) (taken_is_next table done step.1 old new (follows at) taken.0 taken.1)));
+      follows = subst (λ ps. FollowsRun table ps new) (sym (packets_of-push c.loop-step.yielded step)) (taken_is_followed table done step.1 old new (follows at) (passes_below old.configuration step.1 taken.0) taken.1);
     }
 
 pub returns-in_err-add_new_packet-clause-refused : goal.returns-in_err-add_new_packet-clause-refused
@@ -62,14 +60,15 @@ returns-in_err-add_new_packet-clause-refused c =
     let at = (goal.at.returns-in_err-add_new_packet-clause-refused c).After-set_sparse_threshold in
     let e = c.in_err-add_new_packet.field-0.0 in
     let p = err_from_is_err_and c.from_residual-in_err-add_new_packet.result c.from_residual-in_err-add_new_packet.ensures.1 in
-    rw (p.1, p.2) (λ object run. subst (IsRefusal e) (sym c.in_ok-decoder.ensures.refused) (c.in_err-add_new_packet.ensures.takes.honest (record {
-      table = c.args.table.now;
-      object = object;
-      packets = packets_of c.loop-step.yielded;
-      late = λ _. false;
-      stands = stands at object run;
-      of_object = step_honest c.args.table.now c.args.config (state_of c.set_sparse_threshold.new.self).configuration object c.args.steps.items c.loop-step.yielded (into_iter_items c.next.new.self) c.in-Some.step (same at) (whole at) run;
-    })))
+    let old = state_of c.set_sparse_threshold.new.self in
+    let new = state_of c.add_new_packet.new.self in
+    let done = packets_of c.loop-step.yielded in
+    let rest = packets_of (into_iter_items c.next.new.self) in
+    let packet = c.in-Some.step.1 in
+    rw (p.1, p.2) (λ object run. subst (IsRefusal e) (sym c.in_ok-decoder.ensures.refused)
+    (honest_is_taken old packet new e
+    (next_honest c.args.table.now c.args.config done old (same at) (follows at) object rest packet (subst (IsHonestRun c.args.table.now c.args.config object) (around at ∙ append_assoc done (packet ∷ []) rest) run))
+    (not_joined old packet e new c.in_err-add_new_packet.ensures.takes)))
 
 -- all steps were taken
 module _ (c : In-None) where
@@ -82,23 +81,21 @@ module _ (c : In-None) where
   follows_all : FollowsRun c.args.table.now (packets_of c.args.steps.items) (state_of c.loop-step.decoder)
   follows_all = subst (λ ps. FollowsRun c.args.table.now ps (state_of c.loop-step.decoder)) all c.loop-step.invariant.follows
 
-  stands_for_all : (object : List ℕ) → IsHonestRun c.args.table.now c.args.config object (packets_of c.args.steps.items) → StandsFor c.args.table.now object (packets_of c.args.steps.items) (state_of c.loop-step.decoder)
-  stands_for_all object run = subst (λ ps. StandsFor c.args.table.now object ps (state_of c.loop-step.decoder)) all (c.loop-step.invariant.stands object run)
-
 pub returns-clause-answer : goal.returns-clause-answer
 returns-clause-answer c =
-    let followed = c.loop-step.invariant in
-    IfOk-weaker c.get_result.result _ _ (λ r is. record { state = state_of c.loop-step.decoder; configuration = followed.configuration; follows = follows_all (goal.at.returns-clause-answer c).In-None; value = is.value }) c.get_result.ensures.answer
+    IfOk-weaker c.get_result.result _ _ (λ r is. record { state = state_of c.loop-step.decoder; configuration = c.loop-step.invariant.configuration; follows = follows_all (goal.at.returns-clause-answer c).In-None; value = is }) c.get_result.ensures.answer
 
 pub returns-clause-headline : goal.returns-clause-headline
 returns-clause-headline c =
-    IfOk-weaker c.get_result.result _ _ (λ r is. answers_exactly c.args.table.now c.args.config (packets_of c.args.steps.items) (state_of c.loop-step.decoder) _ c.loop-step.invariant.configuration
-    (stands_for_all (goal.at.returns-clause-headline c).In-None) is.object) c.get_result.ensures.answer
+    let all = packets_of c.args.steps.items in
+    IfOk-weaker c.get_result.result _ _ (λ r is. subst (AnswersExactly c.args.table.now c.args.config all) (sym is)
+    (answers_exactly c.args.table.now c.args.config all (state_of c.loop-step.decoder) c.loop-step.invariant.configuration (follows_all (goal.at.returns-clause-headline c).In-None))) c.get_result.ensures.answer
 
 pub returns-clause-only_object : goal.returns-clause-only_object
 returns-clause-only_object c =
-    IfOk-weaker c.get_result.result _ _ (λ r is. answers_where_any_can c.args.table.now c.args.config (packets_of c.args.steps.items) (state_of c.loop-step.decoder) _ c.loop-step.invariant.configuration
-    (stands_for_all (goal.at.returns-clause-only_object c).In-None) is.only_object) c.get_result.ensures.answer
+    let all = packets_of c.args.steps.items in
+    IfOk-weaker c.get_result.result _ _ (λ r is. subst (AnswersWhereAnyCan c.args.table.now c.args.config all) (sym is)
+    (answers_where_any_can c.args.table.now c.args.config all (state_of c.loop-step.decoder) c.loop-step.invariant.configuration (follows_all (goal.at.returns-clause-only_object c).In-None))) c.get_result.ensures.answer
 
 pub returns-in_err-decoder-clause-in_order : goal.returns-in_err-decoder-clause-in_order
 returns-in_err-decoder-clause-in_order c =
@@ -112,10 +109,12 @@ returns-in_err-add_new_packet-clause-in_order c =
     let k = c.args.config in
     let done = packets_of c.loop-step.yielded in
     let packet = c.in-Some.step.1 in
+    let old = state_of c.set_sparse_threshold.new.self in
+    let new = state_of c.add_new_packet.new.self in
     let e = c.in_err-add_new_packet.field-0.0 in
     let p = err_from_is_err_and c.from_residual-in_err-add_new_packet.result c.from_residual-in_err-add_new_packet.ensures.1 in
     rw (p.1, p.2) (run_stops table k (packets_of c.args.steps.items) c.in_ok-decoder.ensures.refused (Option (Vec ℕ Global)) done (packets_of (into_iter_items c.next.new.self)) packet e (around at) c.loop-step.invariant.passed
-    (subst (λ d. (e ≡ OutOfMemory) ⊎ IsNextRefusal table d done packet (Err e)) (same at) (c.in_err-add_new_packet.ensures.takes.next table done (follows at))))
+    (subst (λ d. (e ≡ OutOfMemory) ⊎ IsNextRefusal table d done packet (Err e)) (same at) (refused_is_next table done packet old new e (follows at) (not_joined old packet e new c.in_err-add_new_packet.ensures.takes))))
 
 pub returns-clause-in_order : goal.returns-clause-in_order
 returns-clause-in_order c =

@@ -3,7 +3,8 @@ use Rattle.std.proofs.lemmas.Result.{err_from_is_err_and}
 use Rattle.std.proofs.lemmas.List.Elements.{All-set}
 use Rattle.std.proofs.Math.Seq.{map-set_same}
 use Rattle.rq_standard.specs.Cutting.{block_symbols}
-use Rattle.raptorq.specs.Stopping.{AddsOrStops}
+use Rattle.rq_standard.specs.DecoderSteps.{StopsEarly}
+use Rattle.raptorq.specs.TakesPacket.{TakesPacket}
 use Rattle.rq_block.specs.SourceBlockDecoder.{received_of}
 use Rattle.rq_block.proofs.Numbered.{length-numbered, numbered_at}
 use Rattle.raptorq.proofs.ObjectBlocks.{state, block_number, IsBlockOf, block_of_packet, block_takes, IsCut, remembers_at, takes_at}
@@ -58,8 +59,8 @@ invariant_of-self c =
       cut = All-set (λ b. IsCut s.config (received_of b.decoder)) items c.from.result y (c.add_packet.ensures.symbols ∙ ap (λ b. (received_of b.decoder).source_symbols) at.is ∙ s.cut p.id.block x at.below ∙ ap (λ b. block_symbols s.config (received_of b.decoder).number) (sym at.is) ∙ ap (block_symbols s.config) (sym c.add_packet.ensures.number)) s.cut;
     }
 
-pub returns-in_err-check_packet-clause-adds : goal.returns-in_err-check_packet-clause-adds
-returns-in_err-check_packet-clause-adds c =
+pub returns-in_err-check_packet-clause-takes : goal.returns-in_err-check_packet-clause-takes
+returns-in_err-check_packet-clause-takes c =
     let p = err_from_is_err_and c.from_residual.result c.from_residual.ensures.1 in
     rw (p.1, p.2) (inl (sym c.in_err-check_packet.ensures.tests, refl))
 
@@ -76,11 +77,11 @@ returns-clause-remembers c =
     remembers_at c.args.self.now.config c.args.self.now.blocks.items c.args.packet c.index_mut.result.now c.add_packet.new.self at.below at.is
     c.args.self.now _ c.add_packet.result refl (ap (λ i. set c.args.self.now.blocks.items i c.add_packet.new.self) at.here) c.add_packet.ensures.remembers
 
-pub returns-clause-adds : goal.returns-clause-adds
-returns-clause-adds c =
+pub returns-clause-takes : goal.returns-clause-takes
+returns-clause-takes c =
     let k = c.args.self.now.config in
     let items = c.args.self.now.blocks.items in
-    let at = block (goal.at.returns-clause-adds c).After-index_mut in
+    let at = block (goal.at.returns-clause-takes c).After-index_mut in
     let y = c.add_packet.new.self in
-    subst (λ i. AddsOrStops (state k items) c.args.packet c.add_packet.result (state k (set items i y))) (sym at.here)
+    subst (λ i. TakesPacket StopsEarly (state k items) c.args.packet c.add_packet.result (state k (set items i y))) (sym at.here)
     (takes_at k items c.args.packet c.index_mut.result.now y at.below at.is c.add_packet.result (sym c.in_ok-check_packet.ensures.tests) c.add_packet.ensures.adds)

@@ -1,7 +1,6 @@
-use Rattle.std.proofs.Common.{None, Some, take, ap, arith}
+use Rattle.std.proofs.Common.{None, ap, arith}
 use Rattle.std.specs.Prelude.{option_map, vec_items}
-use Rattle.raptorq.specs.Decoder.{state_of}
-use Rattle.raptorq.proofs.AnsweredParts.{answers_part, no_part, part_here, part_lent}
+use Rattle.raptorq.proofs.AnsweredParts.{no_part, part_here, part_lent}
 use Rattle.rq_standard.proofs.OptionValues.{none_otherwise}
 use Rattle.raptorq.proofs.decoder.object.Decoder.block_bytes.Goals as goal
 
@@ -10,14 +9,10 @@ returns-in_default-clause-bytes c =
     let s = c.args.self.now in
     no_part s.config s.blocks.items c.args.source_block_number s.numbered c.in_default.ensures.at
 
-pub returns-in_default-answer-clause-object : goal.returns-in_default-answer-clause-object
-returns-in_default-answer-clause-object c =
-    answers_part (state_of c.args.self.now) c.args.source_block_number None (part_here c.in-Some.ensures.at None (none_otherwise vec_items c.in-Some.block.now.answer (λ v e. c.in_default-answer.not-Some v e)))
+pub returns-in_default-answer-clause-bytes : goal.returns-in_default-answer-clause-bytes
+returns-in_default-answer-clause-bytes c = part_here c.in-Some.ensures.at None (none_otherwise vec_items c.in-Some.block.now.answer (λ v e. c.in_default-answer.not-Some v e))
 
 pub returns-clause-bytes : goal.returns-clause-bytes
 returns-clause-bytes c =
     part_lent c.in-Some.ensures.at c.in-Some-answer.bytes.items c.as_slice.result.now c.length_from.result c.min-length.result
     (ap (option_map vec_items) c.in-Some-answer.is) c.as_slice.ensures.value c.length_from.ensures (omega (arith, c.min-length.ensures, c.len.ensures, c.in-Some-answer.bytes.ok.0))
-
-pub returns-clause-object : goal.returns-clause-object
-returns-clause-object c = answers_part (state_of c.args.self.now) c.args.source_block_number (Some (take c.min-length.result c.as_slice.result.now)) (returns-clause-bytes c)

@@ -1,8 +1,6 @@
 use Rattle.std.proofs.Common.{◌≡◌, ℕ, ◌<◌, ◌++◌, Bool, true, false, List, length, take, Option, Some, None, Vec, Global, refl, sym, ap, ◌∙◌, subst, arith}
 use Rattle.std.specs.Prelude.{is_none, is_some, not, option_map, vec_items, ◌&&◌}
 use Rattle.rq_standard.specs.Differences.{AreUnansweredDetermined, IsDifference}
-use Rattle.rq_standard.proofs.ObjectAnswers.{none_where_answered}
-use Rattle.rq_standard.proofs.OtherObjects.{makes_others_fit}
 use Rattle.rq_block.specs.SourceBlockDecoder.{received_of}
 use Rattle.raptorq.specs.Unanswered.{ShowsUnanswered}
 use Rattle.rq_block.specs.Difference.{octets_of_column}
@@ -78,20 +76,5 @@ returns-then-determined-clause-exactly c = (λ _. is_determined (goal.at.returns
 pub returns-clause-exactly : goal.returns-clause-exactly
 returns-clause-exactly c = (λ none. absurd (cc none), λ determined. absurd (undetermined (goal.at.returns-clause-exactly c).After-loop-block c.if-determined.false determined))
 
-pub returns-then-determined-clause-answered : goal.returns-then-determined-clause-answered
-returns-then-determined-clause-answered c =
-    let s = c.args.self.now in
-    none_where_answered (state_of s) None s.some s.positive (λ _. is_determined (goal.at.returns-then-determined-clause-answered c).After-loop-block c.if-determined.true) (λ _. refl)
-
-pub returns-clause-answered : goal.returns-clause-answered
-returns-clause-answered c =
-    let s = c.args.self.now in
-    none_where_answered (state_of s) (Some c.truncate.new.self.items) s.some s.positive (λ none. absurd (cc none)) (λ determined. absurd (undetermined (goal.at.returns-clause-answered c).After-loop-block c.if-determined.false determined))
-
 pub returns-clause-bytes : goal.returns-clause-bytes
 returns-clause-bytes c = difference (goal.at.returns-clause-bytes c).After-truncate
-
-pub returns-clause-fits : goal.returns-clause-fits
-returns-clause-fits c =
-    let s = c.args.self.now in
-    makes_others_fit (state_of s) s.positive s.some s.aligned c.truncate.new.self.items (difference (goal.at.returns-clause-fits c).After-truncate)

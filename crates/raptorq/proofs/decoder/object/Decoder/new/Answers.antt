@@ -3,11 +3,10 @@ use Rattle.std.specs.List.{range_with_len}
 use Rattle.std.proofs.lemmas.List.{map_push, replicate_more}
 use borrow.Author.Count.{below_more}
 use Rattle.rq_standard.specs.DecoderState.{IsReceivedOf, IsNewState, new_received, new_answer}
-use Rattle.rq_standard.proofs.StandingSteps.{stands_new}
+use Rattle.rq_standard.proofs.FollowingSteps.{follows_no_packets}
 use Rattle.rq_block.specs.declared.encoder.TheConstants.{SPARSE_MATRIX_THRESHOLD}
 use Rattle.rq_block.specs.SourceBlockDecoder.{received_of, solving_of, unsolved}
 use Rattle.raptorq.specs.Decoder.{answer_of}
-use Rattle.raptorq.proofs.FollowedRuns.{follows_no_packets}
 use Rattle.rq_block.proofs.Numbered.{mapped_more, new_numbers}
 use Rattle.raptorq.proofs.ObjectBlocks.{state, new_each, IsCut, new_state}
 use Rattle.raptorq.proofs.decoder.object.Decoder.new.Goals as goal
@@ -57,15 +56,10 @@ invariant_of-result c =
 pub returns-clause-state : goal.returns-clause-state
 returns-clause-state c = new (goal.at.returns-clause-state c).After-loop-number
 
-pub returns-clause-stands : goal.returns-clause-stands
-returns-clause-stands c =
-    let at = (goal.at.returns-clause-stands c).After-loop-number in
-    stands_new c.args.table.now c.args.config (state c.args.config c.loop-number.blocks.items) (λ b below. c.loop-number.invariant.shape b (omega (arith, all at))) (new at)
-
 pub returns-clause-follows : goal.returns-clause-follows
 returns-clause-follows c =
     let at = (goal.at.returns-clause-follows c).After-loop-number in
-    follows_no_packets c.args.table.now c.args.config (state c.args.config c.loop-number.blocks.items) (λ b below. c.loop-number.invariant.shape b (omega (arith, all at))) (new at)
+    follows_no_packets c.args.table.now c.args.config (state c.args.config c.loop-number.blocks.items) c.in_ok-check.ensures.accepted (λ b below. c.loop-number.invariant.shape b (omega (arith, all at))) (new at)
 
 pub returns-clause-solving : goal.returns-clause-solving
 returns-clause-solving c = c.loop-number.invariant.solving ∙ ap (λ n. replicate n (unsolved SPARSE_MATRIX_THRESHOLD)) (all (goal.at.returns-clause-solving c).After-loop-number)
