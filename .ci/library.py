@@ -1,5 +1,5 @@
 """Reads the calls of the library for C, and their structs, from the places where they stand: what crates/raptorq_c exports and
-include/constants.c defines, what include/reamertan.h declares, and what wrapper/src/calls.rs declares. A type is spelled as in Rust. A
+library/constants.c defines, what include/reamertan.h declares, and what wrapper/src/calls.rs declares. A type is spelled as in Rust. A
 call is its parameters, as pairs of name and type, and its result; a struct is its fields, as such pairs. The declarations of
 python/reamertan/_calls.py, by ctypes, are compared as they are."""
 import ctypes
@@ -47,7 +47,7 @@ def c_calls(text, end):
 
 
 def constants(text):
-    """The calls that include/constants.c defines."""
+    """The calls that library/constants.c defines."""
     return c_calls(text, r"\n{")
 
 

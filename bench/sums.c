@@ -4,6 +4,7 @@
 //     ./sums SYMBOLS TIMES SUMS     each symbol takes SUMS others, up to eight in one pass, TIMES over
 //
 // Prints the least nanoseconds a symbol, and an octet, so that the sums are made.
+#define _POSIX_C_SOURCE 199309L
 #include <emmintrin.h>
 #include <stdint.h>
 #include <stdio.h>

@@ -98,15 +98,15 @@ make_archive() {
     local joined=() processor
     if [ "${processors[0]}" = aarch64 ]; then
         # There the toolchain has no archive that hands out memory: lines of C stand for it.
-        compile "$2" include/constants.c -DREAMERTAN_PROCESSOR='"aarch64"'
-        compile "$2" arm/memory.c
-        joined=("$2/memory.o" --whole-archive "$1/aarch64/libraptorq_c.a")
+        compile "$2" library/constants.c -DREAMERTAN_PROCESSOR='"aarch64"'
+        compile "$2" library/arm_memory.c
+        joined=("$2/arm_memory.o" --whole-archive "$1/aarch64/libraptorq_c.a")
     elif [ ${#processors[@]} -eq 1 ]; then
-        compile "$2" include/constants.c -DREAMERTAN_PROCESSOR="\"${processors[0]}\""
+        compile "$2" library/constants.c -DREAMERTAN_PROCESSOR="\"${processors[0]}\""
         joined=(-z "${processors[0]}" --whole-archive "$1/toolchain/liblibc_c.a" "$1/${processors[0]}/libraptorq_c.a")
     else
-        compile "$2" include/constants.c
-        compile "$2" packaging/choose.c
+        compile "$2" library/constants.c
+        compile "$2" library/choose.c
         joined=(-z "${processors[0]}" "$2/choose.o")
         for processor in "${processors[@]}"; do
             join_build "$1" "$2" "$processor"
@@ -134,7 +134,7 @@ make_program() {
         "${copier[@]}" --keep-global-symbol="${build}_main" "$made-$build.o"
         builds+=("-DREAMERTAN_${build^^}") objects+=("$made-$build.o")
     done
-    compile "$2" packaging/main.c "${builds[@]}"
+    compile "$2" library/main.c "${builds[@]}"
     "${compiler[@]}" "${compiler_flags[@]}" -o "$made" "$2/main.o" "${objects[@]}" "$1"/toolchain/lib{os,libc}_c.a \
         -Wl,--gc-sections,-z,relro,-z,now "${linker_flags[@]}"
 }
@@ -145,7 +145,7 @@ level() (
     asks=$(mktemp -d)
     trap 'rm -r "$asks"' EXIT
     printf '#include "processor.h"\n#include <stdio.h>\nint main(void) { printf("%%d\\n", processor_level()); }\n' >"$asks/level.c"
-    "${compiler[@]}" -I "$top/packaging" "$asks/level.c" -o "$asks/level" && "$asks/level" ||
+    "${compiler[@]}" -I "$top/library" "$asks/level.c" -o "$asks/level" && "$asks/level" ||
         fail "a program that asks for the processor can't be built, or not run in $asks: TMPDIR names another folder"
 )
 

@@ -1,4 +1,4 @@
-//! Answers of the Rust crate raptorq 2.0.1, as `bench/vectors` prints them.
+//! Answers of the Rust crate raptorq 2.0.1, as `compare/vectors` prints them.
 
 /// For each number of symbols from 1 to 497: FNV-1a of the packets, five for repair among them.
 pub const DIGESTS: [u32; 497] = [

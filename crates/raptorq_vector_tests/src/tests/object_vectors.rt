@@ -1,5 +1,5 @@
 //! Answers of the Rust crate raptorq 2.0.1 for objects of several blocks, as
-//! `bench/vectors` prints them.
+//! `compare/vectors` prints them.
 
 /// Transfer length, symbol size, source blocks, sub-blocks and alignment, and FNV-1a of the
 /// packets of the blocks that have symbols, half as many and four for repair among them.

@@ -1,4 +1,4 @@
-//! Runs of receivers by the model of `bench/cells.py`, as `bench/damage store` prints them.
+//! Runs of receivers by the model of `compare/cells.py`, as `compare/damage store` prints them.
 use crate::tests::runs::Run;
 use rq_cast::{Ending, Seen};
 
