@@ -70,7 +70,7 @@ extern "C" {
 #define REAMERTAN_DEFAULT_DECODER_MEMORY 10485760
 
 /* What calls answer. Refusals have the numbers of the codec's `Error::code`: those from 1 to 23 and, in later
- * versions, from 32 on. Those from 24 to 31 are for what this library answers beside them. */
+ * versions, from 32 on. Those from 24 to 31 are for what this library answers beside them. Made by errors/make_lists. */
 enum reamertan_answer {
     /* The call did what it is for. */
     REAMERTAN_DONE = 0,

@@ -16,7 +16,7 @@ const struct reamertan_row *reamertan_further_rows(size_t *count)
     return reamertan_rows;
 }
 
-/* Without a `default`, so that a compiler warns where an answer has no text. */
+/* The cases are made by errors/make_lists. There is no `default`, so that a compiler warns where an answer has no text. */
 const char *reamertan_answer_text(uint8_t answer)
 {
     switch ((enum reamertan_answer)answer) {

@@ -5,7 +5,7 @@ import enum
 
 
 class Answer(enum.IntEnum):
-    """The numbers of include/reamertan.h, which says when each comes."""
+    """The numbers of include/reamertan.h, which says when each comes. Made by errors/make_lists."""
 
     DONE = 0
     TRANSFER_TOO_LONG = 1

@@ -59,7 +59,7 @@ pub const CONTRADICTION: Refusal = Refusal(22);
 /// The packets don't determine what is asked for.
 const INCOMPLETE: Refusal = Refusal(25);
 
-/// The names of answers by their numbers.
+/// The names of answers by their numbers, made by `errors/make_lists`.
 const NAMES: [(u8, &str); 26] = [
     (0, "Done"),
     (1, "TransferTooLong"),
