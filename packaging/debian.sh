@@ -4,6 +4,7 @@
 : "${top:?the folder of the repository}" "${work:?a scratch folder}" "${version:?of the header}" "${soname:?of the library}"
 # The objects, and where packages are put, which are named later.
 built=${built-} out=${out-}
+readonly MAINTAINED_BY=${MAINTAINER:-Reamertan <reamertan@example.org>}
 readonly SUMMARY="RaptorQ erasure codec (RFC 6330) that is proved"
 readonly X86_LIBRARIES=usr/lib/x86_64-linux-gnu ARM_LIBRARIES=usr/lib/aarch64-linux-gnu
 # The name of the package of the shared library is that of its interface.
@@ -29,7 +30,7 @@ Package: $package
 Source: reamertan
 Version: $version-1
 Architecture: $architecture
-Maintainer: ${MAINTAINER:-Reamertan <reamertan@example.org>}
+Maintainer: $MAINTAINED_BY
 Installed-Size: $(installed_size)
 ${2:+Depends: $2
 }Section: $1
@@ -75,7 +76,7 @@ finish() {
     mkdir -p "$documents"
     write_copyright >"$documents/copyright"
     printf 'reamertan (%s-1) unstable; urgency=medium\n\n  * Version %s.\n\n -- %s  %s\n' "$version" "$version" \
-        "${MAINTAINER:-Reamertan <reamertan@example.org>}" "$(date -uR -d "@$SOURCE_DATE_EPOCH")" | gzip -9n >"$documents/changelog.Debian.gz"
+        "$MAINTAINED_BY" "$(date -uR -d "@$SOURCE_DATE_EPOCH")" | gzip -9n >"$documents/changelog.Debian.gz"
     write_control "$@"
     (cd "$staged" && find usr -type f | sort | xargs md5sum >DEBIAN/md5sums)
     find "$staged" -exec touch -h -d "@$SOURCE_DATE_EPOCH" {} +

@@ -6,47 +6,82 @@
 # until those that went aside are gone.
 
 : "${made:?a scratch folder}" "${root?the folder that is to be undone where a call fails}"
-lock=''
-readonly OLD=.reamertan-old NEW=.reamertan-new
+lock='' locked='' is_new=''
+readonly OLD=.reamertan-old NEW=.reamertan-new LOCK=.reamertan-lock
 readonly DOCUMENTS=share/doc/reamertan
 readonly MANIFEST=$DOCUMENTS/MANIFEST
 readonly PLACING=$DOCUMENTS/PLACING PLACED=$DOCUMENTS/PLACED
 
-# The paths of a list that begin with a word, as `file` or `folder`: LIST WORD. What leads out of PREFIX is none.
+# Prints the first folder of a path that is a link: ROOT PATH. What stands behind it isn't below ROOT.
+link_in() {
+    local folder=$2 found=''
+    while [[ $folder = */* ]]; do
+        folder=${folder%/*}
+        [ ! -L "$1/$folder" ] || found=$1/$folder
+    done
+    [ -z "$found" ] || echo "$found"
+}
+
+# The paths of a list that begin with a word, as `file` or `folder`: ROOT LIST WORD. What leads out of ROOT is none.
 listed() {
-    sed -n "s/^$2 //p" "$1" | grep -vE '^/|(^|/)\.\.(/|$)' || true
+    local path
+    while read -r path; do
+        [ -n "$(link_in "$1" "$path")" ] || echo "$path"
+    done < <(sed -n "s/^$3 //p" "$2" | grep -vE '^/|(^|/)\.\.(/|$)' || true)
 }
 
 # The same of an earlier version's manifest, if there is one: ROOT WORD.
 earlier() {
-    [ ! -f "$1/$MANIFEST" ] || listed "$1/$MANIFEST" "$2"
+    [ ! -f "$1/$MANIFEST" ] || listed "$1" "$1/$MANIFEST" "$2"
 }
 
 # Loops are the shell's own, and not a pipe's: who is killed does nothing more.
 
-# Waits for the calls that are putting files in place: what their journals say is to be undone by them alone. Everyone may open what is
-# locked, on whatever machine and disk PREFIX is. Without the lock nothing is undone: there is no `root` any more.
+# Refuses links in the way to what `install` writes of its own: ROOT.
+refuse_links() {
+    local link
+    link=$(link_in "$1" "$MANIFEST")
+    [ -z "$link" ] || { root='' && fail "$link is a link, and what stands behind it isn't below $1"; }
+}
+
+# Waits for the calls that are putting files in place below ROOT: what their journals say is to be undone by them alone. Who can't write there
+# can't open the lock. Who has it takes the file away in the end, and those who waited for it look for another. Without the lock nothing is undone:
+# there is no `root` any more.
 lock() {
-    [ -n "$lock" ] || exec {lock}>/dev/null
-    flock -w 60 "$lock" || { root='' && fail "another call of install is at work"; }
+    local waiting=''
+    [ -z "$lock" ] || return 0
+    [ -d "$1" ] || is_new=yes
+    mkdir -p "$1"
+    locked=$1/$LOCK
+    until [ -n "$waiting" ] && [ "$locked" -ef "/dev/fd/$waiting" ]; do
+        [ -z "$waiting" ] || exec {waiting}>&-
+        [ ! -L "$locked" ] && (umask 077 && : >>"$locked") || { root='' && fail "$locked can't be locked"; }
+        exec {waiting}<>"$locked"
+        flock -w 60 "$waiting" || { root='' && fail "another call of install is at work"; }
+    done
+    lock=$waiting
 }
 
 # Lets others in, for as long as nothing below PREFIX is changed. Programs that are begun then, and go on, hold no lock.
 unlock() {
+    [ -n "$lock" ] || return 0
+    rm -f "$locked"
     exec {lock}>&-
     lock=''
 }
 
 # Undoes what was begun below ROOT, or ends what was nearly done.
 recover() {
-    lock
+    [ -d "$1" ] || return 0
+    refuse_links "$1"
+    lock "$1"
     # Of a journal that wasn't begun nothing was done.
     rm -f "$1/$PLACING$NEW"
     if [ -f "$1/$PLACING" ]; then
         remove_new "$1"
         put_back "$1"
         # Folders go last, and the journal before its own.
-        listed "$1/$PLACING" folder >"$made/folders"
+        listed "$1" "$1/$PLACING" folder >"$made/folders"
         rm "$1/$PLACING"
         remove_folders "$1" "$made/folders"
     elif [ -f "$1/$PLACED" ]; then
@@ -61,7 +96,7 @@ is_there() {
 # The files that are new go: ROOT.
 remove_new() {
     local file
-    while read -r file; do rm -f "$1/$file" "$1/$file$NEW"; done < <(listed "$1/$PLACING" new)
+    while read -r file; do rm -f "$1/$file" "$1/$file$NEW"; done < <(listed "$1" "$1/$PLACING" new)
 }
 
 # The files that were there come back: ROOT.
@@ -70,12 +105,12 @@ put_back() {
     while read -r file; do
         ! is_there "$1/$file$OLD" || mv -fT "$1/$file$OLD" "$1/$file"
         rm -f "$1/$file$NEW"
-    done < <(listed "$1/$PLACING" there)
+    done < <(listed "$1" "$1/$PLACING" there)
 }
 
 forget_old() {
     local file
-    while read -r file; do rm -f "$1/$file$OLD"; done < <(listed "$1/$PLACED" there)
+    while read -r file; do rm -f "$1/$file$OLD"; done < <(listed "$1" "$1/$PLACED" there)
     rm "$1/$PLACED"
 }
 
@@ -85,7 +120,7 @@ remove_folders() {
     while read -r folder; do
         folder=$1/$folder
         # PREFIX itself is `.`, and the last.
-        [ ! -d "$folder" ] || rmdir --ignore-fail-on-non-empty "${folder%/.}"
+        [ ! -d "$folder" ] || [ -L "$folder" ] || rmdir --ignore-fail-on-non-empty "${folder%/.}"
     done < <(sort -r "$2")
 }
 
@@ -105,7 +140,10 @@ plan_placing() {
     find "$1" ! -type d -printf '%P\n' | sort >"$made/files"
     echo "$MANIFEST" >>"$made/files"
     folders "$made/files" >"$made/folders"
-    while read -r folder; do [ -d "$2/$folder" ] || echo "folder $folder"; done <"$made/folders" >"$made/new_folders"
+    while read -r folder; do
+        [ ! -L "$2/$folder" ] || [ "$folder" = . ] || fail "$2/$folder is a link, and what stands behind it isn't below $2"
+        [ -d "$2/$folder" ] && [ "$folder$is_new" != .yes ] || echo "folder $folder"
+    done <"$made/folders" >"$made/new_folders"
 }
 
 # Writes what can be taken away, into the tree: TREE ROOT. Folders of its own documents are its own, whoever made them.
@@ -145,7 +183,7 @@ refuse_foreign() {
     local file
     while read -r file; do
         is_earlier "$1" "$file" && { [ ! -d "$1/$file" ] || [ -L "$1/$file" ]; } || fail "$1/$file is there, and isn't Reamertan's"
-    done < <(listed "$made/journal" there)
+    done < <(listed "$1" "$made/journal" there)
 }
 
 # Puts a tree in place below ROOT: TREE ROOT.
@@ -175,7 +213,7 @@ exchange() {
     while read -r file; do
         ! is_there "$1/$file" || mv -fT "$1/$file" "$1/$file$OLD"
         ! is_there "$1/$file$NEW" || mv -fT "$1/$file$NEW" "$1/$file"
-    done < <(listed "$made/journal" there && listed "$made/journal" new)
+    done < <(listed "$1" "$made/journal" there && listed "$1" "$made/journal" new)
 }
 
 # Takes away all that the manifest names, which goes last: ROOT.
@@ -183,8 +221,9 @@ take_away() {
     local file
     [ -f "$1/$MANIFEST" ] || fail "there is no $1/$MANIFEST, which would say what to take away"
     cp "$1/$MANIFEST" "$made/MANIFEST"
-    while read -r file; do rm -f "$1/$file"; done < <(listed "$made/MANIFEST" file | grep -vxF "$MANIFEST")
+    while read -r file; do rm -f "$1/$file"; done < <(listed "$1" "$made/MANIFEST" file | grep -vxF "$MANIFEST")
     rm "$1/$MANIFEST"
-    listed "$made/MANIFEST" folder >"$made/folders"
+    listed "$1" "$made/MANIFEST" folder >"$made/folders"
+    unlock
     remove_folders "$1" "$made/folders"
 }
