@@ -1,7 +1,7 @@
 // Counts how many dimensions the equations of RFC 6330 leave undetermined, for any encoding symbol ids.
 //
 // It is written from the definitions of RFC 6330 alone (sections 5.3.3, 5.3.5, 5.5 and 5.7), and shares no code with the
-// codec here nor with the Rust crate. The tables are the codec's: `shared/building.py` writes them into tables.h.
+// codec here nor with the Rust crate. The tables are the codec's: `common/building.py` writes them into tables.h.
 #ifndef RANK_H
 #define RANK_H
 
