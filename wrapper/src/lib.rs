@@ -4,7 +4,7 @@
 //! use raptorq::{Decoder, Encoder};
 //!
 //! let object = vec![7; 5000];
-//! let encoder = Encoder::with_defaults(&object, 96); // bytes of a payload at most
+//! let encoder = Encoder::with_defaults(&object, 96); // bytes of a symbol at most; a packet has 4 more than its symbol
 //! let packets = encoder.get_encoded_packets(30); // 30 repair packets a block
 //! let mut decoder = Decoder::new(encoder.get_config());
 //! let answer = packets.into_iter().skip(25).find_map(|packet| decoder.decode(packet));
