@@ -1,6 +1,5 @@
 //! The tests, by what they are of.
 
-mod blocks;
 mod builder;
 mod contradictions;
 mod cutting;

@@ -7,7 +7,6 @@ use crate::compare::{holds, same};
 use crate::solver::octets_of;
 use rq_bytes::error::Error;
 use rq_bytes::octet::Octet;
-use rq_bytes::operation_vector::SymbolOps;
 use rq_bytes::symbol_slab::SymbolSlab;
 use rq_operations::recorded::RecordedOperations;
 use rq_operations::steps::Step;
@@ -45,44 +44,9 @@ fn operations_are_replayed(rt: HostRuntime) -> Result<(), Error> {
     Ok(())
 }
 
-// One addition, and the order of one symbol.
-fn other_operations(alloc: Global) -> Result<RecordedOperations, Error> {
-    let steps = vec![in alloc; Step::Add { dest: 0, src: 1 }]?;
-    Ok(RecordedOperations::new(steps, vec![in alloc; 1]?))
-}
-
 #[test]
 fn recorded_operations_are_copied(rt: HostRuntime) -> Result<(), Error> {
     let recorded = recorded_operations(rt.alloc())?;
     holds!(rt; recorded.clone()? == recorded);
-    let other = other_operations(rt.alloc())?;
-    holds!(rt; other != recorded);
-    same!(rt;
-        format!(in rt.alloc(); "{other:?}")?.as_str(),
-        "RecordedOperations { steps: [Add { dest: 0, src: 1 }], order: [1] }"
-    );
-    Ok(())
-}
-
-#[test]
-fn recorded_operations_are_listed(rt: HostRuntime) -> Result<(), Error> {
-    let operations = recorded_operations(rt.alloc())?.clone()?.into_symbol_ops()?;
-    let order = vec![in rt.alloc(); 2, 0, 1]?;
-    let expected = [
-        SymbolOps::AddAssign { dest: 0, src: 1 },
-        SymbolOps::AddAssign { dest: 0, src: 2 },
-        SymbolOps::MulAssign {
-            dest: 1,
-            scalar: Octet::new(2),
-        },
-        SymbolOps::AddAssign { dest: 1, src: 0 },
-        SymbolOps::FMA {
-            dest: 2,
-            src: 1,
-            scalar: Octet::new(3),
-        },
-        SymbolOps::Reorder { order },
-    ];
-    holds!(rt; operations.as_slice() == expected.as_slice());
     Ok(())
 }

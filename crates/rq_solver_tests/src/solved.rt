@@ -1,6 +1,6 @@
 //! Tests of solvers that answer operations or a column.
 use crate::compare::{holds, same};
-use crate::solver::{chain_alone, diagonal, late_solver, numbered_solver};
+use crate::solver::late_solver;
 use rq_bytes::error::Error;
 use rq_matrix::matrix::DenseBinaryMatrix;
 use rq_solver::pi_solver::{IntermediateSymbolDecoder, Solved};
@@ -24,17 +24,6 @@ fn the_column_of_the_last_hdpc_row_is_open_without_it(rt: HostRuntime) -> Result
     let solver = late_solver(&rt, rt.alloc(), 9)?;
     let expected = [
         0, 0, 0, 0, 0, 0, 0, 0, 0, 1, 0, 0, 0, 0, 0, 0, 0, 0, 0, 0, 0, 0, 0, 0, 0, 0, 0,
-    ];
-    assert_open_column(&rt, solver, &expected)
-}
-
-#[test]
-fn unknowns_that_are_the_same_are_open_together(rt: HostRuntime) -> Result<(), Error> {
-    let ones = chain_alone(rt.alloc())?;
-    let octets = diagonal(rt.alloc(), 17, 10)?;
-    let solver = numbered_solver(&rt, rt.alloc(), ones.as_slice(), octets.as_slice())?;
-    let expected = [
-        1, 1, 1, 1, 1, 1, 1, 1, 1, 1, 1, 1, 1, 1, 1, 1, 1, 0, 0, 0, 0, 0, 0, 0, 0, 0, 0,
     ];
     assert_open_column(&rt, solver, &expected)
 }

@@ -1,13 +1,10 @@
 //! Worked examples of plans, of their cache, and of the encoder of one source block.
-ghost use Rattle.std.specs.Prelude.{◌<◌, IfOk};
-
 use super::written::{Config, cache, packets};
 use crate::compare::{holds, same};
 use raptorq::error::Error;
 use raptorq::systematic_constants::{SYSTEMATIC_INDICES_AND_PARAMETERS, SystematicTable};
 use raptorq::{
     EncodingPacket, ObjectTransmissionInformation, SourceBlockEncoder, SourceBlockEncodingPlan,
-    SourceBlockEncodingPlanCache,
 };
 use raptorq_test_kit::configurations::configured;
 use std::alloc::Global;
@@ -66,7 +63,7 @@ fn encoder_by_plan(
     zeros: &[u8],
 ) -> Result<SourceBlockEncoder, Error> {
     let (table, information) = configured(alloc, config)?;
-    let plan = SourceBlockEncodingPlan::generate(alloc, &table, count)?;
+    let plan = SourceBlockEncodingPlan::generate(alloc, &table, count)?.clone()?;
     SourceBlockEncoder::with_encoding_plan(alloc, 0, &information, zeros, &table, &plan)
 }
 
@@ -83,76 +80,6 @@ fn symbols_of_zeros(rt: HostRuntime) -> Result<(), Error> {
 fn a_plan_of_another_count(rt: HostRuntime) {
     let refused = encoder_by_plan(rt.alloc(), 2, (6, 2, 1, 1, 1), &[0; 6]);
     holds!(rt; refused == Err(Error::PlanMismatch));
-}
-
-#[test]
-fn no_symbols(rt: HostRuntime) -> Result<(), Error> {
-    let encoder = encoder(rt.alloc(), &[])?;
-    same!(rt; encoder.source_packets()?.len(), 0);
-    let repair = encoder.repair_packets(0, 2)?;
-    let wanted = packets(rt.alloc(), &[(0, 0, &[0, 0]), (0, 1, &[0, 0])])?;
-    holds!(rt; repair == wanted);
-    Ok(())
-}
-
-// Two symbols of 6 bytes, in two sub-blocks.
-const TWO_SYMBOLS: [u8; 12] = [0, 1, 2, 3, 4, 5, 6, 7, 8, 9, 10, 11];
-
-fn two_sub_blocks() -> Result<ObjectTransmissionInformation, Error> {
-    ObjectTransmissionInformation::new(12, 6, 1, 2, 2)
-}
-
-// The encoder of block 7 by the plan that a cache holds, or else makes.
-fn encoder_by_cache(
-    alloc: Global,
-    cache: &mut SourceBlockEncodingPlanCache,
-) -> Result<SourceBlockEncoder, Error> {
-    SourceBlockEncoder::new(alloc, 7, &two_sub_blocks()?, &TWO_SYMBOLS, cache)
-}
-
-// By a plan that is handed in.
-fn encoder_by_copy(alloc: Global) -> Result<SourceBlockEncoder, Error> {
-    let config = two_sub_blocks()?;
-    let table = SystematicTable::built_in(alloc)?;
-    let plan = SourceBlockEncodingPlan::generate(alloc, &table, 2)?.clone()?;
-    SourceBlockEncoder::with_encoding_plan(alloc, 7, &config, &TWO_SYMBOLS, &table, &plan)
-}
-
-#[test]
-fn a_plan_made_held_and_handed_in(rt: HostRuntime) -> Result<(), Error> {
-    let mut cache = cache(rt.alloc())?;
-    let made = encoder_by_cache(rt.alloc(), &mut cache);
-    holds!(rt; made.is_ok());
-    holds!(rt; encoder_by_cache(rt.alloc(), &mut cache) == made);
-    holds!(rt; encoder_by_copy(rt.alloc()) == made);
-    Ok(())
-}
-
-#[test]
-fn a_plan_of_another_row(rt: HostRuntime) -> Result<(), Error> {
-    let alloc = rt.alloc();
-    let (index, plan) = plan_of_500(alloc)?;
-    let table = SystematicTable::with_rows(alloc, &[(511, index + 1, 37, 10, 523)])?;
-    let config = ObjectTransmissionInformation::new(500, 1, 1, 1, 1)?;
-    let refused = SourceBlockEncoder::with_encoding_plan(
-        alloc, 0, &config, &[1; 500], &table, &plan,
-    );
-    holds!(rt; refused == Err(Error::PlanMismatch));
-    Ok(())
-}
-
-// The first systematic index from 800 on with a plan of 500 symbols, and the plan.
-fn plan_of_500(alloc: Global) -> Result<(u32, SourceBlockEncodingPlan), Error>
-    ensures { IfOk result (λ found. found.0 < 1000) }
-{
-    for index in 800..1000u32 {
-        let table = SystematicTable::with_rows(alloc, &[(511, index, 37, 10, 523)])?;
-        match SourceBlockEncodingPlan::generate(alloc, &table, 500) {
-            Err(Error::Singular) => {}
-            plan => return Ok((index, plan?)),
-        }
-    }
-    Err(Error::Singular)
 }
 
 #[test]
@@ -185,24 +112,5 @@ fn first_in_first_out(rt: HostRuntime) -> Result<(), Error> {
     holds!(rt; !cache.contains(2));
     holds!(rt; cache.contains(3));
     holds!(rt; cache.contains(1));
-    Ok(())
-}
-
-#[test]
-fn counts_over_the_table(rt: HostRuntime) -> Result<(), Error> {
-    let mut cache = cache(rt.alloc())?;
-    let _plan = cache.get_or_generate(10)?;
-    holds!(rt; cache.get_or_generate(498).err() == Some(Error::BlockOverTable));
-    holds!(rt; cache.len() == 1);
-    holds!(rt; cache.contains(10));
-    holds!(rt; !cache.contains(498));
-    Ok(())
-}
-
-#[test]
-fn a_plan_over_the_table(rt: HostRuntime) -> Result<(), Error> {
-    let table = SystematicTable::built_in(rt.alloc())?;
-    let refused = SourceBlockEncodingPlan::generate(rt.alloc(), &table, 65535);
-    holds!(rt; refused == Err(Error::BlockOverTable));
     Ok(())
 }

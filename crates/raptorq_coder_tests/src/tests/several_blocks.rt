@@ -1,8 +1,8 @@
 //! Worked examples of objects of several blocks, of blocks of no symbols, and of no bytes.
-use super::written::{Written, object_decoder, packets};
+use super::written::{object_decoder, packets};
 use crate::compare::{holds, same};
 use raptorq::error::Error;
-use raptorq::{Decoder, Encoder, EncodingPacket};
+use raptorq::{Encoder, EncodingPacket};
 use raptorq_test_kit::configurations::configured;
 use raptorq_test_kit::packets::packet;
 use std::alloc::Global;
@@ -61,34 +61,5 @@ fn an_object_of_no_bytes(rt: HostRuntime) -> Result<(), Error> {
     holds!(rt; packets.is_empty());
     let object = object_decoder(alloc, (0, 2, 1, 1, 1))?.get_result()?;
     same!(rt; object.as_deref(), Some([].as_slice()));
-    Ok(())
-}
-
-// The object, where it is answered, after one packet more.
-fn result_with(
-    alloc: Global,
-    decoder: &mut Decoder,
-    (block, esi, payload): Written<'_>,
-) -> Result<Option<Vec<u8>>, Error> {
-    decoder.add_new_packet(packet(alloc, block, esi, payload)?)?;
-    decoder.get_result()
-}
-
-// Ten bytes in a block of three symbols and one of two are answered with the last block, whichever
-// that is.
-#[test]
-fn blocks_in_turn(rt: HostRuntime) -> Result<(), Error> {
-    let alloc = rt.alloc();
-    let mut decoder = object_decoder(alloc, (10, 2, 2, 1, 1))?;
-    for (block, esi, payload) in [
-        (1, 1, [8, 9]),
-        (0, 2, [4, 5]),
-        (1, 0, [6, 7]),
-        (0, 0, [0, 1]),
-    ] {
-        same!(rt; result_with(alloc, &mut decoder, (block, esi, &payload))?, None);
-    }
-    let object = result_with(alloc, &mut decoder, (0, 1, &[2, 3]))?;
-    same!(rt; object.as_deref(), Some([0, 1, 2, 3, 4, 5, 6, 7, 8, 9].as_slice()));
     Ok(())
 }

@@ -9,6 +9,7 @@ use raptorq::{
 use raptorq_test_kit::sequence::{Choices, bytes};
 use raptorq_test_kit::ten_symbols::Basis;
 use std::alloc::Global;
+use std::process::Abort;
 use std::test::Fail;
 
 const LISTS: u32 = 10_000;
@@ -102,30 +103,52 @@ fn end_as_ranked(
     }
 }
 
+// What a decoder of the block answers to packets.
+fn answer(
+    alloc: Global,
+    table: &SystematicTable,
+    sent: &SentBlock,
+    threshold: u32,
+    packets: Vec<EncodingPacket>,
+) -> Result<Result<Option<Vec<u8>>, Error>, Error> {
+    let length = sent.config.transfer_length();
+    let mut decoder = SourceBlockDecoder::new(alloc, table, 0, &sent.config, length)?;
+    decoder.set_sparse_threshold(threshold);
+    Ok(decoder.decode(packets))
+}
+
+// Hands in a list. Answers whether it is answered, and how many packets it has.
+fn list_ends(
+    rt: &impl Abort,
+    alloc: Global,
+    table: &SystematicTable,
+    sent: &SentBlock,
+    choices: &mut Choices,
+    number: u32,
+) -> Result<(bool, usize), Fail> {
+    let fixed = Basis::new(10).ok_or("equations repeat each other")?;
+    let packets = list(alloc, sent, choices)?;
+    let threshold = [0, u32::MAX][number as usize % 2];
+    let answer = answer(alloc, table, sent, threshold, packets.clone()?)?;
+    holds!(rt; end_as_ranked(sent, &fixed, &packets, &answer), number);
+    Ok((answer.is_ok(), packets.len()))
+}
+
 #[test]
 fn forged_payloads(rt: HostRuntime) -> Result<(), Fail> {
-    let alloc = rt.alloc();
-    let table = SystematicTable::built_in(alloc)?;
-    let sent = [
-        SentBlock::new(alloc, &table, 1)?,
-        SentBlock::new(alloc, &table, 2)?,
-    ];
-    let fixed = Basis::new(10).ok_or("equations repeat each other")?;
+    let table = SystematicTable::built_in(rt.alloc())?;
+    let short = SentBlock::new(rt.alloc(), &table, 1)?;
+    let long = SentBlock::new(rt.alloc(), &table, 2)?;
     let mut choices = Choices::new(3);
     let mut answered: u32 = 0;
     let mut contradictory = [0u32; 2];
     for number in 0..LISTS {
-        let sent = &sent[choices.place(2) % 2];
-        let packets = list(alloc, sent, &mut choices)?;
-        let turn = number as usize % 2;
-        let length = sent.block.len() as u64;
-        let mut decoder = SourceBlockDecoder::new(alloc, &table, 0, &sent.config, length)?;
-        decoder.set_sparse_threshold([0, u32::MAX][turn]);
-        let answer = decoder.decode(packets.clone()?);
-        holds!(rt; end_as_ranked(sent, &fixed, &packets, &answer), number);
-        if answer.is_ok() {
+        let sent = if choices.place(2) == 0 { &short } else { &long };
+        let ends = list_ends(&rt, rt.alloc(), &table, sent, &mut choices, number)?;
+        if ends.0 {
             answered = answered.saturating_add(1);
-        } else if packets.len() >= 20 {
+        } else if ends.1 >= 20 {
+            let turn = number as usize % 2;
             contradictory[turn] = contradictory[turn].saturating_add(1);
         }
     }

@@ -149,29 +149,34 @@ impl ObjectAnswers {
         }
     }
 
-    /// Hands in the packet. One that is refused leaves the decoder as it was, or the packet
-    /// recorded and the block late, or the block answered.
+    // How a call ended that was refused memory: the decoder is as it was, or the packet is recorded and
+    // the block late, or the block is answered, which its result then says.
+    fn refused(&self, was_new: bool) -> Ending {
+        let is_answered = self.decoder == self.answered;
+        if !is_answered && !self.is_late() && !(was_new && self.decoder == self.before) {
+            return Ending::Other;
+        }
+        let is_right = match self.decoder.get_result() {
+            Ok(object) if is_answered => is_object(&object),
+            Ok(object) => object.is_none(),
+            Err(error) => is_answered && error == Error::OutOfMemory,
+        };
+        if is_right {
+            Ending::Refused
+        } else {
+            Ending::Other
+        }
+    }
+
+    /// Hands in the packet.
     pub fn attempt(&mut self) -> Ending {
         let was_new = self.decoder == self.before;
         let Some(packet) = self.repeats.pop() else {
             return Ending::Other;
         };
-        let answer = self.decoder.decode(packet);
-        let is_answered = self.decoder == self.answered;
-        match answer {
-            Ok(answer) if is_object(&answer) && is_answered => Ending::Answered,
-            Err(Error::OutOfMemory) if is_answered => match self.decoder.get_result() {
-                Ok(object) if is_object(&object) => Ending::Refused,
-                Err(Error::OutOfMemory) => Ending::Refused,
-                _ => Ending::Other,
-            },
-            Err(Error::OutOfMemory) if self.is_late() || (was_new && self.decoder == self.before) =>
-                {
-                    match self.decoder.get_result() {
-                        Ok(None) => Ending::Refused,
-                        _ => Ending::Other,
-                    }
-                }
+        match self.decoder.decode(packet) {
+            Ok(answer) if is_object(&answer) && self.decoder == self.answered => Ending::Answered,
+            Err(Error::OutOfMemory) => self.refused(was_new),
             _ => Ending::Other,
         }
     }

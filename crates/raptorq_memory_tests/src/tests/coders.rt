@@ -151,18 +151,6 @@ fn late(
     Ok(decoder)
 }
 
-// A packet that there was no memory to record counts as new when it comes again.
-#[test]
-fn a_packet_not_recorded(rt: HostRuntime) -> Result<(), Error> {
-    let packets = packets(rt.alloc())?;
-    assert_eq!(rt; packets.len(), 12);
-    let mut decoder = new_decoder(rt.alloc())?;
-    let before = decoder.clone()?;
-    is_refused_memory(&rt, rt.alloc(), &mut decoder, packets[0].clone()?)?;
-    holds!(rt; decoder == before);
-    determine_object(&rt, &mut decoder, &packets[..10])
-}
-
 // What is left where an object isn't joined, in bytes: a block takes less, and the object more.
 const LEFT: usize = 20_000;
 
@@ -232,27 +220,5 @@ fn a_packet_stays_recorded(rt: HostRuntime) -> Result<(), Error> {
         same!(rt; decoder.get_result(), Ok(None));
         determine_object(&rt, &mut decoder, taken)?;
     }
-    Ok(())
-}
-
-// Nine source symbols of zeros.
-fn nine_zeros(alloc: Global) -> Result<Vec<EncodingPacket>, Error> {
-    let mut zeros = Vec::new(alloc);
-    for esi in 0..9 {
-        zeros.push(packet(alloc, 0, esi, &[0])?)?;
-    }
-    Ok(zeros)
-}
-
-// Where memory was refused for a block, its next packet is tested with all that came: nine source
-// symbols, a repair symbol that isn't zero as they are, and the tenth source symbol, which is.
-#[test]
-fn a_late_contradiction(rt: HostRuntime) -> Result<(), Error> {
-    let zeros = nine_zeros(rt.alloc())?;
-    let repair = packet(rt.alloc(), 0, 10, &[1])?;
-    let mut decoder = late(&rt, rt.alloc(), zeros.as_slice(), &repair)?;
-    let refused = decoder.decode(packet(rt.alloc(), 0, 9, &[0])?);
-    holds!(rt; refused == Err(Error::Contradiction));
-    same!(rt; decoder.get_result(), Ok(None));
     Ok(())
 }

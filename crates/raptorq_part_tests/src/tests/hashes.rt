@@ -34,10 +34,6 @@ fn packet_hash(alloc: Global, (block, esi, payload): Parts<'_>) -> Result<u64, E
     Ok(hash_of(&packet(alloc, block, esi, payload)?))
 }
 
-fn copy_hash(alloc: Global, (block, esi, payload): Parts<'_>) -> Result<u64, Error> {
-    Ok(hash_of(&packet(alloc, block, esi, payload)?.clone()?))
-}
-
 fn is_less(alloc: Global, left: Parts<'_>, right: Parts<'_>) -> Result<bool, Error> {
     let left = packet(alloc, left.0, left.1, left.2)?;
     Ok(left < packet(alloc, right.0, right.1, right.2)?)
@@ -46,16 +42,17 @@ fn is_less(alloc: Global, left: Parts<'_>, right: Parts<'_>) -> Result<bool, Err
 // The block's number counts first, then the symbol's, and then the payload, octet by octet.
 #[test]
 fn packets(rt: HostRuntime) -> Result<(), Fail> {
-    let alloc = rt.alloc();
-    let first: Parts<'_> = (0, 9, &[9]);
-    let second: Parts<'_> = (1, 7, &[9]);
-    let third: Parts<'_> = (1, 7, &[9, 0]);
-    holds!(rt; is_less(alloc, first, second)?);
-    holds!(rt; is_less(alloc, second, third)?);
-    holds!(rt; is_less(alloc, third, (1, 8, &[1]))?);
-    same!(rt; packet_hash(alloc, first)?, copy_hash(alloc, first)?);
-    holds!(rt; packet_hash(alloc, second)? != packet_hash(alloc, third)?);
-    holds!(rt; packet_hash(alloc, second)? != packet_hash(alloc, (7, 1, &[9]))?);
+    let cases: [(Parts<'_>, Parts<'_>); 3] = [
+        ((0, 9, &[9]), (1, 7, &[9])),
+        ((1, 7, &[9]), (1, 7, &[9, 0])),
+        ((1, 7, &[9, 0]), (1, 8, &[1])),
+    ];
+    for (left, right) in cases {
+        holds!(rt; is_less(rt.alloc(), left, right)?, left);
+        let hash = packet_hash(rt.alloc(), left)?;
+        same!(rt; packet_hash(rt.alloc(), left)?, hash);
+        holds!(rt; packet_hash(rt.alloc(), right)? != hash, left);
+    }
     Ok(())
 }
 

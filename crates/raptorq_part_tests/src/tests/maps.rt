@@ -60,15 +60,6 @@ fn lists_of_ten_keys(rt: HostRuntime) -> Result<(), Fail> {
     Ok(())
 }
 
-#[test]
-fn lists_of_nothing(rt: HostRuntime) -> Result<(), Fail> {
-    let map = ImmutableListMapBuilder::new(rt.alloc(), 10).build()?;
-    for key in 0..10 {
-        holds!(rt; map.get(key).is_empty(), key);
-    }
-    Ok(())
-}
-
 // The edges from 3 to 5 and to 8, and one from 8 to itself.
 fn three_edges(alloc: Global) -> Result<UndirectedGraph, Error>
     ensures { IfOk result (λ graph. graph.built ≡ true) }

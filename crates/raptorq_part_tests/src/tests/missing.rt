@@ -41,29 +41,6 @@ fn new_ids(rt: HostRuntime) -> Result<(), Fail> {
     Ok(())
 }
 
-// Of one source symbol: repair symbol 133 is zero, whatever that is, so that it decides nothing.
-#[test]
-fn undetermined(rt: HostRuntime) -> Result<(), Fail> {
-    let mut decoder = decoder(rt.alloc(), 1)?;
-    same!(rt; missing_after(rt.alloc(), &mut decoder, 133, 0)?, Some(1));
-    same!(rt; missing_after(rt.alloc(), &mut decoder, 0, 7)?, Some(0));
-    Ok(())
-}
-
-// What a decoder of one source symbol answers once symbol 133 was forged.
-fn missing_where_forged(alloc: Global) -> Result<(Result<(), Error>, Option<u32>), Error> {
-    let mut decoder = decoder(alloc, 1)?;
-    decoder.add_new_packet(packet(alloc, 0, 133, &[1])?)?;
-    let refused = decoder.add_new_packet(packet(alloc, 0, 0, &[7])?);
-    Ok((refused, decoder.missing_packets(0)?))
-}
-
-#[test]
-fn contradictory(rt: HostRuntime) -> Result<(), Fail> {
-    same!(rt; missing_where_forged(rt.alloc())?, (Err(Error::Contradiction), None));
-    Ok(())
-}
-
 // What the decoder of a block of three symbols answers before packets, and after one and a refused one.
 fn block_missing(alloc: Global) -> Result<(Option<u32>, Option<u32>), Error> {
     let table = SystematicTable::built_in(alloc)?;

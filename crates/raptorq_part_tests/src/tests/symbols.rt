@@ -1,5 +1,7 @@
 //! Symbols, slabs of them, operations on them, and the helpers of `util` and `gf2`.
 ghost use Rattle.std.specs.Prelude.{◌≡◌, None, length, IfOk};
+ghost use Rattle.rq_algebra.specs.Operations.{IsAllowed};
+ghost use Rattle.rq_bytes.specs.SymbolOps.{operation_of};
 
 use crate::compare::{holds, same};
 use raptorq::error::Error;
@@ -10,7 +12,6 @@ use raptorq::symbol::Symbol;
 use raptorq::symbol_slab::SymbolSlab;
 use raptorq::util::{get_both_indices, get_both_ranges, int_div_ceil};
 use std::alloc::Global;
-use std::process::Abort;
 use std::test::Fail;
 
 #[test]
@@ -58,29 +59,25 @@ fn three(alloc: Global) -> Result<SymbolSlab, Error>
     Ok(slab)
 }
 
-fn assert_symbols(rt: &impl Abort, slab: SymbolSlab, expected: &[u8]) -> Result<(), Error> {
-    let symbols = slab.into_symbols()?;
-    assert_eq!(rt; symbols.len(), expected.len());
-    for i in 0..symbols.len() {
-        same!(rt; symbols[i].as_bytes(), [expected[i]].as_slice(), i);
+// The octets of symbols of one octet each, as they are read.
+fn octets_of(alloc: Global, slab: SymbolSlab) -> Result<Vec<u8>, Error> {
+    let mut octets = Vec::new(alloc);
+    for symbol in &slab.into_symbols()? {
+        octets.extend_from_slice(symbol.as_bytes())?;
     }
-    Ok(())
+    Ok(octets)
 }
 
 #[test]
 #[tactic(auto, unfolding(rq_algebra::specs::Operations::step))]
 fn an_order_moves_no_symbol(rt: HostRuntime) -> Result<(), Error> {
     let mut slab = three(rt.alloc())?;
-    same!(rt; slab.get(1), [1].as_slice());
     slab.set_reorder([2, 0, 1].to_vec(rt.alloc())?);
     same!(rt; slab.len(), 3);
     same!(rt; slab.symbol_size(), 1);
     same!(rt; slab.get(0), [2].as_slice());
     same!(rt; slab.get(1), [0].as_slice());
     same!(rt; slab.get(2), [1].as_slice());
-    slab.set_reorder([1, 2].to_vec(rt.alloc())?);
-    assert_symbols(&rt, slab.clone()?, &[1, 2])?;
-    same!(rt; slab.into_bytes().as_slice(), [0, 1, 2].as_slice());
     Ok(())
 }
 
@@ -92,7 +89,8 @@ fn a_multiple_is_added(rt: HostRuntime) -> Result<(), Error> {
     slab.fma(0, 1, &Octet::new(3));
     same!(rt; slab.get(0), [7].as_slice());
     slab.add_all(1, &[0]);
-    assert_symbols(&rt, slab, &[7, 5])
+    same!(rt; slab.get(1), [5].as_slice());
+    Ok(())
 }
 
 // Each symbol has more octets than a kernel takes at once.
@@ -110,36 +108,57 @@ fn a_doubled_symbol_is_added_to_others(rt: HostRuntime) -> Result<(), Error> {
     Ok(())
 }
 
-#[test]
-#[tactic(auto, unfolding(rq_algebra::specs::Operations::step))]
-fn operations_are_performed(rt: HostRuntime) -> Result<(), Error> {
-    let mut slab = three(rt.alloc())?.clone()?;
-    perform_op(&SymbolOps::AddAssign { dest: 1, src: 2 }, &mut slab)?;
-    let scalar = Octet::new(3);
-    let multiple = SymbolOps::FMA {
-        dest: 0,
-        src: 1,
-        scalar,
-    };
-    perform_op(&multiple, &mut slab)?;
-    let scalar = Octet::new(128);
-    perform_op(&SymbolOps::MulAssign { dest: 2, scalar }, &mut slab)?;
-    let order = [2, 0].to_vec(rt.alloc())?;
-    perform_op(&SymbolOps::Reorder { order }, &mut slab)?;
-    assert_symbols(&rt, slab, &[29, 5])
+// What the symbols [0], [1], [2] are after an operation, as they are read.
+fn performed(alloc: Global, operation: SymbolOps) -> Result<Vec<u8>, Error>
+    requires { IsAllowed 3 None (operation_of operation) }
+{
+    let mut slab = three(alloc)?;
+    perform_op(&operation, &mut slab)?;
+    octets_of(alloc, slab)
 }
 
 #[test]
-fn symbols_go_in_and_out(rt: HostRuntime) -> Result<(), Error> {
+fn operations_are_performed(rt: HostRuntime) -> Result<(), Error> {
+    let alloc = rt.alloc();
+    let sum = performed(alloc, SymbolOps::AddAssign { dest: 1, src: 2 })?;
+    same!(rt; sum.as_slice(), [0, 3, 2].as_slice());
+    let scalar = Octet::new(3);
+    let with_multiple = performed(
+        alloc,
+        SymbolOps::FMA {
+            dest: 0,
+            src: 1,
+            scalar,
+        },
+    )?;
+    same!(rt; with_multiple.as_slice(), [3, 1, 2].as_slice());
+    let scalar = Octet::new(128);
+    let product = performed(alloc, SymbolOps::MulAssign { dest: 2, scalar })?;
+    same!(rt; product.as_slice(), [0, 1, 29].as_slice());
+    let order = [2, 0].to_vec(alloc)?;
+    let ordered = performed(alloc, SymbolOps::Reorder { order })?;
+    same!(rt; ordered.as_slice(), [2, 0].as_slice());
+    Ok(())
+}
+
+#[test]
+fn symbols_are_gathered_and_joined(rt: HostRuntime) -> Result<(), Error> {
+    let gathered = three(rt.alloc())?.gather(&[2, 0])?;
+    same!(rt; octets_of(rt.alloc(), gathered.clone()?)?.as_slice(), [2, 0].as_slice());
+    let symbols = vec![in rt.alloc(); Symbol::zero(rt.alloc(), 2)?]?;
+    let slab = SymbolSlab::from_symbols(rt.alloc(), symbols, 2)?;
+    same!(rt; slab.into_bytes().as_slice(), [0, 0].as_slice());
+    Ok(())
+}
+
+#[test]
+fn symbols_are_written_to(rt: HostRuntime) -> Result<(), Error> {
     let mut slab = three(rt.alloc())?;
-    assert_symbols(&rt, slab.gather(&[2, 0])?, &[2, 0])?;
     slab.get_mut(0).copy_from_slice(&[9]);
-    assert_symbols(&rt, slab, &[9, 1, 2])?;
+    same!(rt; slab.into_bytes().as_slice(), [9, 1, 2].as_slice());
     let mut slab = three(rt.alloc())?;
     let (dest, src) = slab.get_pair_mut(1, 2);
     dest.copy_from_slice(src);
-    assert_symbols(&rt, slab, &[0, 2, 2])?;
-    let mut symbols = Vec::new(rt.alloc());
-    symbols.push(Symbol::new([3].to_vec(rt.alloc())?))?;
-    assert_symbols(&rt, SymbolSlab::from_symbols(rt.alloc(), symbols, 1)?, &[3])
+    same!(rt; slab.into_bytes().as_slice(), [0, 2, 2].as_slice());
+    Ok(())
 }

@@ -1,8 +1,7 @@
-//! Tables: their sizes and look-ups, rows that are refused, and what a further row allows.
-use crate::compare::{holds, same};
+//! Tables: their sizes and look-ups, and rows that are refused.
+use crate::compare::same;
 use raptorq::error::Error;
 use raptorq::systematic_constants::{SystematicTable, extended_source_block_symbols};
-use raptorq::{Decoder, Encoder, ObjectTransmissionInformation};
 use std::alloc::Global;
 use std::test::Fail;
 
@@ -66,26 +65,5 @@ fn look_ups(rt: HostRuntime) -> Result<(), Fail> {
     same!(rt; table.num_pi_symbols(10), 10);
     same!(rt; table.calculate_p1(10), 11);
     same!(rt; row.extended_symbols, 10);
-    Ok(())
-}
-
-// An object of 498 bytes in one block, which the built-in rows are too small for.
-#[test]
-fn an_object_over_the_table(rt: HostRuntime) -> Result<(), Fail> {
-    let alloc = rt.alloc();
-    let table = SystematicTable::with_rows(alloc, &[(511, 800, 37, 10, 523)])?;
-    let config = ObjectTransmissionInformation::new(498, 1, 1, 1, 1)?;
-    holds!(rt; config.check(&table).is_ok());
-    holds!(rt; config.check(&SystematicTable::built_in(alloc)?) == Err(Error::BlockOverTable));
-    let mut object: Vec<u8> = Vec::new(alloc);
-    for i in 0..498u32 {
-        object.push((i % 251) as u8)?;
-    }
-    let encoder = Encoder::new(alloc, &table, object.as_slice(), config)?;
-    let mut decoder = Decoder::new(alloc, &table, config)?;
-    for packet in encoder.get_encoded_packets(0)? {
-        decoder.add_new_packet(packet)?;
-    }
-    holds!(rt; decoder.get_result()? == Some(object));
     Ok(())
 }
