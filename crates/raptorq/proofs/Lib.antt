@@ -1,13 +1,13 @@
 pub mod AnsweredParts
 pub mod AppendedBlocks
 pub mod BlockParts
+pub mod BlockTurns
 pub mod Built
 pub mod Changes
 pub mod EncodedBlocks
 pub mod FollowedRuns
+pub mod InTurn
 pub mod Lists
 pub mod ObjectBlocks
-pub mod Remembered
-pub mod RememberedHere
 pub mod Stops
 pub mod Witnesses

@@ -7,6 +7,7 @@ use denote.Ref.{Bor}
 use Rattle.std.specs.List.{range_with_len, AllWithin, HoldsAt}
 use Rattle.std.specs.Option.{option_copied}
 use Rattle.std.proofs.lemmas.List.{length-map, get_or-map, get_or-set_same, get_or-set_other, length-set, map-set}
+use Rattle.std.proofs.lemmas.List.Elements.{All-set}
 use Rattle.std.proofs.Math.Seq.{map-set_same}
 use Rattle.std.proofs.lemmas.Bool.{ltb-true, ltb-false}
 use Rattle.std.proofs.lemmas.List.FromFn.{get_or-map-range_with_len}
@@ -15,18 +16,15 @@ use Rattle.rq_standard.specs.Packet.{Packet}
 use Rattle.rq_standard.specs.Configuration.{Configuration}
 use Rattle.rq_standard.specs.Cutting.{block_symbols}
 use Rattle.rq_standard.specs.TableRows.{no_row}
-use Rattle.rq_standard.specs.ReceivedBlock.{ReceivedBlock, nothing_received, IsContradictory}
+use Rattle.rq_standard.specs.ReceivedBlock.{ReceivedBlock, nothing_received}
 use Rattle.rq_standard.specs.DecoderState.{State, new_received, new_answer, IsNewState, append_both, first_blocks, result_of}
-use Rattle.rq_standard.specs.DecoderSteps.{AddsToBlock, RecordsInBlock, IsSameElsewhere, Adds, RecordsOnly, StopsEarly}
 use Rattle.rq_standard.proofs.ObjectAnswers.{joined_some, joined_each, not_complete}
 use Rattle.rq_standard.proofs.OptionValues.{is_some-mapped, none_is}
 use Rattle.rq_block.specs.SourceBlockDecoder.{Solving, received_of, solving_of}
 use Rattle.rq_block.specs.declared.decoder.last_outcome.LastOutcome.TheVariants.{Untried}
 use Rattle.raptorq.specs.Decoder.{received_at, answer_at, answer_of, solving_at, IsBlockAt}
-use Rattle.raptorq.specs.Remembering.{Remembers, RemembersHere}
 use Rattle.rq_block.specs.RefusedBlocks.{block_refusal}
-use Rattle.raptorq.specs.TakesPacket.{AddsHereOrStops, TakesPacket}
-use Rattle.raptorq.specs.Refused.{packet_refusal}
+use Rattle.raptorq.specs.InTurn.{KeptBlock, block_of, block_at, ChangesBlock}
 use Rattle.rq_block.proofs.Numbered.{length-mapped, length-numbered, mapped_through, some_at}
 use Rattle.raptorq.specs.declared.decoder.object.ObjectBlock.{ObjectBlock}
 use Rattle.raptorq.specs.declared.decoder.object.Decoder.{Decoder}
@@ -40,6 +38,12 @@ state c items = record { configuration = c; received = received_at c items; answ
 -- what was received of it has as many symbols as the configuration says of its number
 abbrev pub IsCut : Configuration → ReceivedBlock → Type 0
 IsCut c h = h.source_symbols ≡ block_symbols c h.number
+
+-- the blocks are those of the configuration, in their order
+pub record AreBlocksOf (c : Configuration) (items : List ObjectBlock) : Type 0 where
+  pub numbered : map block_number items ≡ range_with_len 0 c.source_blocks
+  pub same : All (λ b. (received_of b.decoder).configuration ≡ c) items
+  pub cut : All (λ b. IsCut c (received_of b.decoder)) items
 
 -- what is read of it
 pub received_here : (c : Configuration) (items : List ObjectBlock) (i : ℕ) (x : ObjectBlock) → i < length items → x ≡ get_or items i x → received_at c items i ≡ received_of x.decoder
@@ -97,65 +101,66 @@ within items i y below = omega (arith, length-set items i y)
 elsewhere_same : {Y : Type 0} (f : ObjectBlock → Y) (items : List ObjectBlock) (i n : ℕ) (y : ObjectBlock) (d : Y) → n ≢ i → get_or (map f (set items i y)) n d ≡ get_or (map f items) n d
 elsewhere_same f items i n y d apart = ap (λ l. get_or l n d) (map-set f items i y) ∙ get_or-set_other (map f items) i n (f y) d apart
 
--- the others stay
-elsewhere : (c : Configuration) (items : List ObjectBlock) (i : ℕ) (y : ObjectBlock) → IsSameElsewhere (state c items) i (state c (set items i y))
-elsewhere c items i y = record {
-  configuration = refl;
-  other = λ n below apart. (elsewhere_same (λ b. received_of b.decoder) items i n y (nothing_received c n no_row 0) apart, elsewhere_same answer_of items i n y None apart);
-}
+-- ---- one block is written
 
--- the packet's block is written
-module _ (c : Configuration) (items : List ObjectBlock) (p : Packet) (x y : ObjectBlock) (below : p.id.block < length items) (is : x ≡ get_or items p.id.block x) where
-  -- what is said of the block before and after is said of the two states
-  shown_here : (P : ReceivedBlock → Option (List ℕ) → Packet → ReceivedBlock → Option (List ℕ) → Type 0) → P (received_of x.decoder) (answer_of x) p (received_of y.decoder) (answer_of y)
-      → P (received_at c items p.id.block) (answer_at items p.id.block) p (received_at c (set items p.id.block y) p.id.block) (answer_at (set items p.id.block y) p.id.block)
-  shown_here P so =
-      let i = p.id.block in
-      let new = set items i y in
-      said_here c items i x below is (λ h a. P h a p (received_at c new i) (answer_at new i))
-      (said_here c new i y (within items i y below) (set_there items i y below) (P (received_of x.decoder) (answer_of x) p) so)
+module _ (old new : Decoder) (i : ℕ) (x y : ObjectBlock) (below : i < length old.blocks.items) (is : x ≡ get_or old.blocks.items i x)
+    (configuration : new.config ≡ old.config) (written : new.blocks.items ≡ set old.blocks.items i y) where
+  abbrev first : Solving
+  first = record { sparse_threshold = 0; last_outcome = Untried }
 
-  adds_at : AddsToBlock (received_of x.decoder) (answer_of x) p (received_of y.decoder) (answer_of y) → Adds (state c items) p (state c (set items p.id.block y))
-  adds_at add = record { here = shown_here AddsToBlock add; elsewhere = elsewhere c items p.id.block y }
+  abbrev solving : ObjectBlock → Solving
+  solving b = solving_of b.decoder
 
-  records_at : RecordsInBlock (received_of x.decoder) (answer_of x) p (received_of y.decoder) (answer_of y) → RecordsOnly (state c items) p (state c (set items p.id.block y))
-  records_at more = record { here = shown_here RecordsInBlock more; elsewhere = elsewhere c items p.id.block y }
+  -- what is kept of it before,
+  kept_before : block_at old i ≡ block_of x
+  kept_before =
+      let received = received_here old.config old.blocks.items i x below is in
+      let answer = answer_here old.blocks.items i x below is in
+      let solved : solving_at old i ≡ solving x = get_or-map solving old.blocks.items i x first below ∙ ap solving (sym is) in
+      λ k. record { received = received k; answer = answer k; solving = solved k }
 
-  stays_at : received_of y.decoder ≡ received_of x.decoder → answer_of y ≡ answer_of x → state c (set items p.id.block y) ≡ state c items
-  stays_at received answer =
-      let received_same : map (λ b. received_of b.decoder) (set items p.id.block y) ≡ map (λ b. received_of b.decoder) items = map-set_same (λ b. received_of b.decoder) items p.id.block y x (received ∙ ap (λ b. received_of b.decoder) is) in
-      let answer_same : map answer_of (set items p.id.block y) ≡ map answer_of items = map-set_same answer_of items p.id.block y x (answer ∙ ap answer_of is) in
-      λ i. record { configuration = c; received = λ n. get_or (received_same i) n (nothing_received c n no_row 0); answer = λ n. get_or (answer_same i) n None }
+  -- and then
+  kept_after : block_at new i ≡ block_of y
+  kept_after =
+      let after = set old.blocks.items i y in
+      let there = within old.blocks.items i y below in
+      let here = set_there old.blocks.items i y below in
+      let received : received_at new.config new.blocks.items i ≡ received_of y.decoder = ap (λ l. received_at new.config l i) written ∙ received_here new.config after i y there here in
+      let answer : answer_at new.blocks.items i ≡ answer_of y = ap (λ l. answer_at l i) written ∙ answer_here after i y there here in
+      let solved : solving_at new i ≡ solving y = ap (λ l. get_or (map solving l) i first) written ∙ get_or-map solving after i y first there ∙ ap solving (sym here) in
+      λ k. record { received = received k; answer = answer k; solving = solved k }
 
-  -- what is remembered of the block is remembered of its number
-  pub remembers_at : {X : Type 0} (old new : Decoder) (result : Result X Error) → old.blocks.items ≡ items → new.blocks.items ≡ set items p.id.block y
-      → RemembersHere (received_of x.decoder) (solving_of x.decoder) result (received_of y.decoder) (answer_of y) (solving_of y.decoder) → Remembers old p result new
-  remembers_at old new result was now so =
-      let i = p.id.block in
-      let first : Solving = record { sparse_threshold = 0; last_outcome = Untried } in
-      let solving : ObjectBlock → Solving = λ b. solving_of b.decoder in
-      let after = set items i y in
-      let old_is : solving_at old i ≡ solving x = ap (λ l. get_or (map solving l) i first) was ∙ get_or-map solving items i x first below ∙ ap solving (sym is) in
-      let new_is : solving_at new i ≡ solving y =
-      ap (λ l. get_or (map solving l) i first) now ∙ get_or-map solving after i y first (within items i y below) ∙ ap solving (sym (set_there items i y below)) in
-      let answer_is : answer_at new.blocks.items i ≡ answer_of y = ap (λ l. answer_at l i) now ∙ answer_here after i y (within items i y below) (set_there items i y below) in
-      let held : received_at old.config old.blocks.items i ≡ received_of x.decoder = ap (λ l. received_at old.config l i) was ∙ received_here old.config items i x below is in
-      let holds : received_at new.config new.blocks.items i ≡ received_of y.decoder =
-      ap (λ l. received_at new.config l i) now ∙ received_here new.config after i y (within items i y below) (set_there items i y below) in
-      record {
-        here = rw (held, old_is, holds, answer_is, new_is) so;
-        others = λ n apart. ap (λ l. get_or (map solving l) n first) now ∙ elsewhere_same solving items i n y first apart ∙ sym (ap (λ l. get_or (map solving l) n first) was);
-      }
+  kept_elsewhere : (m : ℕ) → m ≢ i → block_at new m ≡ block_at old m
+  kept_elsewhere m apart =
+      let items = old.blocks.items in
+      let received : received_at new.config new.blocks.items m ≡ received_at old.config items m =
+      ap (λ l. received_at new.config l m) written ∙ elsewhere_same (λ b. received_of b.decoder) items i m y (nothing_received new.config m no_row 0) apart
+      ∙ ap (λ c. received_at c items m) configuration in
+      let answer : answer_at new.blocks.items m ≡ answer_at items m = ap (λ l. answer_at l m) written ∙ elsewhere_same answer_of items i m y None apart in
+      let solved : solving_at new m ≡ solving_at old m = ap (λ l. get_or (map solving l) m first) written ∙ elsewhere_same solving items i m y first apart in
+      λ k. record { received = received k; answer = answer k; solving = solved k }
 
-  -- what the packet did to its block it did to the object's decoder
-  pub takes_at : (result : Result (Unit {0}) Error) → packet_refusal c p ≡ Ok tt
-      → AddsHereOrStops (received_of x.decoder) (answer_of x) p result (received_of y.decoder) (answer_of y) → TakesPacket StopsEarly (state c items) p result (state c (set items p.id.block y))
-  takes_at (Ok u) passes so = (passes, adds_at so)
-  takes_at (Err e) passes (inl (is, inl same)) = inr (inl (passes, is, inl (stays_at same.0 same.1)))
-  takes_at (Err e) passes (inl (is, inr more)) = inr (inl (passes, is, inr (records_at more)))
-  takes_at (Err e) passes (inr found) =
-      let there = received_here c (set items p.id.block y) p.id.block y (within items p.id.block y below) (set_there items p.id.block y below) in
-      inr (inr (passes, found.0, record { records = records_at found.1; contradictory = subst IsContradictory (sym there) found.2 }))
+  -- what is said of the block is said of its number
+  pub changes_block : (Here : KeptBlock → KeptBlock → Type 0) → Here (block_of x) (block_of y) → ChangesBlock Here old i new
+  changes_block Here so = record {
+    configuration = configuration;
+    here = subst (λ b. Here b (block_at new i)) (sym kept_before) (subst (Here (block_of x)) (sym kept_after) so);
+    others = kept_elsewhere;
+  }
+
+-- what each block says of its number, its configuration and its symbols stays, where the block that is written says the same
+pub blocks_same : (d : Decoder) (i : ℕ) (x y : ObjectBlock) → i < length d.blocks.items → x ≡ get_or d.blocks.items i x
+    → (received_of y.decoder).number ≡ (received_of x.decoder).number → (received_of y.decoder).configuration ≡ (received_of x.decoder).configuration
+    → (received_of y.decoder).source_symbols ≡ (received_of x.decoder).source_symbols → AreBlocksOf d.config (set d.blocks.items i y)
+blocks_same d i x y below is number configuration symbols =
+    let items = d.blocks.items in
+    record {
+      numbered = map-set_same block_number items i y x (number ∙ ap block_number is) ∙ d.numbered;
+      same = All-set (λ b. (received_of b.decoder).configuration ≡ d.config) items i y (configuration ∙ ap (λ b. (received_of b.decoder).configuration) is ∙ d.same i x below) d.same;
+      cut = All-set (λ b. IsCut d.config (received_of b.decoder)) items i y
+          (symbols ∙ ap (λ b. (received_of b.decoder).source_symbols) is ∙ d.cut i x below ∙ ap (λ b. block_symbols d.config (received_of b.decoder).number) (sym is)
+          ∙ ap (block_symbols d.config) (sym number)) d.cut;
+    }
 
 -- ---- all blocks joined
 

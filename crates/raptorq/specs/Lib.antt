@@ -5,6 +5,7 @@ pub mod BlocksEncoded
 pub mod Building
 pub mod Decoder
 pub mod Encoder
+pub mod InTurn
 pub mod Laws
 pub mod Offsets
 pub mod Refused

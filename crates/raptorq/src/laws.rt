@@ -1,7 +1,7 @@
 //! Laws of packets, blocks and answers: each is the contract of a function that does nothing.
 ghost use Rattle.rq_standard.specs.PacketLaws.{IntermediateSymbolsAreOnly, SourcePacketsAreSymbols, AnswerableIsOnlyObject, MorePacketsDetermine, MorePacketsAreAnswerable, AnswersStay, SameIdsAreAnswerable, SameIdsAnswerTheSame, AnswerIsOne, DeterminedByIdsAlone, ContradictionsStay, JoiningUndoesCutting, CuttingUndoesJoining};
 ghost use Rattle.rq_standard.specs.StepLaws.{TakenIsFollowed, TakenIsTried, RecordedIsLate, HonestRunsGrow, HonestPacketsFit, ContradictionsAreKept, ContradictoryTakesNone, ContradictoryIsNone, ResultIsObject, DifferenceIsNone, DifferencesFit};
-ghost use Rattle.raptorq.specs.Laws.{FirstRefusalIsOne, AnsweredPartsMakeObject, PartsAreObjects, TakenIsNext, RefusedIsNext, HonestIsTaken};
+ghost use Rattle.raptorq.specs.Laws.{FirstRefusalIsOne, AnsweredPartsMakeObject, PartsAreObjects, TurnsTake, TurnsRemember, TakenIsNext, RefusedIsNext, HonestIsTaken};
 
 /// A block has no more than one column of intermediate symbols where its row isn't singular: any two
 /// are the same below L (RFC 6330, sections 5.3.3 and 5.4.2).
@@ -74,6 +74,15 @@ pub fn joined_sub_blocks()
 pub fn joined_blocks()
     ensures object { AnsweredPartsMakeObject }
     ensures parts { PartsAreObjects }
+{}
+
+/// What [`Decoder::add_new_packet`](crate::decoder::Decoder::add_new_packet) does in turn with a packet
+/// is one step: the packet is refused by the tests and changes nothing, or is taken and its block
+/// answered where that can be, or contradicts what its block holds; or memory is refused, and the packet
+/// is recorded or not. And what is remembered of its block then.
+pub fn packets_in_turn()
+    ensures take { TurnsTake }
+    ensures remember { TurnsRemember }
 {}
 
 /// From a decoder that follows packets and took one more, one that follows them with it, whoever sent

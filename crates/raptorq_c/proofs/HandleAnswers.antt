@@ -9,7 +9,6 @@ use Rattle.rq_standard.specs.declared.row.TableRow.{TableRow}
 use Rattle.rq_standard.specs.Configuration.{Configuration, configuration_of_bytes}
 use Rattle.rq_standard.specs.Packet.{Packet}
 use Rattle.rq_standard.specs.DecoderState.{State, result_of}
-use Rattle.rq_standard.specs.DecoderSteps.{StopsEarly}
 use Rattle.rq_standard.specs.Streams.{frame_size, frames_in}
 use Rattle.rq_base.specs.RefusedInput.{read_packet}
 use Rattle.rq_base.proofs.Accepted.{ok_of}
@@ -21,7 +20,8 @@ use Rattle.raptorq_c.specs.declared.rows.Row.{Row}
 use Rattle.raptorq_c.specs.FurtherRows.{table_of}
 use Rattle.raptorq_c.specs.ObjectBuffers.{Answered, IsFilled, IsRefused, IsDecoded, IsDecodingRefusal, IsPacketsRefusal, frames_refusal, packets_in}
 use Rattle.raptorq.specs.Decoder.{state_of}
-use Rattle.raptorq.specs.Remembering.{Remembers}
+use Rattle.raptorq.specs.InTurn.{TakesInTurn}
+use Rattle.raptorq.proofs.InTurn.{turns_take}
 use Rattle.raptorq.specs.declared.decoder.object.Decoder.{Decoder}
 use Rattle.raptorq_c.specs.Handles.{bytes_refusal, FillsWithAnswer, FillsWithBlock, IsAdded, IsPartOf, IsTakenNumber, StaysUnread, TakesRead}
 use Rattle.raptorq_c.specs.Numbers.{number_of, refusal_number}
@@ -101,24 +101,24 @@ unread_bytes d bytes e refusal = record {
 }
 
 -- the number of what a decoder answers
-answered_number : (Left : State → Packet → State → Type 0) (old new : State) (p : Packet) (r : Result (Unit {0}) Error) → TakesPacket Left old p r new → IsTakenNumber (refusal_number r) (packet_refusal old.configuration p)
-answered_number Left old new p (Ok x) takes = inl (inl (sym (ap refusal_number takes.0)))
-answered_number Left old new p (Err e) (inl tested) = inl (inl (sym (ap refusal_number tested.0)))
-answered_number Left old new p (Err e) (inr (inl memory)) = inl (inr (ap code_of memory.1))
-answered_number Left old new p (Err e) (inr (inr x)) = inr (ap code_of x.1, x.0)
+answered_number : (old new : State) (p : Packet) (r : Result (Unit {0}) Error) → TakesPacket old p r new → IsTakenNumber (refusal_number r) (packet_refusal old.configuration p)
+answered_number old new p (Ok x) takes = inl (inl (sym (ap refusal_number takes.0)))
+answered_number old new p (Err e) (inl tested) = inl (inl (sym (ap refusal_number tested.0)))
+answered_number old new p (Err e) (inr (inl memory)) = inl (inr (ap code_of memory.1))
+answered_number old new p (Err e) (inr (inr x)) = inr (ap code_of x.1, x.0)
 
 -- what a decoder does with the packet that bytes spell
-pub taken_bytes : (old new : Decoder) (bytes : List ℕ) (p : Packet) (r : Result (Unit {0}) Error) → read_packet bytes ≡ Ok p → TakesPacket StopsEarly (state_of old) p r (state_of new) → Remembers old p r new
+pub taken_bytes : (old new : Decoder) (bytes : List ℕ) (p : Packet) (r : Result (Unit {0}) Error) → read_packet bytes ≡ Ok p → TakesInTurn old p r new
     → IsAdded old bytes (refusal_number r) new
-taken_bytes old new bytes p r read takes remembers =
+taken_bytes old new bytes p r read takes =
     let n = refusal_number r in
     let before = state_of old in
     let refusal : Result Packet Error → Result (Unit {0}) Error = λ found. and_then {Y = Unit {0}} found (packet_refusal before.configuration) in
     let same : bytes_refusal before.configuration bytes ≡ packet_refusal before.configuration p = ap refusal read in
     record {
-      refused = subst (IsTakenNumber n) (sym same) (answered_number StopsEarly before (state_of new) p r takes);
+      refused = subst (IsTakenNumber n) (sym same) (answered_number before (state_of new) p r (turns_take old new p r takes));
       short = subst (λ found. IfErr found (λ e. (n ≡ code_of e) × (new ≡ old))) (sym read) tt;
-      takes = subst (λ found. IfOk found (λ q. StaysUnread old n new ⊎ TakesRead old q n new)) (sym read) (inr (record { result = r; number = refl; takes = takes; remembers = remembers }));
+      takes = subst (λ found. IfOk found (λ q. StaysUnread old n new ⊎ TakesRead old q n new)) (sym read) (inr (record { result = r; number = refl; takes = takes }));
     }
 
 -- ---- packets in a buffer

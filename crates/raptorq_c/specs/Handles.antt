@@ -8,7 +8,7 @@ use Rattle.rq_standard.specs.Configuration.{Configuration, configuration_of_byte
 use Rattle.rq_standard.specs.Packet.{SymbolId, Packet, packet_bytes}
 use Rattle.rq_standard.specs.Headline.{HasNonsingularRows}
 use Rattle.rq_standard.specs.DecoderState.{State, IsNewState, result_of}
-use Rattle.rq_standard.specs.DecoderSteps.{StopsEarly, IsBlockContradictory}
+use Rattle.rq_standard.specs.DecoderSteps.{IsBlockContradictory}
 use Rattle.rq_standard.specs.Following.{FollowsRun}
 use Rattle.rq_standard.specs.TableRows.{greatest_size}
 use Rattle.rq_base.specs.RefusedInput.{new_id, read_packet}
@@ -20,10 +20,9 @@ use Rattle.rq_block.specs.MissingPackets.{NeedsMore}
 use Rattle.rq_block.specs.SourceBlockDecoder.{unsolved}
 use Rattle.rq_block.specs.SourceBlockEncoder.{BlockEncoded, block_encoded_of}
 use Rattle.rq_block.specs.SourceBlockEncodingPlan.{Plan, plan_of}
-use Rattle.raptorq.specs.Remembering.{Remembers}
+use Rattle.raptorq.specs.InTurn.{TakesInTurn}
 use Rattle.raptorq.specs.Unanswered.{TellsMissingOf}
 use Rattle.raptorq.specs.Refused.{new_encoder, packet_refusal, RefusesEncoder}
-use Rattle.raptorq.specs.TakesPacket.{TakesPacket}
 use Rattle.raptorq.specs.declared.decoder.object.Decoder.{Decoder}
 use Rattle.raptorq_c.specs.ObjectBuffers.{Answered, IsFilled, IsRefused}
 use Rattle.raptorq_c.specs.Numbers.{refusal_number, IsNumber}
@@ -102,12 +101,11 @@ IsTakenNumber number wanted = IsNumber number wanted ⊎ ((number ≡ 22) × (wa
 abbrev pub StaysUnread : Decoder → ℕ → Decoder → Type 0
 StaysUnread old answer new = (answer ≡ 21) × (new ≡ old)
 
--- what a packet does to a decoder and to what it remembers, and the number of what the decoder answers
+-- what a packet does to a decoder, and the number of what the decoder answers
 pub record TakesRead (old : Decoder) (packet : Packet) (answer : ℕ) (new : Decoder) : Type 0 where
   pub result : Result (Unit {0}) Error
   pub number : answer ≡ refusal_number result
-  pub takes : TakesPacket StopsEarly (state_of old) packet result (state_of new)
-  pub remembers : Remembers old packet result new
+  pub takes : TakesInTurn old packet result new
 
 -- What the bytes of a packet do to a decoder: what the packet does, and nothing where they are too short or memory is refused before it has the packet.
 pub record IsAdded (old : Decoder) (bytes : List ℕ) (answer : ℕ) (new : Decoder) : Type 0 where

@@ -1,5 +1,5 @@
 -- Packets that a block's decoder takes one after another.
-use Rattle.std.proofs.Common.{◌≡◌, ℕ, Bool, true, false, eqb, cond, List, [], ◌∷◌, ◌++◌, length, Option, Some, Result, Ok, Err, refl, sym, ap, ◌∙◌, subst, inr}
+use Rattle.std.proofs.Common.{◌≡◌, ℕ, Bool, true, false, eqb, cond, List, [], ◌∷◌, ◌++◌, length, Option, Some, Result, Ok, Err, refl, sym, ap, ◌∙◌, subst, inl}
 use Rattle.std.specs.Prelude.{not}
 use Rattle.std.specs.Iterator.{Yields}
 use Rattle.std.proofs.lemmas.Bool.{eqb-true}
@@ -11,7 +11,9 @@ use Rattle.rq_standard.specs.ReceivedBlock.{ReceivedBlock, with_received}
 use Rattle.rq_standard.proofs.StandingSteps.{AllByRecursion-append}
 use Rattle.rq_block.specs.Payloads.{AddsUnlessThere}
 use Rattle.rq_block.specs.RefusedBlocks.{block_refusal}
-use Rattle.rq_block.specs.Decoding.{all_recorded, AreTaken, Decodes}
+use Rattle.rq_block.specs.declared.decoder.block.SourceBlockDecoder.{SourceBlockDecoder}
+use Rattle.rq_block.specs.SourceBlockDecoder.{Solving, received_of, solving_of, solving_after}
+use Rattle.rq_block.specs.Decoding.{all_recorded, all_found, Recorded, StopsAtLast, RecordsThenAnswers, Decodes}
 
 -- what is refused of a packet by a test of its block, and then by one of its payload's size
 abbrev pub packet_tests : Bool → Bool → Result (Unit {0}) Error
@@ -60,27 +62,41 @@ all_recorded-push : (h : ReceivedBlock) (packets : List Packet) (p : Packet) →
 all_recorded-push h [] p = refl
 all_recorded-push h (x ∷ packets) p = all_recorded-push (with_received h x.id.esi x.payload) packets p
 
--- one packet more
-pub taken-more : (h g : ReceivedBlock) (packets : List Packet) (p : Packet) → AreTaken h packets → g ≡ all_recorded h packets → block_refusal g p ≡ Ok tt → AreTaken h (packets ++ p ∷ [])
-taken-more h g packets p taken is passed = AllByRecursion-append (λ q. block_refusal h q ≡ Ok tt) packets (p ∷ []) taken (sym (refusal_kept h g packets p is) ∙ passed, tt)
+all_found-push : (h : ReceivedBlock) (s : Solving) (packets : List Packet) (p : Packet) → all_found h s (packets ++ p ∷ []) ≡ solving_after (all_recorded h packets) p.id.esi (all_found h s packets)
+all_found-push h s [] p = refl
+all_found-push h s (x ∷ packets) p = all_found-push (with_received h x.id.esi x.payload) (solving_after h x.id.esi s) packets p
 
-pub recorded-more : (h g new : ReceivedBlock) (packets : List Packet) (p : Packet) → g ≡ all_recorded h packets → new ≡ with_received g p.id.esi p.payload → new ≡ all_recorded h (packets ++ p ∷ [])
-recorded-more h g new packets p is one = one ∙ ap (λ k. with_received k p.id.esi p.payload) is ∙ sym (all_recorded-push h packets p)
+module _ (old now new : SourceBlockDecoder) (packets : List Packet) (p : Packet) (so : Recorded old packets now) where
+  -- one packet more
+  pub recorded_more : block_refusal (received_of now) p ≡ Ok tt → received_of new ≡ with_received (received_of now) p.id.esi p.payload
+      → solving_of new ≡ solving_after (received_of now) p.id.esi (solving_of now) → Recorded old (packets ++ p ∷ []) new
+  recorded_more passed received solving =
+      let h = received_of old in
+      record {
+        taken = AllByRecursion-append (λ q. block_refusal h q ≡ Ok tt) packets (p ∷ []) so.taken (sym (refusal_kept h (received_of now) packets p so.received) ∙ passed, tt);
+        received = received ∙ ap (λ k. with_received k p.id.esi p.payload) so.received ∙ sym (all_recorded-push h packets p);
+        solving = solving ∙ ap (λ k. solving_after k p.id.esi (solving_of now)) so.received ∙ ap (solving_after (all_recorded h packets) p.id.esi) so.solving
+            ∙ sym (all_found-push h (solving_of old) packets p);
+      }
 
-module _ {T : Type 0} (steps : T → Option Packet → T → Type 0) (iterator : T) where
   -- the packet that stops the call
-  pub stopped : (h g new : ReceivedBlock) (packets : List Packet) (p : Packet) (after : T) (e : Error) → Yields steps iterator (packets ++ p ∷ []) after
-      → AreTaken h packets → g ≡ all_recorded h packets → new ≡ g → IsRefusal e (block_refusal g p) → Decodes steps iterator h (packets ++ p ∷ []) (Err e) new
-  stopped h g new packets p after e gave taken is same refused = inr (record {
+  pub stopped : {T : Type 0} (steps : T → Option Packet → T → Type 0) (iterator after : T) (e : Error) → Yields steps iterator (packets ++ p ∷ []) after
+      → received_of new ≡ received_of now → solving_of new ≡ solving_of now → IsRefusal e (block_refusal (received_of now) p) → StopsAtLast steps iterator old (packets ++ p ∷ []) e new
+  stopped steps iterator after e gave received solving refused = record {
     after = after;
     gave = gave;
     front = packets;
     last = p;
     whole = refl;
-    taken = taken;
-    recorded = same ∙ is;
-    stopped = subst (IsRefusal e) (refusal_kept h g packets p is) refused;
-  })
+    recorded = record { taken = so.taken; received = received ∙ so.received; solving = solving ∙ so.solving };
+    stopped = subst (IsRefusal e) (refusal_kept (received_of old) (received_of now) packets p so.received) refused;
+  }
+
+-- all packets are recorded, and what was received is answered then, or isn't
+pub decodes_by : {T V : Type 0} (steps : T → Option Packet → T → Type 0) (iterator : T) (view : V → List ℕ) (old : SourceBlockDecoder) (packets : List Packet)
+    (result : Result (Option V) Error) (new : SourceBlockDecoder) → RecordsThenAnswers steps iterator view old packets result new → Decodes steps iterator view old packets result new
+decodes_by steps iterator view old packets (Ok answer) new so = so
+decodes_by steps iterator view old packets (Err e) new so = inl so
 
 -- an iterator's next item, after those that it gave
 pub Yields-push : {S : Type 0} (steps : S → Option Packet → S → Type 0) (s : S) (packets : List Packet) (t : S) (p : Packet) (u : S) → Yields steps s packets t → steps t (Some p) u → Yields steps s (packets ++ p ∷ []) u

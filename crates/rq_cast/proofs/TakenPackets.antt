@@ -7,7 +7,7 @@ use Rattle.rq_standard.specs.Configuration.{Configuration}
 use Rattle.rq_standard.specs.Packet.{Packet}
 use Rattle.rq_standard.specs.Headline.{IsHonestRun}
 use Rattle.rq_standard.specs.DecoderState.{State}
-use Rattle.rq_standard.specs.DecoderSteps.{Adds, StopsEarly}
+use Rattle.rq_standard.specs.DecoderSteps.{Adds}
 use Rattle.rq_standard.specs.Following.{FollowsRun}
 use Rattle.raptorq.specs.Runs.{IsNextRefusal, IsRefusalBehind}
 use Rattle.rq_standard.proofs.FollowingSteps.{taken_is_followed}
@@ -15,7 +15,7 @@ use Rattle.raptorq.specs.Refused.{packet_refusal}
 use Rattle.raptorq.specs.TakesPacket.{StopsBy}
 use Rattle.raptorq.proofs.FollowedRuns.{passes_below, taken_is_next, refused_is_next, refusal_behind-front}
 use Rattle.raptorq.proofs.Lists.{next_honest}
-use Rattle.raptorq.proofs.Stops.{not_joined, honest_is_taken}
+use Rattle.raptorq.proofs.Stops.{honest_is_taken}
 use Rattle.rq_cast.specs.Taken.{is_known, known_packets, unknown_count, TakesAll, StopsAmong}
 
 module _ (old now : State) (front : List Packet) (taken : TakesAll old front now) (p : Packet) where
@@ -36,16 +36,16 @@ module _ (old now : State) (front : List Packet) (taken : TakesAll old front now
   }
 
   -- or it is refused
-  pub stops_at : (rest : List Packet) (new : State) (e : Error) → StopsBy (StopsEarly now p new) now p e new → StopsAmong old (front ++ p ∷ rest) e
+  pub stops_at : (rest : List Packet) (new : State) (e : Error) → StopsBy now p e new → StopsAmong old (front ++ p ∷ rest) e
   stops_at rest new e stops = record {
-    refused = λ table earlier follows. elim (refused_is_next table (earlier ++ front) p now new e (taken.follows table earlier follows) (not_joined now p e new stops)) [
+    refused = λ table earlier follows. elim (refused_is_next table (earlier ++ front) p now new e (taken.follows table earlier follows) stops) [
       | inl memory ↦ inl memory
       | inr first ↦ inr (refusal_behind-front table old.configuration earlier front (p ∷ rest) (Err e) (taken.passed table earlier follows)
           (inl (refl, subst (λ k. IsNextRefusal table k (earlier ++ front) p (Err e)) taken.configuration first)))
     ];
     honest = λ table object earlier follows run. honest_is_taken now p new e
         (next_honest table old.configuration (earlier ++ front) now taken.configuration (taken.follows table earlier follows) object rest p
-        (subst (IsHonestRun table old.configuration object) (sym (append_assoc earlier front (p ∷ rest))) run)) (not_joined now p e new stops);
+        (subst (IsHonestRun table old.configuration object) (sym (append_assoc earlier front (p ∷ rest))) run)) stops;
   }
 
 -- one list behind another

@@ -92,9 +92,9 @@ keeps_recorded old p new more b c = elim (cases_eq p.id.block b) [
 ]
 
 pub contradictions_are_kept : ContradictionsAreKept
-contradictions_are_kept old p new (inl (inl same)) = λ b c. subst (λ s. IsBlockContradictory s b) (sym same) c
-contradictions_are_kept old p new (inl (inr records)) = keeps_recorded old p new records
-contradictions_are_kept old p new (inr adds) = keeps_added old p new adds
+contradictions_are_kept old p new (inl adds) = keeps_added old p new adds
+contradictions_are_kept old p new (inr (inl same)) = λ b c. subst (λ s. IsBlockContradictory s b) (sym same) c
+contradictions_are_kept old p new (inr (inr records)) = keeps_recorded old p new records
 
 -- ---- an object's packets
 

@@ -139,10 +139,13 @@ new_block table c b shape = elim (cases_eq (block_symbols c b) 0) [
       subst (FollowsBlock InTime table c b [] (new_received table c b)) a (first_none InTime table c b shape.checked none)
   | inr some ↦
       let a : None ≡ new_answer c b = sym (rw (ne_eqb (block_symbols c b) 0 some) refl) in
-      subst (FollowsBlock InTime table c b [] (new_received table c b)) a (refl, λ _ can. elim can [
-        | inl all ↦ let first : false ≡ true = all.each 0 (omega (arith, some)) in cc first
-        | inr d ↦ none_determined (block_row table c b) (block_symbols c b) (omega (arith, some)) shape.fits d
-      ])
+      subst (FollowsBlock InTime table c b [] (new_received table c b)) a (
+        refl,
+        λ _ can. elim can [
+          | inl all ↦ let first : false ≡ true = all.each 0 (omega (arith, some)) in cc first
+          | inr d ↦ none_determined (block_row table c b) (block_symbols c b) (omega (arith, some)) shape.fits d
+        ],
+      )
 ]
 
 pub follows_no_packets : (table : List TableRow) (c : Configuration) (s : State) → IsAccepted (greatest_size table) c → ((b : ℕ) → b < c.source_blocks → IsReceivedOf table c b (new_received table c b)) → IsNewState table c s → FollowsRun table [] s

@@ -69,10 +69,5 @@ received_after table c b packets =
     record { configuration = c; number = b; row = block_row table c b; source_symbols = block_symbols c b; received = first_payload b packets }
 
 -- Where memory is refused for a packet: everything is as it was, or the packet is recorded and its block waits for its answer.
-abbrev pub StopsEarly : State → Packet → State → Type 0
-StopsEarly old p new = (new ≡ old) ⊎ RecordsOnly old p new
-
--- Where memory is refused for a packet behind which the blocks are joined: as where it is refused earlier, or the packet's block has the answer that
--- it can have, and no block lost one.
 abbrev pub Stops : State → Packet → State → Type 0
-Stops old p new = StopsEarly old p new ⊎ Adds old p new
+Stops old p new = (new ≡ old) ⊎ RecordsOnly old p new

@@ -1,5 +1,5 @@
 -- Laws of what a packet does to a decoder of an object: what it did says what comes of all packets, whoever sent them.
-use Rattle.std.specs.Prelude.{◌≡◌, ◌↔◌, ℕ, ◌<◌, List, [], ◌∷◌, ◌++◌, Option, None}
+use Rattle.std.specs.Prelude.{◌≡◌, ◌↔◌, ◌⊎◌, ℕ, ◌<◌, List, [], ◌∷◌, ◌++◌, Option, None}
 use Rattle.rq_algebra.specs.Changes.{with_at}
 use Rattle.rq_standard.specs.declared.row.TableRow.{TableRow}
 use Rattle.rq_standard.specs.Packet.{Packet}
@@ -44,7 +44,7 @@ HonestPacketsFit = (old : State) (p : Packet) (new : State) → IsHonestPacket o
 
 -- Whatever a packet did, a block that was contradictory stays so,
 abbrev pub ContradictionsAreKept : Type 0
-ContradictionsAreKept = (old : State) (p : Packet) (new : State) → Stops old p new → KeepsContradictions old new
+ContradictionsAreKept = (old : State) (p : Packet) (new : State) → Adds old p new ⊎ Stops old p new → KeepsContradictions old new
 
 -- takes nothing more, and the object is never answered.
 abbrev pub ContradictoryTakesNone : Type 0

@@ -6,7 +6,7 @@ use Rattle.rq_standard.specs.Configuration.{Configuration}
 use Rattle.rq_standard.specs.declared.row.TableRow.{TableRow}
 use Rattle.rq_standard.specs.Headline.{IsHonestRun}
 use Rattle.rq_standard.specs.DecoderState.{State}
-use Rattle.rq_standard.specs.DecoderSteps.{Adds, StopsEarly, Stops}
+use Rattle.rq_standard.specs.DecoderSteps.{Adds}
 use Rattle.rq_standard.specs.Standing.{IsHonestPacket}
 use Rattle.rq_bytes.specs.declared.error.Error.{Error}
 use Rattle.rq_bytes.specs.declared.error.Error.TheVariants.{OutOfMemory}
@@ -17,7 +17,6 @@ use Rattle.raptorq.specs.TakesPacket.{StopsBy}
 use Rattle.rq_standard.proofs.FollowingSteps.{taken_is_followed}
 use Rattle.raptorq.proofs.FollowedRuns.{passes_below, taken_is_next, refused_is_next, one_passes, one_stops}
 use Rattle.raptorq.proofs.Lists.{next_honest}
-use Rattle.raptorq.proofs.Stops.{not_joined}
 use Rattle.rq_standard.specs.Streams.{frame_size, frames_in}
 use Rattle.rq_streams.specs.Frames.{is_skipped, kept_packet, kept_packets, skipped_count, packets_in_bytes, skipped_in_bytes}
 use Rattle.rq_streams.specs.ReceivedStreams.{FollowsFrames, IsFramesRefusal}
@@ -64,17 +63,17 @@ module _ (c : Configuration) (bytes before after frame : List ℕ) (size skipped
       next_honest table c t.done now same (t.follows table none) object (packets_in_bytes c after) p (subst (IsHonestRun table c object) (whole_next (Some p) kept) run)
 
   -- a packet that is refused, memory aside, is the first of them
-  pub stopped_frames : (p : Packet) (new : State) (e : Error) → now.configuration ≡ c → Some p ≡ kept_packet c frame → StopsBy (StopsEarly now p new) now p e new → (e ≡ OutOfMemory) ⊎ IsFramesRefusal c old bytes (Err e)
-  stopped_frames p new e same kept stops = by_cause stops (not_joined now p e new stops) where
+  pub stopped_frames : (p : Packet) (new : State) (e : Error) → now.configuration ≡ c → Some p ≡ kept_packet c frame → StopsBy now p e new → (e ≡ OutOfMemory) ⊎ IsFramesRefusal c old bytes (Err e)
+  stopped_frames p new e same kept stops = by_cause stops where
     first : (table : List TableRow) → FollowsRun table [] old → IsNextRefusal table now.configuration t.done p (Err e) → IsRefusalBehind table c [] (packets_in_bytes c bytes) (Err e)
     first table none next =
         subst (λ ps. IsRefusalBehind table c [] ps (Err e)) (sym (whole_next (Some p) kept))
         (one_stops table c t.done (packets_in_bytes c after) p e (t.passed table none) (subst (λ k. IsNextRefusal table k t.done p (Err e)) same next))
 
-    by_cause : StopsBy (StopsEarly now p new) now p e new → StopsBy (Stops now p new) now p e new → (e ≡ OutOfMemory) ⊎ IsFramesRefusal c old bytes (Err e)
-    by_cause (inl tested) so = inr (λ table none. first table none (inl tested.0))
-    by_cause (inr (inl memory)) so = inl memory.1
-    by_cause (inr (inr x)) so = inr (λ table none. elim (refused_is_next table t.done p now new e (t.follows table none) so) [
+    by_cause : StopsBy now p e new → (e ≡ OutOfMemory) ⊎ IsFramesRefusal c old bytes (Err e)
+    by_cause (inl tested) = inr (λ table none. first table none (inl tested.0))
+    by_cause (inr (inl memory)) = inl memory.1
+    by_cause (inr (inr x)) = inr (λ table none. elim (refused_is_next table t.done p now new e (t.follows table none) (inr (inr x))) [
       | inl memory ↦ absurd (cc (memory, x.1))
       | inr next ↦ first table none next
     ])

@@ -32,9 +32,8 @@ struct ObjectBlock {
 impl ObjectBlock {
     ghost use Rattle.raptorq.specs.Unanswered.{ShowsUnanswered};
     ghost use Rattle.rq_standard.specs.DecoderState.{IsReceivedOf, new_received, new_answer};
-    ghost use Rattle.raptorq.specs.TakesPacket.{AddsHereOrStops};
     ghost use Rattle.raptorq.specs.Decoder.{answer_of};
-    ghost use Rattle.raptorq.specs.Remembering.{RemembersHere};
+    ghost use Rattle.raptorq.specs.InTurn.{block_of, RecordsHere, AnswersHere};
     ghost use Rattle.rq_block.specs.MissingPackets.{NeedsMore};
     ghost use Rattle.raptorq.specs.Unanswered.{TellsMissingOf, missing_in};
     ghost use Rattle.rq_block.specs.RefusedBlocks.{block_refusal};
@@ -64,20 +63,32 @@ impl ObjectBlock {
         ObjectBlock { decoder, answer }
     }
 
-    // Takes a packet of the block, and answers the block where that is determined. An answered
-    // block takes nothing more, and keeps nothing but its bytes.
-    fn add_packet(&mut self, packet: EncodingPacket) -> Result<(), Error>
+    // Records a packet of the block. An answered block takes nothing more.
+    fn record(&mut self, packet: EncodingPacket) -> Result<(), Error>
         requires { block_refusal (received_of self.old.decoder) packet ≡ Ok tt }
-        ensures adds { AddsHereOrStops (received_of self.old.decoder) (answer_of self.old) packet result (received_of self.new.decoder) (answer_of self.new) }
+        ensures records { RecordsHere packet result (block_of self.old) (block_of self.new) }
+        ensures memory { IfErr result (λ e. e ≡ Error.OutOfMemory) }
         ensures number { (received_of self.new.decoder).number ≡ (received_of self.old.decoder).number }
         ensures configuration { (received_of self.new.decoder).configuration ≡ (received_of self.old.decoder).configuration }
         ensures symbols { (received_of self.new.decoder).source_symbols ≡ (received_of self.old.decoder).source_symbols }
-        ensures remembers { RemembersHere (received_of self.old.decoder) (solving_of self.old.decoder) result (received_of self.new.decoder) (answer_of self.new) (solving_of self.new.decoder) }
     {
         if self.answer.is_some() {
             return Ok(());
         }
         self.decoder.record(packet)?;
+        Ok(())
+    }
+
+    // Answers the block where what was received determines it, and keeps nothing but its bytes then.
+    fn find_answer(&mut self) -> Result<(), Error>
+        ensures answers { AnswersHere result (block_of self.old) (block_of self.new) }
+        ensures number { (received_of self.new.decoder).number ≡ (received_of self.old.decoder).number }
+        ensures configuration { (received_of self.new.decoder).configuration ≡ (received_of self.old.decoder).configuration }
+        ensures symbols { (received_of self.new.decoder).source_symbols ≡ (received_of self.old.decoder).source_symbols }
+    {
+        if self.answer.is_some() {
+            return Ok(());
+        }
         self.answer = self.decoder.answer()?;
         if self.answer.is_some() {
             self.decoder.forget();
@@ -152,14 +163,12 @@ impl Decoder {
     ghost use Rattle.rq_standard.specs.Cutting.{symbols_before};
     ghost use Rattle.rq_standard.specs.Differences.{AreUnansweredDetermined, IsDifference};
     ghost use Rattle.rq_standard.specs.DecoderState.{IsNewState, result_of};
-    ghost use Rattle.rq_standard.specs.DecoderSteps.{Stops, StopsEarly};
     ghost use Rattle.std.specs.Option.{option_copied};
     ghost use Rattle.raptorq.specs.BlockBytes.{answered_part};
-    ghost use Rattle.raptorq.specs.TakesPacket.{TakesPacket};
+    ghost use Rattle.raptorq.specs.InTurn.{RecordsPacket, AnswersBlock, JoinsObject, TakesInTurn, DecodesInTurn};
     ghost use Rattle.rq_block.specs.MissingPackets.{NeedsMore};
     ghost use Rattle.raptorq.specs.Unanswered.{TellsMissingOf};
     ghost use Rattle.raptorq.specs.Decoder.{state_of, solving_at, solving_of_blocks, missing_of, IsBlockAt};
-    ghost use Rattle.raptorq.specs.Remembering.{Remembers};
 
     /// The decoder of an object in this configuration, before any packet.
     ///
@@ -206,34 +215,51 @@ impl Decoder {
         set_sparse_thresholds(self.blocks.as_mut_slice(), value);
     }
 
-    // Takes a packet, whoever sent it.
-    fn add_to_block(&mut self, packet: EncodingPacket) -> Result<(), Error>
-        ensures takes { TakesPacket StopsEarly (state_of self.old) packet result (state_of self.new) }
-        ensures configuration { (state_of self.new).configuration ≡ (state_of self.old).configuration }
-        ensures remembers { Remembers self.old packet result self.new }
+    /// Records a packet, whoever sent it, and answers nothing: [`Decoder::answer_block`] does. An
+    /// answered block takes nothing more. Not in the Rust crate.
+    ///
+    /// Refuses, in this order, [`Error::UnknownBlock`] where the packet's block is none of the
+    /// object's, and [`Error::WrongPayloadSize`] where its payload hasn't the size of a symbol. A
+    /// packet that is refused changes nothing.
+    pub fn record(&mut self, packet: EncodingPacket) -> Result<(), Error>
+        ensures { RecordsPacket self.old packet result self.new }
     {
         check_packet(&self.config, &packet)?;
         let number = packet.payload_id().source_block_number();
-        self.blocks[usize::from(number)].add_packet(packet)
+        self.blocks[usize::from(number)].record(packet)
     }
 
-    /// Takes a packet, and answers its block where all its source symbols were received or what was
-    /// received determines it (RFC 6330, section 5.4).
+    /// Answers a source block where all its source symbols were received or what was received
+    /// determines it (RFC 6330, section 5.4), and does nothing where it has its answer. Not in the
+    /// Rust crate.
     ///
-    /// Refuses, in this order, [`Error::UnknownBlock`] where the packet's block is none of the
-    /// object's, and [`Error::WrongPayloadSize`] where its payload hasn't the size of a symbol.
-    /// Refuses [`Error::Contradiction`] where with the packet what was received of its block, which
-    /// has no answer yet, determines it and no block fits all of it: the packet is recorded, each
-    /// later packet of the block is refused so too, and the object is never answered. Packets of
-    /// one object never contradict each other.
+    /// Refuses [`Error::UnknownBlock`] where the block is none of the object's, and
+    /// [`Error::Contradiction`] where what was received determines the block and no block fits all of
+    /// it. What was received stays, also where memory is refused.
+    pub fn answer_block(&mut self, source_block_number: u8) -> Result<(), Error>
+        ensures { AnswersBlock self.old source_block_number result self.new }
+    {
+        let number = usize::from(source_block_number);
+        if number >= self.blocks.len() {
+            return Err(Error::UnknownBlock);
+        }
+        self.blocks[number].find_answer()
+    }
+
+    /// Takes a packet: [`Decoder::record`] and then [`Decoder::answer_block`] of its block.
+    ///
+    /// Refuses what they refuse. Where what was received of a block is contradictory, each later packet
+    /// of it is refused so too, and the object is never answered. Packets of one object never
+    /// contradict each other.
     ///
     /// Where memory is refused after the packet was recorded, the next packet of its block tries to
     /// answer it again.
     pub fn add_new_packet(&mut self, packet: EncodingPacket) -> Result<(), Error>
-        ensures takes { TakesPacket StopsEarly (state_of self.old) packet result (state_of self.new) }
-        ensures remembers { Remembers self.old packet result self.new }
+        ensures { TakesInTurn self.old packet result self.new }
     {
-        self.add_to_block(packet)
+        let number = packet.payload_id().source_block_number();
+        self.record(packet)?;
+        self.answer_block(number)
     }
 
     /// Whether each block is answered, so that [`Decoder::get_result`] has the object, where there is
@@ -246,9 +272,7 @@ impl Decoder {
 
     /// The object, where each of its blocks is answered.
     pub fn get_result(&self) -> Result<Option<Vec<u8>>, Error>
-        ensures answer { IfOk result (λ r. option_map vec_items r ≡ result_of (state_of self.now)) }
-        ensures memory { IfErr result (λ e. e ≡ Error.OutOfMemory) }
-        ensures complete { OnErr result (IsSome (result_of (state_of self.now))) }
+        ensures { JoinsObject vec_items (state_of self.now) result }
     {
         if !self.is_complete() {
             return Ok(None);
@@ -358,17 +382,15 @@ impl Decoder {
         Ok(block.missing_packets())
     }
 
-    /// Takes a packet as [`Decoder::add_new_packet`] does, and answers the object where each of its
-    /// blocks is answered (RFC 6330, section 5.4).
+    /// Takes a packet, and answers the object where each of its blocks is answered (RFC 6330, section
+    /// 5.4): [`Decoder::add_new_packet`] and then [`Decoder::get_result`].
     ///
-    /// Refuses as [`Decoder::add_new_packet`] does. Where memory is refused for the object, the
-    /// blocks stay answered, and [`Decoder::get_result`] tries again.
+    /// Refuses what they refuse. Where memory is refused for the object, the blocks stay answered, and
+    /// [`Decoder::get_result`] tries again.
     pub fn decode(&mut self, packet: EncodingPacket) -> Result<Option<Vec<u8>>, Error>
-        ensures takes { TakesPacket Stops (state_of self.old) packet result (state_of self.new) }
-        ensures answer { IfOk result (λ r. option_map vec_items r ≡ result_of (state_of self.new)) }
-        ensures remembers { Remembers self.old packet result self.new }
+        ensures { DecodesInTurn vec_items self.old packet result self.new }
     {
-        self.add_to_block(packet)?;
+        self.add_new_packet(packet)?;
         self.get_result()
     }
 }

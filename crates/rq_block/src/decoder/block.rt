@@ -72,9 +72,7 @@ impl SourceBlockDecoder {
     ghost use Rattle.rq_standard.specs.TableRows.{greatest_size, intermediate_symbols};
     ghost use Rattle.rq_block.specs.RefusedBlocks.{checked_block, block_refusal};
     ghost use Rattle.rq_block.specs.SourceBlockDecoder.{received_of, solving_of, solving_after, with_threshold, unsolved, empty_block};
-    ghost use Rattle.rq_block.specs.LastOutcome.{outcome_of};
-    ghost use Rattle.rq_block.specs.Remembering.{IsStillFound};
-    ghost use Rattle.rq_block.specs.Decoding.{DecodesFrom, IsUnanswered, answer_bytes};
+    ghost use Rattle.rq_block.specs.Decoding.{OverPackets, Decodes, AnswersReceived, IsUnanswered};
     ghost use Rattle.rq_block.specs.MissingPackets.{NeedsMore, TellsMissing, missing_after};
     ghost use Rattle.std.specs.Iterator.{IsFinite};
 
@@ -195,11 +193,7 @@ impl SourceBlockDecoder {
         packets: I,
     ) -> Result<Option<Vec<u8>>, Error>
         requires { (it : I.IntoIter) → I.into_iter_gives packets it → I.IntoIter.can_next it × IsFinite (I.IntoIter.remaining it) }
-        ensures decodes { DecodesFrom I.into_iter_gives I.IntoIter.next_gives packets (received_of self.old) (answer_bytes vec_items result) (received_of self.new) }
-        ensures remembers { OnOk result ((solving_of self.new).last_outcome ≡ outcome_of result) }
-        ensures contradicted { IfErr result (λ e. e ≡ Error.Contradiction → (solving_of self.new).last_outcome ≡ Contradictory) }
-        ensures kept { IfErr result (λ e. e ≢ Error.Contradiction → IsStillFound (received_of self.old) (solving_of self.old) (received_of self.new) (solving_of self.new)) }
-        ensures threshold { (solving_of self.new).sparse_threshold ≡ (solving_of self.old).sparse_threshold }
+        ensures { OverPackets I.into_iter_gives packets (λ it ps. Decodes I.IntoIter.next_gives it vec_items self.old ps result self.new) }
     {
         for packet in packets {
             self.add(packet)?;
@@ -301,11 +295,7 @@ impl SourceBlockDecoder {
     ///
     /// Refuses [`Error::Contradiction`] where no block fits all that was received.
     pub fn answer(&mut self) -> Result<Option<Vec<u8>>, Error>
-        ensures block { IfOk result (λ r. IsBlockAnswer (received_of self.old) (option_map vec_items r)) }
-        ensures same { received_of self.new ≡ received_of self.old }
-        ensures unanswered { IfErr result (IsUnanswered (received_of self.old)) }
-        ensures remembers { solving_of self.new ≡ record (solving_of self.old) { last_outcome = outcome_of result } }
-        ensures kept { IfErr result (λ e. e ≡ Error.OutOfMemory → solving_of self.new ≡ solving_of self.old) }
+        ensures { AnswersReceived vec_items self.old result self.new }
     {
         match self.last_outcome {
             LastOutcome::Undetermined => return Ok(None),

@@ -9,5 +9,4 @@ returns-in_err-deserialize c =
 
 pub returns : goal.returns
 returns c =
-    let ends = c.add_new_packet.ensures in
-    taken_bytes c.args.decoder.now c.add_new_packet.new.self c.args.packet.now c.in_ok-deserialize.field-0 c.add_new_packet.result c.in_ok-deserialize.ensures ends.takes ends.remembers
+    taken_bytes c.args.decoder.now c.add_new_packet.new.self c.args.packet.now c.in_ok-deserialize.field-0 c.add_new_packet.result c.in_ok-deserialize.ensures c.add_new_packet.ensures

@@ -1,8 +1,9 @@
-use Rattle.std.proofs.Common.{◌≡◌, ◌∷◌, ◌++◌, [], sym, ap, subst, ◌∙◌, arith, true, false, append_assoc, length-append}
+use Rattle.std.proofs.Common.{Err, ◌≡◌, ◌∷◌, ◌++◌, [], sym, ap, subst, ◌∙◌, arith, true, false, append_assoc, length-append}
 use Rattle.std.specs.Vec.Iter.{into_iter_items}
 use Rattle.std.proofs.lemmas.Bool.{lt-ltb, le-ltb}
 use Rattle.std.proofs.lemmas.Result.{err_from_is_err_and}
 use Rattle.raptorq.specs.Decoder.{state_of}
+use Rattle.raptorq.proofs.InTurn.{turns_take}
 use Rattle.rq_cast.specs.Taken.{is_known, known_packets, TakesAll, StopsAmong}
 use Rattle.rq_cast.proofs.TakenPackets.{takes_more, stops_at, known_more, known_same, known_around, unknown_more}
 use Rattle.rq_cast.proofs.receiver.add_packets.Goals as goal
@@ -15,13 +16,14 @@ loop-packet-preserved-in-Continue-1 c =
     let known : is_known k p ≡ true =
     lt-ltb p.id.block k.source_blocks
     (omega (arith, c.if-source_block_number-blocks.true, c.source_block_number.ensures, ap (λ i. i.block) c.payload_id.ensures, kept.blocks)) in
+    let added = turns_take c.loop-packet.decoder c.add_new_packet.new.self p _ c.in_ok-add_new_packet.ensures in
     record {
       blocks = kept.blocks;
       whole = kept.whole ∙ ap (λ xs. c.loop-packet.yielded ++ xs) c.in-Some.ensures.steps.0
           ∙ sym (append_assoc c.loop-packet.yielded (p ∷ []) (into_iter_items c.next.new.self));
       taken = subst (λ ps. TakesAll (state_of c.args.decoder.now) ps (state_of c.add_new_packet.new.self)) (sym (known_more k c.loop-packet.yielded p known))
           (takes_more (state_of c.args.decoder.now) (state_of c.loop-packet.decoder) (known_packets k c.loop-packet.yielded) kept.taken p
-          (state_of c.add_new_packet.new.self) c.in_ok-add_new_packet.ensures.takes.0 c.in_ok-add_new_packet.ensures.takes.1);
+          (state_of c.add_new_packet.new.self) added.0 added.1);
       unknown = let more = unknown_more k c.loop-packet.yielded p true known in omega (arith, kept.unknown, more);
       few = omega (arith, kept.few, length-append c.loop-packet.yielded (p ∷ []));
     }
@@ -59,4 +61,5 @@ returns-in_err-add_new_packet-clause-stops c =
     rw (q.1, q.2)
     (subst (λ ps. StopsAmong (state_of c.args.decoder.now) ps e) (sym (ap (known_packets k) whole ∙ known_around k c.loop-packet.yielded p rest known))
     (stops_at (state_of c.args.decoder.now) (state_of c.loop-packet.decoder) (known_packets k c.loop-packet.yielded) kept.taken p
-    (known_packets k rest) (state_of c.add_new_packet.new.self) e c.in_err-add_new_packet.ensures.takes))
+    (known_packets k rest) (state_of c.add_new_packet.new.self) e
+    (turns_take c.loop-packet.decoder c.add_new_packet.new.self p (Err e) c.in_err-add_new_packet.ensures)))

@@ -1,6 +1,7 @@
 use Rattle.std.proofs.Common.{◌≡◌, sym, ◌∙◌, inl, Some}
 use Rattle.std.proofs.lemmas.Result.{err_from_is_err_and}
-use Rattle.raptorq.proofs.Stops.{not_joined, honest_is_taken}
+use Rattle.raptorq.proofs.InTurn.{turns_take}
+use Rattle.raptorq.proofs.Stops.{honest_is_taken}
 use Rattle.rq_streams.specs.Frames.{kept_packet}
 use Rattle.rq_streams.proofs.TakenFrames.{taken_packet, taken_skipped, taken_count, taken_follows, taken_passed, honest_packet, stopped_frames}
 use Rattle.rq_streams.proofs.receive.add_frames.Goals as goal
@@ -16,7 +17,7 @@ loop-frame-preserved-in-Continue-branch-3 c =
     let at = (goal.at.loop-frame-preserved-in-Continue-branch-3 c).In-Some-2 in
     let kept_so = c.loop-frame.invariant in
     let step = c.in-Some.ensures.steps in
-    let added = c.in_ok-add_new_packet-in-Some-2.ensures.takes in
+    let added = turns_take _ _ c.in-Some-2.packet _ c.in_ok-add_new_packet-in-Some-2.ensures in
     record {
       wide = kept_so.wide;
       size = step.0 ∙ kept_so.size;
@@ -40,14 +41,15 @@ returns-in_err-add_new_packet-in-Some-2-clause-refused c =
     let at = (goal.at.returns-in_err-add_new_packet-in-Some-2-clause-refused c).In-Some-2 in
     let kept_so = c.loop-frame.invariant in
     let p = err_from_is_err_and c.from_residual-in_err-add_new_packet-in-Some-2.result c.from_residual-in_err-add_new_packet-in-Some-2.ensures.1 in
-    rw (p.1, p.2) (stopped_frames _ _ _ _ c.in-Some.frame.now _ _ _ _ kept_so.size c.in-Some.ensures.steps.1 kept_so.taken c.in-Some-2.packet _ _ kept_so.configuration (kept at) c.in_err-add_new_packet-in-Some-2.ensures.takes)
+    rw (p.1, p.2) (stopped_frames _ _ _ _ c.in-Some.frame.now _ _ _ _ kept_so.size c.in-Some.ensures.steps.1 kept_so.taken c.in-Some-2.packet _ _ kept_so.configuration (kept at)
+    (turns_take _ _ c.in-Some-2.packet _ c.in_err-add_new_packet-in-Some-2.ensures))
 
 pub returns-in_err-add_new_packet-in-Some-2-clause-honest : goal.returns-in_err-add_new_packet-in-Some-2-clause-honest
 returns-in_err-add_new_packet-in-Some-2-clause-honest c =
     let at = (goal.at.returns-in_err-add_new_packet-in-Some-2-clause-honest c).In-Some-2 in
     let kept_so = c.loop-frame.invariant in
     let p = err_from_is_err_and c.from_residual-in_err-add_new_packet-in-Some-2.result c.from_residual-in_err-add_new_packet-in-Some-2.ensures.1 in
-    let stops = not_joined _ c.in-Some-2.packet _ _ c.in_err-add_new_packet-in-Some-2.ensures.takes in
+    let stops = turns_take _ _ c.in-Some-2.packet _ c.in_err-add_new_packet-in-Some-2.ensures in
     rw (p.1, p.2) (λ table object none run. honest_is_taken _ c.in-Some-2.packet _ _
     (honest_packet _ _ _ _ c.in-Some.frame.now _ _ _ _ kept_so.size c.in-Some.ensures.steps.1 kept_so.taken c.in-Some-2.packet kept_so.configuration (kept at) table object none run) stops)
 

@@ -10,8 +10,9 @@ use Rattle.rq_standard.specs.Following.{FollowsRun}
 use Rattle.raptorq.specs.Runs.{packets_of, IsNextRefusal, IsRefusalBehind}
 use Rattle.rq_standard.proofs.FollowingSteps.{taken_is_followed}
 use Rattle.raptorq.proofs.FollowedRuns.{passes_below, taken_is_next, refused_is_next, one_passes, run_unmade, run_answers, run_stops}
+use Rattle.raptorq.proofs.InTurn.{turns_take}
 use Rattle.raptorq.proofs.Lists.{next_whole, done_is_all, next_honest, packets_of-push, answers_exactly, answers_where_any_can}
-use Rattle.raptorq.proofs.Stops.{not_joined, honest_is_taken}
+use Rattle.raptorq.proofs.Stops.{honest_is_taken}
 use Rattle.raptorq.proofs.decoder.object.decode_all.Goals as goal
 use Rattle.raptorq.proofs.decoder.object.decode_all.Goals.{After-set_sparse_threshold, In-None}
 
@@ -46,7 +47,7 @@ loop-step-preserved c =
     let done = packets_of c.loop-step.yielded in
     let old = state_of c.set_sparse_threshold.new.self in
     let new = state_of c.add_new_packet.new.self in
-    let taken = c.in_ok-add_new_packet.ensures.takes in
+    let taken = turns_take c.set_sparse_threshold.new.self c.add_new_packet.new.self step.1 _ c.in_ok-add_new_packet.ensures in
     record {
       configuration = taken.1.elsewhere.configuration ∙ same at;
       whole = next_whole c.args.steps.items c.loop-step.yielded (into_iter_items c.loop-step.step-iterator) left step kept.whole (next at);
@@ -68,7 +69,7 @@ returns-in_err-add_new_packet-clause-refused c =
     rw (p.1, p.2) (λ object run. subst (IsRefusal e) (sym c.in_ok-decoder.ensures.refused)
     (honest_is_taken old packet new e
     (next_honest c.args.table.now c.args.config done old (same at) (follows at) object rest packet (subst (IsHonestRun c.args.table.now c.args.config object) (around at ∙ append_assoc done (packet ∷ []) rest) run))
-    (not_joined old packet e new c.in_err-add_new_packet.ensures.takes)))
+    (turns_take c.set_sparse_threshold.new.self c.add_new_packet.new.self packet (Err e) c.in_err-add_new_packet.ensures)))
 
 -- all steps were taken
 module _ (c : In-None) where
@@ -114,7 +115,7 @@ returns-in_err-add_new_packet-clause-in_order c =
     let e = c.in_err-add_new_packet.field-0.0 in
     let p = err_from_is_err_and c.from_residual-in_err-add_new_packet.result c.from_residual-in_err-add_new_packet.ensures.1 in
     rw (p.1, p.2) (run_stops table k (packets_of c.args.steps.items) c.in_ok-decoder.ensures.refused (Option (Vec ℕ Global)) done (packets_of (into_iter_items c.next.new.self)) packet e (around at) c.loop-step.invariant.passed
-    (subst (λ d. (e ≡ OutOfMemory) ⊎ IsNextRefusal table d done packet (Err e)) (same at) (refused_is_next table done packet old new e (follows at) (not_joined old packet e new c.in_err-add_new_packet.ensures.takes))))
+    (subst (λ d. (e ≡ OutOfMemory) ⊎ IsNextRefusal table d done packet (Err e)) (same at) (refused_is_next table done packet old new e (follows at) (turns_take c.set_sparse_threshold.new.self c.add_new_packet.new.self packet (Err e) c.in_err-add_new_packet.ensures))))
 
 pub returns-clause-in_order : goal.returns-clause-in_order
 returns-clause-in_order c =

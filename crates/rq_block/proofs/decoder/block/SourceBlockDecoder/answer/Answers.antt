@@ -23,7 +23,14 @@ invariant_of-self-clause-contradicted c = λ set.
     let why : IsUnanswered (received_of d) Contradiction = subst (λ x. IfErr x (IsUnanswered (received_of d))) refused c.find_answer-answer.ensures.unanswered in
     subst IsContradictory (sym c.find_answer-answer.ensures.same) (elim why [ inl memory ↦ absurd (cc memory) | inr found ↦ found.1 ])
 
-pub returns-clause-kept : goal.returns-clause-kept
-returns-clause-kept c =
+pub returns : goal.returns
+returns c =
     let tried = c.find_answer-answer in
-    refused_attempt _ (solving_of c.args.self.now) _ tried.result c.in-Untried.is (λ i. record { sparse_threshold = (tried.ensures.solving i).sparse_threshold; last_outcome = c.of-self.ensures i })
+    record {
+      block = tried.ensures.block;
+      unanswered = tried.ensures.unanswered;
+      same = tried.ensures.same;
+      remembers = λ i. record { sparse_threshold = (tried.ensures.solving i).sparse_threshold; last_outcome = c.of-self.ensures i };
+      kept = refused_attempt _ (solving_of c.args.self.now) _ tried.result c.in-Untried.is
+          (λ i. record { sparse_threshold = (tried.ensures.solving i).sparse_threshold; last_outcome = c.of-self.ensures i });
+    }
