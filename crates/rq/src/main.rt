@@ -3,44 +3,32 @@
 //! other one comes on standard output.
 #![tactic(auto)]
 
-use raptorq::error::Error;
-use raptorq::systematic_constants::SystematicTable;
-use rq_streams::{Counted, Job, Outcome, Stop, job, report, run_receive, run_send};
+use rq_streams::{Counted, Outcome, Stop, report, run_words};
+use std::alloc::AllocError;
 use std::env;
 use std::io::ErrorKind;
 use std::process::ExitCode;
 
 fn main(rt: HostRuntime) -> ExitCode {
-    let ended = match asked(&rt) {
-        Ok(Some(asked)) => Some(run(&rt, asked)),
-        Ok(None) => None,
-        Err(refusal) => Some(Err(Stop::Refused(refusal))),
+    let ended = match words(&rt) {
+        Ok(words) => run(&rt, words.as_slice()),
+        Err(refused) => Some(Err(Stop::from(refused))),
     };
     ExitCode::from(report(ended.as_ref(), &mut rt.stderr()))
 }
 
-// The job that the program's words ask for. Words that are no text ask for none.
-fn asked(rt: &HostRuntime) -> Result<Option<Job>, Error> {
+// The words after the program's name: none, and so no job, where one of them isn't text.
+fn words(rt: &HostRuntime) -> Result<Vec<String>, AllocError> {
     match env::args(rt) {
-        Ok(words) => {
-            let words: Vec<String> = words.skip(1).collect(rt.alloc())?;
-            Ok(job(words.as_slice()))
-        }
-        Err(error) if error.kind() == ErrorKind::OutOfMemory => Err(Error::OutOfMemory),
-        Err(_) => Ok(None),
+        Ok(words) => words.skip(1).collect(rt.alloc()),
+        Err(error) if error.kind() == ErrorKind::OutOfMemory => Err(AllocError),
+        Err(_) => Ok(Vec::new(rt.alloc())),
     }
 }
 
-// Does the job over the built-in table, and answers how many frames were skipped beside the outcome.
-fn run(rt: &HostRuntime, asked: Job) -> Result<(Outcome, u64), Stop> {
-    let table = SystematicTable::built_in(rt.alloc())?;
+// Does what the words ask for, from standard input to standard output.
+fn run(rt: &HostRuntime, words: &[String]) -> Option<Result<(Outcome, u64), Stop>> {
     let mut reader = Counted::new(rt.stdin());
     let mut writer = Counted::new(rt.stdout());
-    match asked {
-        Job::Send { size, repair } => {
-            let sent = run_send(rt.alloc(), &table, &mut reader, &mut writer, size, repair)?;
-            Ok((sent, 0))
-        }
-        Job::Receive => run_receive(rt.alloc(), &table, &mut reader, &mut writer),
-    }
+    run_words(rt.alloc(), words, &mut reader, &mut writer)
 }

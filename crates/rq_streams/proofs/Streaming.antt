@@ -1,12 +1,12 @@
 -- Of a mixed stream nothing is refused, and its packets are what is kept.
-use Rattle.std.proofs.Common.{◌≡◌, ℕ, ◌%◌, ◌<◌, false, cond, ltb, eqb, List, [], ◌∷◌, length, take, drop, Result, Ok, Err, Option, Some, None, refl, sym, ap, ◌∙◌, subst, arith, inl, eq-eqb}
-use Rattle.std.specs.Prelude.{IfSome, is_some}
+use Rattle.std.proofs.Common.{◌≡◌, ℕ, ◌%◌, ◌<◌, false, cond, ltb, eqb, List, [], ◌∷◌, length, take, drop, Result, Ok, Err, Option, Some, None, refl, sym, ap, ◌∙◌, subst, arith, ◌⊎◌, inl, inr, eq-eqb}
+use Rattle.std.specs.Prelude.{IfSome, IfOk, is_some}
 use Rattle.std.specs.List.{AllByRecursion}
 use Rattle.std.proofs.lemmas.Bool.{le-ltb, ne_eqb, false_from_ne_true}
 use Rattle.std.proofs.lemmas.Option.{IfSome_then}
 use Rattle.std.proofs.KnownBytes.{Keeps-refl}
 use Rattle.rq_bytes.specs.declared.error.Error.{Error}
-use Rattle.rq_bytes.specs.declared.error.Error.TheVariants.{HeaderTooShort}
+use Rattle.rq_bytes.specs.declared.error.Error.TheVariants.{HeaderTooShort, OutOfMemory}
 use Rattle.rq_standard.specs.Packet.{Packet}
 use Rattle.rq_standard.specs.Configuration.{Configuration, IsConfiguration, IsAccepted, largest_block, configuration_of_bytes}
 use Rattle.rq_standard.specs.declared.row.TableRow.{TableRow}
@@ -20,9 +20,10 @@ use Rattle.rq_streams.specs.declared.run.Outcome.{Outcome}
 use Rattle.rq_streams.specs.declared.run.Stop.{Stop}
 use Rattle.rq_streams.specs.Frames.{skipped_in, packets_in_bytes, skipped_in_bytes}
 use Rattle.rq_streams.specs.MixedStreams.{Frame, packets_among, other_count, IsMixedStream}
-use Rattle.rq_streams.specs.declared.run.Stop.TheVariants.{Refused}
-use Rattle.rq_streams.specs.ReceivedStreams.{header_configuration, WantsWhere, AnswersStream, RefusesStream, ReceivesExactly, ReceivesWhereAnyCan, CountsOthers}
+use Rattle.rq_streams.specs.declared.run.Stop.TheVariants.{Fault, Refused}
+use Rattle.rq_streams.specs.ReceivedStreams.{header_configuration, WantsWhere, IsWantedOf, IsWantedAnswer, IsStreamAnswer, AnswersStream, RefusesStream, Receives, ReceivesExactly, ReceivesWhereAnyCan}
 use Rattle.rq_streams.specs.Ends.{Wanted, Ends, EndsAs, outcome_of}
+use Rattle.rq_streams.proofs.Refusing.{stopped_as, stopped_ends, ends_wanted}
 use Rattle.rq_streams.proofs.Skipping.{FillsFrame, kept_packets-mixed, skipped_count-mixed}
 
 positive_eqb : (n : ℕ) → 0 < n → eqb n 0 ≡ false
@@ -86,39 +87,64 @@ module _ (table : List TableRow) (c : Configuration) (object : List ℕ) (frames
 
 -- ---- a run that reads this input, and behind whose writer this stood before and after
 
-module _ (table : List TableRow) (result : Result (Outcome × ℕ) Stop) (input old new : Option (List ℕ)) where
-  -- whatever is wanted, where it stopped before
-  pub receives_stopped : ((wanted : Wanted) → Ends (outcome_of result) old new wanted) → ReceivesExactly table result input old new
-  receives_stopped ends = by_option input _ (λ bytes _ c object frames rest s. record {
-    holds = λ d. ends (Ok (Some object));
-    fails = λ u. ends (Ok None);
+-- no receiver can do better
+receives_where_any_can : (table : List TableRow) (result : Result (Outcome × ℕ) Stop) (input old new : Option (List ℕ)) → ReceivesExactly table result input old new → ReceivesWhereAnyCan table result input old new
+receives_where_any_can table result input old new wants =
+    IfSome_then input wants (λ bytes w c object frames rest s. wants_where_any_can table c object frames rest bytes s (Ends (outcome_of result) old new) (w c object frames rest s))
+
+-- what a run did that stopped before it wrote
+module _ (table : List TableRow) (stop : Stop) (input old : Option (List ℕ)) (err : (stop ≡ Fault) ⊎ (stop ≡ Refused OutOfMemory)) where
+  stopped_exactly : ReceivesExactly table (Err stop) input old old
+  stopped_exactly = by_option input _ (λ bytes _ c object frames rest s. record {
+    holds = λ d. stopped_ends (Ok (Some object)) stop old err;
+    fails = λ u. stopped_ends (Ok None) stop old err;
   })
 
-  -- no receiver can do better
-  pub receives_where_any_can : ReceivesExactly table result input old new → ReceivesWhereAnyCan table result input old new
-  receives_where_any_can wants = IfSome_then input wants (λ bytes w c object frames rest s. wants_where_any_can table c object frames rest bytes s (Ends (outcome_of result) old new) (w c object frames rest s))
+  pub receives_stopped : Receives table (Err stop) input old old
+  receives_stopped = record {
+    refused = by_option input _ (λ bytes _. stopped_as (IsWantedOf table bytes) stop old err);
+    answer = by_option input _ (λ bytes _. stopped_as (IsWantedAnswer table bytes) stop old err);
+    skipped = by_option input _ (λ bytes _. tt);
+    ends = stopped_exactly;
+    where_any_can = receives_where_any_can table (Err stop) input old old stopped_exactly;
+    others = by_option input _ (λ bytes _ c object frames rest s. tt);
+  }
 
 -- where these bytes were read
-module _ (table : List TableRow) (input : Option (List ℕ)) (read bytes : List ℕ) (same : bytes ≡ read) (all : IfSome input (λ xs. read ≡ xs)) where
-  mixed_before : (c : Configuration) (object : List ℕ) (frames : List Frame) (rest xs : List ℕ) → read ≡ xs → IsMixedStream table c object frames rest xs → IsMixedStream table c object frames rest bytes
-  mixed_before c object frames rest xs is s = subst (IsMixedStream table c object frames rest) (sym (same ∙ is)) s
+module _ (table : List TableRow) (input : Option (List ℕ)) (read : List ℕ) (all : IfSome input (λ xs. read ≡ xs)) where
+  mixed_before : (c : Configuration) (object : List ℕ) (frames : List Frame) (rest xs : List ℕ) → read ≡ xs → IsMixedStream table c object frames rest xs → IsMixedStream table c object frames rest read
+  mixed_before c object frames rest xs is s = subst (IsMixedStream table c object frames rest) (sym is) s
 
-  -- what is wanted, where it ended with an answer
-  pub receives_by : (result : Result (Outcome × ℕ) Stop) (old new answer : Option (List ℕ)) → AnswersStream table bytes answer → Ends (outcome_of result) old new (Ok answer) → ReceivesExactly table result input old new
-  receives_by result old new answer answers ends = IfSome_then input all (λ xs is c object frames rest s.
-      wants_by table c object frames rest xs s answer (outcome_of result) old new (answers c object frames rest (mixed_before c object frames rest xs is s)) ends)
+  -- what a run did, by what is wanted of these bytes
+  receives_by : (result : Result (Outcome × ℕ) Stop) (old new : Option (List ℕ)) → EndsAs (outcome_of result) old new (IsWantedOf table read) → EndsAs (outcome_of result) old new (IsWantedAnswer table read)
+      → IfOk result (λ ended. ended.1 ≡ skipped_in read) → ReceivesExactly table result input old new → Receives table result input old new
+  receives_by result old new refused answer skipped ends = record {
+    refused = IfSome_then input all (λ xs is. subst (λ ys. EndsAs (outcome_of result) old new (IsWantedOf table ys)) is refused);
+    answer = IfSome_then input all (λ xs is. subst (λ ys. EndsAs (outcome_of result) old new (IsWantedAnswer table ys)) is answer);
+    skipped = IfSome_then input all (λ xs is. subst (λ ys. IfOk result (λ ended. ended.1 ≡ skipped_in ys)) is skipped);
+    ends = ends;
+    where_any_can = receives_where_any_can table result input old new ends;
+    others = IfSome_then input all (λ xs is c object frames rest s. counts_others result c object frames rest (mixed_before c object frames rest xs is s) skipped);
+  } where
+    -- the frames that are skipped are the others
+    counts_others : (r : Result (Outcome × ℕ) Stop) (c : Configuration) (object : List ℕ) (frames : List Frame) (rest : List ℕ) → IsMixedStream table c object frames rest read
+        → IfOk r (λ ended. ended.1 ≡ skipped_in read) → IfOk r (λ ended. ended.1 ≡ other_count frames rest)
+    counts_others (Ok ended) c object frames rest s counted = counted ∙ stream_skipped table c object frames rest read s
+    counts_others (Err stop) c object frames rest s counted = tt
 
-  -- what is wanted, where it ends so
-  pub receives_wanted : (IsWanted : List ℕ → Wanted → Type 0) (result : Result (Outcome × ℕ) Stop) (old new : Option (List ℕ)) → EndsAs (outcome_of result) old new (IsWanted bytes) → IfSome input (λ xs. EndsAs (outcome_of result) old new (IsWanted xs))
-  receives_wanted IsWanted result old new ends = IfSome_then input all (λ xs is. subst (λ ys. EndsAs (outcome_of result) old new (IsWanted ys)) (same ∙ is) ends)
+  -- one that ended with an answer of theirs
+  pub receives_answer : (result : Result (Outcome × ℕ) Stop) (old new answer : Option (List ℕ)) → IsWantedOf table read (Ok answer) → IsStreamAnswer table read answer → AnswersStream table read answer
+      → IfOk result (λ ended. ended.1 ≡ skipped_in read) → Ends (outcome_of result) old new (Ok answer) → Receives table result input old new
+  receives_answer result old new answer wanted follows answers skipped ends = receives_by result old new
+      (ends_wanted (outcome_of result) old new (Ok answer) (IsWantedOf table read) wanted ends)
+      (ends_wanted (outcome_of result) old new (Ok answer) (IsWantedAnswer table read) follows ends)
+      skipped
+      (IfSome_then input all (λ xs is c object frames rest s.
+      wants_by table c object frames rest xs s answer (outcome_of result) old new (answers c object frames rest (mixed_before c object frames rest xs is s)) ends))
 
-  -- a refusal for want of memory, and then nothing is written
-  pub receives_refused : (e : Error) (old : Option (List ℕ)) → RefusesStream table bytes e → ReceivesExactly table (Err (Refused e)) input old old
-  receives_refused e old refuses = IfSome_then input all (λ xs is c object frames rest s.
+  -- and one that refused them
+  pub receives_refusal : (e : Error) (old : Option (List ℕ)) → (e ≡ OutOfMemory) ⊎ IsWantedOf table read (Err e) → RefusesStream table read e → Receives table (Err (Refused e)) input old old
+  receives_refusal e old refused refuses = receives_by (Err (Refused e)) old old (refused, Keeps-refl old) (inr tt, Keeps-refl old) tt
+      (IfSome_then input all (λ xs is c object frames rest s.
       let memory = refuses c object frames rest (mixed_before c object frames rest xs is s) in
-      record { holds = λ d. (inl memory, Keeps-refl old); fails = λ u. (inl memory, Keeps-refl old) })
-
-  -- the frames that are skipped are the others
-  pub counts_others : (outcome : Outcome) (skipped : ℕ) → skipped ≡ skipped_in bytes → CountsOthers table (Ok (outcome, skipped)) input
-  counts_others outcome skipped counted = IfSome_then input all (λ xs is c object frames rest s.
-      counted ∙ stream_skipped table c object frames rest bytes (mixed_before c object frames rest xs is s))
+      record { holds = λ d. (inl memory, Keeps-refl old); fails = λ u. (inl memory, Keeps-refl old) }))

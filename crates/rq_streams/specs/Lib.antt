@@ -3,6 +3,7 @@ pub mod Counted
 pub mod Ends
 pub mod Frames
 pub mod MixedStreams
+pub mod Program
 pub mod ReceivedStreams
 pub mod Sent
 pub mod SentStreams

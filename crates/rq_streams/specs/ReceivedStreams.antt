@@ -112,3 +112,14 @@ ReceivesWhereAnyCan table result input before after =
 abbrev pub CountsOthers : List TableRow → Result (Outcome × ℕ) Stop → Option (List ℕ) → Type 0
 CountsOthers table result input =
     IfSome input (λ bytes. OverMixedStreams table bytes (λ c object frames rest. IfOk result (λ ended. ended.1 ≡ other_count frames rest)))
+
+-- A receiver's run.
+pub record Receives (table : List TableRow) (result : Result (Outcome × ℕ) Stop) (input before after : Option (List ℕ)) : Type 0 where
+  -- of any bytes
+  pub refused : RefusesFirst table result input before after
+  pub answer : ReceivesAnswer table result input before after
+  pub skipped : CountsSkipped result input
+  -- of an object's packets among other frames
+  pub ends : ReceivesExactly table result input before after
+  pub where_any_can : ReceivesWhereAnyCan table result input before after
+  pub others : CountsOthers table result input

@@ -7,7 +7,7 @@ ghost use Rattle.rq_standard.specs.Streams.{frame_size};
 ghost use Rattle.rq_standard.specs.DecoderState.{result_of};
 ghost use Rattle.rq_streams.specs.Ends.{AnswersAs, Ends, EndsAtFailure, failed_calls};
 ghost use Rattle.rq_streams.specs.Frames.{header_length, kept_packet, skipped_in, skipped_in_bytes};
-ghost use Rattle.rq_streams.specs.ReceivedStreams.{header_configuration, object_of, FollowsFrames, AnswersFrames, StopsHonestFrames, IsStreamAnswer, IsWantedOf, AnswersStream, RefusesStream, RefusesFirst, ReceivesAnswer, CountsSkipped, ReceivesExactly, ReceivesWhereAnyCan, CountsOthers};
+ghost use Rattle.rq_streams.specs.ReceivedStreams.{header_configuration, object_of, FollowsFrames, AnswersFrames, StopsHonestFrames, IsStreamAnswer, IsWantedOf, AnswersStream, RefusesStream, Receives};
 
 use crate::counted::Counted;
 use crate::run::{Outcome, Stop, flush, read_all, write_bytes};
@@ -159,29 +159,11 @@ pub fn run_receive<R: Read, W: Write>(
     ensures failures { EndsAtFailure reader.old writer.old result reader.new writer.new
         (W.contents (inner writer.old)) (W.contents (inner writer.new)) }
 
-    // Whatever is read, its first refusal is refused, that of its packets that contradict each other
-    // among it, and then nothing is written.
-    ensures refused { RefusesFirst table.now result
+    // Of any bytes the first refusal, and then nothing is written; else what their packets answer, and
+    // how many frames are skipped. Of an object's packets among other frames the object, exactly where
+    // they determine it, and no receiver can do better.
+    ensures receives { Receives table.now result
         (R.remaining (inner reader.old)) (W.contents (inner writer.old)) (W.contents (inner writer.new)) }
-
-    // Whatever is read, where nothing is refused what its packets answer is written, and nothing
-    // exactly where they have no answer.
-    ensures answer { ReceivesAnswer table.now result
-        (R.remaining (inner reader.old)) (W.contents (inner writer.old)) (W.contents (inner writer.new)) }
-
-    // Whatever is read, the frames that can't be used are counted.
-    ensures skipped { CountsSkipped result (R.remaining (inner reader.old)) }
-
-    // Of an object's packets among other frames the object, exactly where they determine it.
-    ensures ends { ReceivesExactly table.now result
-        (R.remaining (inner reader.old)) (W.contents (inner writer.old)) (W.contents (inner writer.new)) }
-
-    // No receiver can do better: the object exactly where no other object fits the packets.
-    ensures where_any_can { ReceivesWhereAnyCan table.now result
-        (R.remaining (inner reader.old)) (W.contents (inner writer.old)) (W.contents (inner writer.new)) }
-
-    // The other frames are counted, and a rest that isn't empty.
-    ensures others { CountsOthers table.now result (R.remaining (inner reader.old)) }
 {
     let bytes = read_all(alloc, reader)?;
     let (decoder, skipped) = received(alloc, table, bytes)?;

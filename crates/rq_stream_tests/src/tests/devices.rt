@@ -2,7 +2,7 @@
 use super::streams::{OBJECT, STREAM, run};
 use crate::compare::{holds, same};
 use raptorq::error::Error;
-use rq_streams::{Job, Outcome, Stop, report};
+use rq_streams::{Outcome, Stop, report};
 use std::alloc::Global;
 use std::io;
 use std::io::{ErrorKind, Read, Write};
@@ -61,28 +61,28 @@ impl Write for Sink {
 }
 
 // What goes in and what comes out.
-const RUNS: [(Job, &[u8], &[u8]); 2] = [
-    (Job::Send { size: 2, repair: 0 }, &OBJECT, &STREAM),
-    (Job::Receive, &STREAM, &OBJECT),
+const RUNS: [(&str, &[u8], &[u8]); 2] = [
+    ("send 2 0", &OBJECT, &STREAM),
+    ("receive", &STREAM, &OBJECT),
 ];
 
 // A run ends with a fault, which is said, or writes its output without a failed call.
 fn ends(
     rt: &impl Abort,
     alloc: Global,
-    ended: &Result<(Outcome, u64), Stop>,
+    ended: Option<Result<(Outcome, u64), Stop>>,
     failed: u64,
     is_fault: bool,
 ) -> Result<(), Error> {
     let mut said: Vec<u8> = Vec::new(alloc);
-    let status = report(Some(ended), &mut said);
+    let status = report(ended.as_ref(), &mut said);
     if is_fault {
-        holds!(rt; *ended == Err(Stop::Fault));
+        holds!(rt; ended == Some(Err(Stop::Fault)));
         holds!(rt; failed == 1);
         holds!(rt; status == 1);
         same!(rt; said.as_slice(), b"fault\n".as_slice());
     } else {
-        holds!(rt; *ended == Ok((Outcome::Written, 0)));
+        holds!(rt; ended == Some(Ok((Outcome::Written, 0))));
         holds!(rt; failed == 0);
         holds!(rt; status == 0);
         holds!(rt; said.is_empty());
@@ -94,16 +94,16 @@ fn ends(
 #[test]
 fn each_read_fails_in_turn(rt: HostRuntime) -> Result<(), Fail> {
     let alloc = rt.alloc();
-    for (asked, input, output) in RUNS {
+    for (line, input, output) in RUNS {
         for most in [1usize, 5, 4096] {
             let needed = input.len().div_ceil(most).saturating_add(1);
             for calls in 0..needed.saturating_add(1) {
                 let rest = input;
                 let mut out: Vec<u8> = Vec::new(alloc);
-                let (ended, failed) = run(alloc, asked, Source { rest, most, calls }, &mut out)?;
-                ends(&rt, alloc, &ended, failed, calls < needed)?;
+                let (ended, failed) = run(alloc, line, Source { rest, most, calls }, &mut out)?;
+                ends(&rt, alloc, ended, failed, calls < needed)?;
                 let written: &[u8] = if calls < needed { &[] } else { output };
-                same!(rt; out.as_slice(), written, (asked, most, calls));
+                same!(rt; out.as_slice(), written, (line, most, calls));
             }
         }
     }
@@ -114,17 +114,17 @@ fn each_read_fails_in_turn(rt: HostRuntime) -> Result<(), Fail> {
 fn fails_at(
     rt: &impl Abort,
     alloc: Global,
-    run_of: (Job, &[u8], &[u8]),
+    run_of: (&str, &[u8], &[u8]),
     sink: Sink,
 ) -> Result<(), Error> {
-    let (asked, input, output) = run_of;
+    let (line, input, output) = run_of;
     let mut sink = sink;
     let (most, calls) = (sink.most.max(1), sink.calls);
-    let (ended, failed) = run(alloc, asked, input, &mut sink)?;
+    let (ended, failed) = run(alloc, line, input, &mut sink)?;
     let needed = output.len().div_ceil(most).saturating_add(1);
-    ends(rt, alloc, &ended, failed, calls < needed)?;
+    ends(rt, alloc, ended, failed, calls < needed)?;
     let written = most.saturating_mul(calls).min(output.len());
-    same!(rt; sink.bytes.as_slice(), &output[..written], (asked, most, calls));
+    same!(rt; sink.bytes.as_slice(), &output[..written], (line, most, calls));
     Ok(())
 }
 

@@ -1,7 +1,7 @@
 //! Streams whose configuration is refused, and what is said of them.
 use super::streams::run;
 use crate::compare::{holds, same};
-use rq_streams::{Job, Stop, report};
+use rq_streams::{Stop, report};
 use std::test::Fail;
 
 // Each with the number of its refusal.
@@ -21,15 +21,15 @@ fn refused_configurations(rt: HostRuntime) -> Result<(), Fail> {
     ];
     for (header, number, line) in cases {
         let mut out: Vec<u8> = Vec::new(rt.alloc());
-        let (ended, failed) = run(rt.alloc(), Job::Receive, header.as_slice(), &mut out)?;
+        let (ended, failed) = run(rt.alloc(), "receive", header.as_slice(), &mut out)?;
         let refused = match ended {
-            Err(Stop::Refused(refusal)) => refusal.code(),
+            Some(Err(Stop::Refused(refusal))) => refusal.code(),
             _ => 0,
         };
         same!(rt; refused, number, header);
         holds!(rt; out.is_empty(), header);
         holds!(rt; failed == 0, header);
-        same!(rt; report(Some(&ended), &mut out), 3);
+        same!(rt; report(ended.as_ref(), &mut out), 3);
         same!(rt; out.as_slice(), line.as_bytes(), header);
     }
     Ok(())

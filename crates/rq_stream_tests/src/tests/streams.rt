@@ -1,8 +1,7 @@
 //! Runs over memory, and what the program says.
 use crate::compare::{holds, same};
 use raptorq::error::Error;
-use raptorq::systematic_constants::SystematicTable;
-use rq_streams::{Counted, Job, Outcome, Stop, job, report, run_receive, run_send};
+use rq_streams::{Counted, Job, Outcome, Stop, job, report, run_words};
 use std::alloc::Global;
 use std::io;
 use std::io::{ErrorKind, Read, Write};
@@ -30,28 +29,30 @@ impl Write for Full {
     }
 }
 
-// Runs a job over the built-in table. Answers how it ended, and how many calls failed.
+// The words of a line.
+fn words(alloc: Global, line: &str) -> Result<Vec<String>, Error> {
+    let mut words = Vec::new(alloc);
+    for word in line.split_whitespace() {
+        words.push(String::from_str(alloc, word)?)?;
+    }
+    Ok(words)
+}
+
+// Runs the program of a line. Answers how it ended, and how many calls failed.
 pub(super) fn run<R: Read, W: Write>(
     alloc: Global,
-    asked: Job,
+    line: &str,
     reader: R,
     writer: W,
-) -> Result<(Result<(Outcome, u64), Stop>, u64), Error>
+) -> Result<(Option<Result<(Outcome, u64), Stop>>, u64), Error>
 where
     R: Drop,
     W: Drop,
 {
-    let table = SystematicTable::built_in(alloc)?;
+    let words = words(alloc, line)?;
     let mut reader = Counted::new(reader);
     let mut writer = Counted::new(writer);
-    let ended = match asked {
-        Job::Send { size, repair } => {
-            run_send(alloc, &table, &mut reader, &mut writer, size, repair).map(|outcome| (
-                outcome, 0,
-            ))
-        }
-        Job::Receive => run_receive(alloc, &table, &mut reader, &mut writer),
-    };
+    let ended = run_words(alloc, words.as_slice(), &mut reader, &mut writer);
     Ok((ended, reader.failed().saturating_add(writer.failed())))
 }
 
@@ -62,12 +63,12 @@ type RunCase<'a> = (&'a [u8], Result<(Outcome, u64), Stop>, &'a [u8]);
 fn run_ends(
     rt: &impl Abort,
     alloc: Global,
-    asked: Job,
+    line: &str,
     (input, wanted, written): RunCase<'_>,
 ) -> Result<(), Error> {
     let mut out: Vec<u8> = Vec::new(alloc);
-    let (ended, failed) = run(alloc, asked, input, &mut out)?;
-    holds!(rt; ended == wanted, (asked, input, ended));
+    let (ended, failed) = run(alloc, line, input, &mut out)?;
+    holds!(rt; ended == Some(wanted), (line, input, ended));
     same!(rt; out.as_slice(), written);
     same!(rt; failed, 0);
     Ok(())
@@ -75,40 +76,36 @@ fn run_ends(
 
 fn all_received(rt: &impl Abort, alloc: Global, cases: &[RunCase<'_>]) -> Result<(), Fail> {
     for case in cases {
-        run_ends(rt, alloc, Job::Receive, *case)?;
+        run_ends(rt, alloc, "receive", *case)?;
     }
     Ok(())
 }
 
 #[test]
 fn sends(rt: HostRuntime) -> Result<(), Fail> {
-    let two_bytes = Job::Send { size: 2, repair: 0 };
-    let cases: [(Job, &[u8], Result<(Outcome, u64), Stop>, &[u8]); 4] = [
-        (two_bytes, &OBJECT, Ok((Outcome::Written, 0)), &STREAM),
+    let cases: [(&str, &[u8], Result<(Outcome, u64), Stop>, &[u8]); 4] = [
+        ("send 2 0", &OBJECT, Ok((Outcome::Written, 0)), &STREAM),
         (
-            two_bytes,
+            "send 2 0",
             &[],
             Err(Stop::Refused(Error::TransferLengthZero)),
             &[],
         ),
         (
-            Job::Send { size: 0, repair: 1 },
+            "send 0 1",
             &OBJECT,
             Err(Stop::Refused(Error::PacketSizeZero)),
             &[],
         ),
         (
-            Job::Send {
-                size: 2,
-                repair: 16777215,
-            },
+            "send 2 16777215",
             &OBJECT,
             Err(Stop::Refused(Error::EsiTooLarge)),
             &[],
         ),
     ];
-    for (asked, input, wanted, written) in cases {
-        run_ends(&rt, rt.alloc(), asked, (input, wanted, written))?;
+    for (line, input, wanted, written) in cases {
+        run_ends(&rt, rt.alloc(), line, (input, wanted, written))?;
     }
     Ok(())
 }
@@ -221,10 +218,7 @@ fn asks(rt: HostRuntime) -> Result<(), Fail> {
         ("", None),
     ];
     for (line, wanted) in cases {
-        let mut words: Vec<String> = Vec::new(rt.alloc());
-        for word in line.split_whitespace() {
-            words.push(String::from_str(rt.alloc(), word)?)?;
-        }
+        let words = words(rt.alloc(), line)?;
         holds!(rt; job(words.as_slice()) == wanted, line);
     }
     Ok(())
