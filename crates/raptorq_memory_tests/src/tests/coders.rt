@@ -5,7 +5,8 @@ use crate::attempts::decoders::{
 use crate::attempts::encoders::{Blocks, Objects, Plans, Rows};
 use crate::compare::{holds, same};
 use raptorq::error::Error;
-use raptorq::{Decoder, EncodingPacket};
+use raptorq::systematic_constants::SystematicTable;
+use raptorq::{Decoder, EncodingPacket, ObjectTransmissionInformation, SourceBlockDecoder};
 use raptorq_test_kit::configurations::configured;
 use raptorq_test_kit::packets::packet;
 use rq_memory_kit::{Ending, Endings, ROUNDS, Shortage, add_all, is_swept};
@@ -220,5 +221,39 @@ fn a_packet_stays_recorded(rt: HostRuntime) -> Result<(), Error> {
         same!(rt; decoder.get_result(), Ok(None));
         determine_object(&rt, &mut decoder, taken)?;
     }
+    Ok(())
+}
+
+// The decoder of a block of one source symbol that was tried to answer by repair symbol 133: the symbol
+// is zero, whatever the block is, so that it decides nothing.
+fn undecided(alloc: Global) -> Result<SourceBlockDecoder, Error> {
+    let table = SystematicTable::built_in(alloc)?;
+    let config = ObjectTransmissionInformation::new(1, 1, 1, 1, 1)?;
+    let mut decoder = SourceBlockDecoder::new(alloc, &table, 0, &config, 1)?;
+    decoder.record(packet(alloc, 0, 133, &[0])?)?;
+    let _undetermined = decoder.answer()?;
+    Ok(decoder)
+}
+
+// What the decoder answers where there is no memory.
+fn answered_without_memory(
+    alloc: Global,
+    decoder: &mut SourceBlockDecoder,
+) -> Result<Result<bool, Error>, Error> {
+    let shortage = Shortage::new(alloc, 0, 0)?;
+    let answer = decoder.answer();
+    drop(shortage);
+    Ok(answer.map(|block| block.is_some()))
+}
+
+// A packet that decides nothing isn't solved for: what the last attempt found shows it, without memory.
+// Repair symbol 223 is zero too. The source symbol decides the block, and takes memory.
+#[test]
+fn a_packet_that_decides_nothing(rt: HostRuntime) -> Result<(), Error> {
+    let mut decoder = undecided(rt.alloc())?;
+    decoder.record(packet(rt.alloc(), 0, 223, &[0])?)?;
+    same!(rt; answered_without_memory(rt.alloc(), &mut decoder)?, Ok(false));
+    decoder.record(packet(rt.alloc(), 0, 0, &[7])?)?;
+    same!(rt; answered_without_memory(rt.alloc(), &mut decoder)?, Err(Error::OutOfMemory));
     Ok(())
 }

@@ -1,9 +1,9 @@
-//! Hashes and orders of ids, of packets and of operations.
+//! Hashes and orders of ids, of packets, of configurations and of operations.
 use crate::compare::{holds, same};
-use raptorq::PayloadId;
 use raptorq::error::Error;
 use raptorq::octet::Octet;
 use raptorq::operation_vector::SymbolOps;
+use raptorq::{ObjectTransmissionInformation, PayloadId};
 use raptorq_test_kit::packets::packet;
 use std::alloc::Global;
 use std::hash::{DefaultHasher, Hash, Hasher};
@@ -13,6 +13,12 @@ fn hash_of<T: Hash>(value: &T) -> u64 {
     let mut state = DefaultHasher::new();
     value.hash(&mut state);
     state.finish()
+}
+
+fn configuration(
+    (length, size, blocks, sub_blocks, alignment): (u64, u16, u8, u16, u8),
+) -> Result<ObjectTransmissionInformation, Error> {
+    ObjectTransmissionInformation::new(length, size, blocks, sub_blocks, alignment)
 }
 
 // The block's number counts first, and then the symbol's.
@@ -52,6 +58,27 @@ fn packets(rt: HostRuntime) -> Result<(), Fail> {
         let hash = packet_hash(rt.alloc(), left)?;
         same!(rt; packet_hash(rt.alloc(), left)?, hash);
         holds!(rt; packet_hash(rt.alloc(), right)? != hash, left);
+    }
+    Ok(())
+}
+
+// The fields of a configuration count in the order of `new`, the object's length first.
+#[test]
+fn configurations(rt: HostRuntime) -> Result<(), Fail> {
+    let ascending: [(u64, u16, u8, u16, u8); 6] = [
+        (8, 4, 2, 2, 2),
+        (9, 2, 1, 1, 1),
+        (9, 4, 1, 1, 1),
+        (9, 4, 2, 1, 1),
+        (9, 4, 2, 2, 1),
+        (9, 4, 2, 2, 2),
+    ];
+    for at in 1..ascending.len() {
+        let less = configuration(ascending[at - 1])?;
+        let more = configuration(ascending[at])?;
+        holds!(rt; less < more, ascending[at]);
+        same!(rt; hash_of(&more), hash_of(&configuration(ascending[at])?));
+        holds!(rt; hash_of(&less) != hash_of(&more), ascending[at]);
     }
     Ok(())
 }
