@@ -198,6 +198,7 @@ place_tree() {
     mv -fT "$2/$PLACING$NEW" "$2/$PLACING"
     while read -r file; do
         mkdir -p "$(dirname "$2/$file")"
+        rm -f "$2/$file$NEW"
         cp -dp "$1/$file" "$2/$file$NEW"
     done <"$made/files"
     exchange "$2"
@@ -221,9 +222,11 @@ take_away() {
     local file
     [ -f "$1/$MANIFEST" ] || fail "there is no $1/$MANIFEST, which would say what to take away"
     cp "$1/$MANIFEST" "$made/MANIFEST"
-    while read -r file; do rm -f "$1/$file"; done < <(listed "$1" "$made/MANIFEST" file | grep -vxF "$MANIFEST")
-    rm "$1/$MANIFEST"
     listed "$1" "$made/MANIFEST" folder >"$made/folders"
+    listed "$1" "$made/MANIFEST" file >"$made/files"
+    sed -n 's/^file //p' "$made/MANIFEST" | grep -vxFf "$made/files" | sed "s|^|install: not below $1, and left: |" >&2 || true
+    while read -r file; do [ "$file" = "$MANIFEST" ] || rm -f "$1/$file"; done <"$made/files"
+    rm "$1/$MANIFEST"
     unlock
     remove_folders "$1" "$made/folders"
 }

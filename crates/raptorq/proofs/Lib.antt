@@ -4,6 +4,7 @@ pub mod BlockParts
 pub mod BlockTurns
 pub mod Built
 pub mod Changes
+pub mod Differences
 pub mod EncodedBlocks
 pub mod FollowedRuns
 pub mod InTurn

@@ -15,11 +15,6 @@ use Rattle.rq_standard.specs.Configuration.{Configuration}
 abbrev pub packet_refusal : Configuration → Packet → Result (Unit {0}) Error
 packet_refusal c p = if not (nat_lt p.id.block c.source_blocks) then Err UnknownBlock else size_refusal c p
 
--- a packet that passes these tests may find no memory, or contradict what was received of its block
-abbrev pub IsPacketRefusal : Error → Result (Unit {0}) Error → Type 0
-IsPacketRefusal e (Ok x) = (e ≡ OutOfMemory) ⊎ (e ≡ Contradiction)
-IsPacketRefusal e (Err wanted) = e ≡ wanted
-
 -- whether the encoder of an object of this length is made
 abbrev pub new_encoder : ℕ → Configuration → ℕ → Result (Unit {0}) Error
 new_encoder greatest c length_of_data =

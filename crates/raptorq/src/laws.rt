@@ -1,7 +1,7 @@
 //! Laws of packets, blocks and answers: each is the contract of a function that does nothing.
 ghost use Rattle.rq_standard.specs.PacketLaws.{IntermediateSymbolsAreOnly, SourcePacketsAreSymbols, AnswerableIsOnlyObject, MorePacketsDetermine, MorePacketsAreAnswerable, AnswersStay, SameIdsAreAnswerable, SameIdsAnswerTheSame, AnswerIsOne, DeterminedByIdsAlone, ContradictionsStay, JoiningUndoesCutting, CuttingUndoesJoining};
-ghost use Rattle.rq_standard.specs.StepLaws.{TakenIsFollowed, TakenIsTried, RecordedIsLate, HonestRunsGrow, HonestPacketsFit, ContradictionsAreKept, ContradictoryTakesNone, ContradictoryIsNone, ResultIsObject, DifferenceIsNone, DifferencesFit};
-ghost use Rattle.raptorq.specs.Laws.{FirstRefusalIsOne, AnsweredPartsMakeObject, PartsAreObjects, TurnsTake, TurnsRemember, TakenIsNext, RefusedIsNext, HonestIsTaken};
+ghost use Rattle.rq_standard.specs.StepLaws.{TakenIsFollowed, TakenIsTried, RecordedIsLate, HonestRunsGrow, HonestPacketsFit, ContradictionsAreKept, ContradictoryTakesNone, ContradictoryIsNone, ResultIsObject, DifferencesFit};
+ghost use Rattle.raptorq.specs.Laws.{FirstRefusalIsOne, AnsweredPartsMakeObject, PartsAreObjects, TurnsTake, TurnsRemember, DifferenceTellsAnswer, TakenIsNext, RefusedIsNext, HonestIsTaken};
 
 /// A block has no more than one column of intermediate symbols where its row isn't singular: any two
 /// are the same below L (RFC 6330, sections 5.3.3 and 5.4.2).
@@ -86,8 +86,8 @@ pub fn packets_in_turn()
 {}
 
 /// From a decoder that follows packets and took one more, one that follows them with it, whoever sent
-/// them; the packet was refused exactly when the rules say so, or for want of memory. Where memory was
-/// refused behind the tests, the packet's block is late until its next one.
+/// them; the packet was refused exactly when the rules say so, or for want of memory. Where it was
+/// recorded and memory was refused then, its block is late until it is tried again.
 pub fn followed_packets()
     ensures followed { TakenIsFollowed }
     ensures tried { TakenIsTried }
@@ -110,8 +110,8 @@ pub fn results()
 {}
 
 /// What a decoder that follows an object's packets calls a difference is none exactly where the object
-/// is answered, and makes another object that fits of any that does.
+/// is answered, unless a block is late, and makes another object that fits of any that does.
 pub fn differences()
-    ensures none { DifferenceIsNone }
+    ensures none { DifferenceTellsAnswer }
     ensures fit { DifferencesFit }
 {}

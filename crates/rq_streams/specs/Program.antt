@@ -15,6 +15,6 @@ pub record SendsUnskipped (size repair : ℕ) (result : Result (Outcome × ℕ) 
   pub none : IfOk result (λ ended. ended.1 ≡ 0)
 
 -- A run that reads this input, and behind whose writer this stood before and after, does this job over the built-in rows.
-abbrev pub Does : Job → Result (Outcome × ℕ) Stop → Option (List ℕ) → Option (List ℕ) → Option (List ℕ) → Type 0
-Does (Send size repair) result input before after = SendsUnskipped size repair result input before after
-Does Receive result input before after = Receives built_in_rows result input before after
+abbrev pub DoesJob : Job → Result (Outcome × ℕ) Stop → Option (List ℕ) → Option (List ℕ) → Option (List ℕ) → Type 0
+DoesJob (Send size repair) result input before after = SendsUnskipped size repair result input before after
+DoesJob Receive result input before after = Receives built_in_rows result input before after

@@ -4,7 +4,7 @@ ghost use Rattle.rq_streams.specs.declared.jobs.Job.{Job};
 ghost use Rattle.rq_streams.specs.Asked.{AsksFor};
 ghost use Rattle.rq_streams.specs.Counted.{failed_count, inner};
 ghost use Rattle.rq_streams.specs.Ends.{EndsAtFailure};
-ghost use Rattle.rq_streams.specs.Program.{Does};
+ghost use Rattle.rq_streams.specs.Program.{DoesJob};
 
 use crate::counted::Counted;
 use crate::jobs::Job;
@@ -27,7 +27,7 @@ fn run_job<R: Read, W: Write>(
     requires writes { failed_count writer.old < 2 ^ 64 - 1 }
     ensures failures { EndsAtFailure reader.old writer.old result reader.new writer.new
         (W.contents (inner writer.old)) (W.contents (inner writer.new)) }
-    ensures does { Does asked result
+    ensures does { DoesJob asked result
         (R.remaining (inner reader.old)) (W.contents (inner writer.old)) (W.contents (inner writer.new)) }
 {
     let table = SystematicTable::built_in(alloc)?;
@@ -64,7 +64,7 @@ pub fn run_words<R: Read, W: Write>(
         (W.contents (inner writer.old)) (W.contents (inner writer.new))) }
 
     // What the words ask for is done: what `run_send` or `run_receive` promises over the built-in rows.
-    ensures does { (wanted : Job) → AsksFor wanted (map string_bytes words.now) → IsSomeAnd result (λ ended. Does wanted ended
+    ensures does { (wanted : Job) → AsksFor wanted (map string_bytes words.now) → IsSomeAnd result (λ ended. DoesJob wanted ended
         (R.remaining (inner reader.old)) (W.contents (inner writer.old)) (W.contents (inner writer.new))) }
 {
     let asked = job(words)?;

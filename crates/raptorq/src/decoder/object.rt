@@ -235,7 +235,8 @@ impl Decoder {
     ///
     /// Refuses [`Error::UnknownBlock`] where the block is none of the object's, and
     /// [`Error::Contradiction`] where what was received determines the block and no block fits all of
-    /// it. What was received stays, also where memory is refused.
+    /// it. What was received stays then, and where memory is refused; of an answered block nothing is
+    /// kept but its bytes.
     pub fn answer_block(&mut self, source_block_number: u8) -> Result<(), Error>
         ensures { AnswersBlock self.old source_block_number result self.new }
     {

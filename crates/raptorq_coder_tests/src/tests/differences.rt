@@ -80,3 +80,22 @@ fn nine_packets_of_ten_symbols(rt: HostRuntime) -> Result<(), Error> {
     }
     Ok(())
 }
+
+// Whether these are four bytes, zeros in the first block and not in the second.
+fn is_in_second_block(difference: Option<Vec<u8>>) -> bool {
+    match difference {
+        Some(bytes) => bytes.len() == 4 && bytes[0] == 0 && bytes[1] == 0 && bytes[2] != 0,
+        None => false,
+    }
+}
+
+// An object of two blocks may differ in the one that isn't answered alone.
+#[test]
+fn one_block_of_two(rt: HostRuntime) -> Result<(), Error> {
+    let mut decoder = object_decoder(rt.alloc(), (4, 2, 2, 1, 1))?;
+    decoder.add_new_packet(packet(rt.alloc(), 0, 0, &[7, 8])?)?;
+    holds!(rt; is_in_second_block(decoder.difference()?));
+    decoder.add_new_packet(packet(rt.alloc(), 1, 0, &[9, 10])?)?;
+    holds!(rt; decoder.difference()?.is_none());
+    Ok(())
+}

@@ -53,6 +53,23 @@ fn bytes_of_blocks(rt: HostRuntime) -> Result<(), Error> {
     Ok(())
 }
 
+// Packets may be recorded first, and blocks answered later, in any order.
+#[test]
+fn blocks_answered_later(rt: HostRuntime) -> Result<(), Error> {
+    let alloc = rt.alloc();
+    let mut decoder = object_decoder(alloc, (3, 2, 5, 1, 1))?;
+    for (block, payload) in [(1, [9, 0]), (0, [7, 8])] {
+        decoder.record(packet(alloc, block, 0, &payload)?)?;
+    }
+    holds!(rt; decoder.get_result()?.is_none());
+    decoder.answer_block(0)?;
+    decoder.answer_block(1)?;
+    same!(rt; decoder.get_result()?.as_deref(), Some([7, 8, 9].as_slice()));
+    same!(rt; decoder.answer_block(5), Err(Error::UnknownBlock));
+    same!(rt; decoder.record(packet(alloc, 5, 0, &[7, 8])?), Err(Error::UnknownBlock));
+    Ok(())
+}
+
 #[test]
 fn an_object_of_no_bytes(rt: HostRuntime) -> Result<(), Error> {
     let alloc = rt.alloc();

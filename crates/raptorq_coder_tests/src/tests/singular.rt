@@ -4,8 +4,10 @@ use crate::compare::{holds, same};
 use raptorq::error::Error;
 use raptorq::systematic_constants::SystematicTable;
 use raptorq::{
-    Encoder, ObjectTransmissionInformation, SourceBlockDecoder, SourceBlockEncodingPlan,
+    Encoder, EncodingPacket, ObjectTransmissionInformation, SourceBlockDecoder, SourceBlockEncoder,
+    SourceBlockEncodingPlan, SourceBlockEncodingPlanCache,
 };
+use raptorq_test_kit::packets::packet;
 use std::alloc::Global;
 
 // A row of 511 symbols and two HDPC equations.
@@ -36,10 +38,18 @@ fn the_least_index(rt: HostRuntime) {
 }
 
 #[test]
-fn an_encoder(rt: HostRuntime) -> Result<(), Error> {
-    let (table, config) = singular(rt.alloc())?;
-    let refused = Encoder::new(rt.alloc(), &table, &[7; 511], config);
-    holds!(rt; refused == Err(Error::Singular));
+fn encoders(rt: HostRuntime) -> Result<(), Error> {
+    let alloc = rt.alloc();
+    let (table, config) = singular(alloc)?;
+    let object = [7u8; 511];
+    holds!(rt; Encoder::new(alloc, &table, &object, config) == Err(Error::Singular));
+    let mut cache = SourceBlockEncodingPlanCache::new(alloc, &table)?;
+    let _plan = cache.get_or_generate(10)?;
+    let made = SourceBlockEncoder::new(alloc, 0, &config, &object, &mut cache);
+    holds!(rt; made == Err(Error::Singular));
+    holds!(rt; cache.len() == 1);
+    holds!(rt; cache.contains(10));
+    holds!(rt; !cache.contains(511));
     Ok(())
 }
 
@@ -49,15 +59,37 @@ fn singular_decoder(alloc: Global) -> Result<SourceBlockDecoder, Error> {
     SourceBlockDecoder::new(alloc, &table, 0, &config, 511)
 }
 
-// All source symbols are answered, and determine no block.
+// What all source symbols say determines no block.
 #[test]
 fn a_decoder(rt: HostRuntime) -> Result<(), Error> {
     let mut decoder = singular_decoder(rt.alloc())?;
-    let mut answer = None;
     for esi in 0..511 {
-        answer = block_answer(rt.alloc(), &mut decoder, (0, esi, &[7]))?;
+        let _answer = block_answer(rt.alloc(), &mut decoder, (0, esi, &[7]))?;
     }
-    same!(rt; answer.as_deref(), Some([7; 511].as_slice()));
+    holds!(rt; decoder.homogeneous()?.is_some());
+    Ok(())
+}
+
+// A repair packet and then the source packets of an object.
+fn repair_and_source(alloc: Global, object: &[u8; 511]) -> Result<Vec<EncodingPacket>, Error> {
+    let mut packets = Vec::new(alloc);
+    packets.push(packet(alloc, 0, 521, &[1])?)?;
+    for esi in 0..511u32 {
+        packets.push(packet(alloc, 0, esi, &[object[esi as usize]])?)?;
+    }
+    Ok(packets)
+}
+
+// A repair packet with which they still determine none leaves the source symbols the answer, whatever
+// it says.
+#[test]
+fn a_repair_packet_too_few(rt: HostRuntime) -> Result<(), Error> {
+    let mut object = [7u8; 511];
+    object[3] = 8;
+    let packets = repair_and_source(rt.alloc(), &object)?;
+    let mut decoder = singular_decoder(rt.alloc())?;
+    let answer = decoder.decode(packets)?;
+    same!(rt; answer.as_deref(), Some(object.as_slice()));
     holds!(rt; decoder.homogeneous()?.is_some());
     Ok(())
 }

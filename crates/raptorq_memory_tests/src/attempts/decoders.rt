@@ -74,6 +74,7 @@ pub struct BlockAnswers {
     decoder: SourceBlockDecoder,
     before: SourceBlockDecoder,
     recorded: SourceBlockDecoder,
+    is_kept: bool,
     repeats: Vec<EncodingPacket>,
 }
 
@@ -88,8 +89,14 @@ impl BlockAnswers {
             decoder: before.clone()?,
             before,
             recorded,
+            is_kept: false,
             repeats,
         })
+    }
+
+    /// Whether a call was refused memory that had recorded the packet.
+    pub fn is_kept(&self) -> bool {
+        self.is_kept
     }
 
     /// Hands in the packet. A refused one is recorded or not, and nothing else changes.
@@ -99,7 +106,10 @@ impl BlockAnswers {
         let is_recorded = self.decoder == self.recorded;
         match answer {
             Ok(answer) if is_object(&answer) && is_recorded => Ending::Answered,
-            Err(Error::OutOfMemory) if is_recorded => Ending::Refused,
+            Err(Error::OutOfMemory) if is_recorded => {
+                self.is_kept = true;
+                Ending::Refused
+            }
             Err(Error::OutOfMemory) if !was_recorded && self.decoder == self.before => {
                 Ending::Refused
             }
@@ -114,6 +124,7 @@ pub struct ObjectAnswers {
     decoder: Decoder,
     before: Decoder,
     late: Option<Decoder>,
+    is_kept: bool,
     answered: Decoder,
     repeats: Vec<EncodingPacket>,
 }
@@ -132,6 +143,7 @@ impl ObjectAnswers {
             decoder: before.clone()?,
             before,
             late: None,
+            is_kept: false,
             answered,
             repeats,
         })
@@ -140,6 +152,11 @@ impl ObjectAnswers {
     /// Takes a decoder that recorded the packet and whose block is late, to compare with.
     pub fn expect_late(&mut self, late: Decoder) {
         self.late = Some(late);
+    }
+
+    /// Whether a call was refused memory that had recorded the packet, and left its block late.
+    pub fn is_kept(&self) -> bool {
+        self.is_kept
     }
 
     fn is_late(&self) -> bool {
@@ -176,7 +193,10 @@ impl ObjectAnswers {
         };
         match self.decoder.decode(packet) {
             Ok(answer) if is_object(&answer) && self.decoder == self.answered => Ending::Answered,
-            Err(Error::OutOfMemory) => self.refused(was_new),
+            Err(Error::OutOfMemory) => {
+                self.is_kept |= self.decoder != self.answered && self.is_late();
+                self.refused(was_new)
+            }
             _ => Ending::Other,
         }
     }

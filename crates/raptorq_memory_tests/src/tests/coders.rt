@@ -99,6 +99,8 @@ fn decoders_are_refused_memory_in_turn(rt: HostRuntime) -> Result<(), Error> {
         add_all(endings, &decoders.attempts());
     })?;
     holds!(rt; is_swept, endings.as_slice());
+    holds!(rt; decoders.blocks.is_kept());
+    holds!(rt; decoders.objects.is_kept());
     same!(rt; decoders.attempts(), [Ending::Answered; 4]);
     Ok(())
 }
@@ -221,6 +223,28 @@ fn a_packet_stays_recorded(rt: HostRuntime) -> Result<(), Error> {
         same!(rt; decoder.get_result(), Ok(None));
         determine_object(&rt, &mut decoder, taken)?;
     }
+    Ok(())
+}
+
+// Nine source symbols of zeros.
+fn nine_zeros(alloc: Global) -> Result<Vec<EncodingPacket>, Error> {
+    let mut zeros = Vec::new(alloc);
+    for esi in 0..9 {
+        zeros.push(packet(alloc, 0, esi, &[0])?)?;
+    }
+    Ok(zeros)
+}
+
+// Where memory was refused for a block, its next packet is tested with all that came: nine source
+// symbols, a repair symbol that isn't zero as they are, and the tenth source symbol, which is.
+#[test]
+fn a_late_contradiction(rt: HostRuntime) -> Result<(), Error> {
+    let zeros = nine_zeros(rt.alloc())?;
+    let repair = packet(rt.alloc(), 0, 10, &[1])?;
+    let mut decoder = late(&rt, rt.alloc(), zeros.as_slice(), &repair)?;
+    let refused = decoder.decode(packet(rt.alloc(), 0, 9, &[0])?);
+    holds!(rt; refused == Err(Error::Contradiction));
+    same!(rt; decoder.get_result(), Ok(None));
     Ok(())
 }
 
