@@ -248,26 +248,24 @@ fn a_late_contradiction(rt: HostRuntime) -> Result<(), Error> {
     Ok(())
 }
 
-// The decoder of a block of one source symbol that was tried to answer by repair symbol 133: the symbol
-// is zero, whatever the block is, so that it decides nothing.
-fn undecided(alloc: Global) -> Result<SourceBlockDecoder, Error> {
-    let table = SystematicTable::built_in(alloc)?;
-    let config = ObjectTransmissionInformation::new(1, 1, 1, 1, 1)?;
-    let mut decoder = SourceBlockDecoder::new(alloc, &table, 0, &config, 1)?;
-    decoder.record(packet(alloc, 0, 133, &[0])?)?;
-    let _undetermined = decoder.answer()?;
+// The decoder of an object of one symbol that was tried to answer by repair symbol 133: that is zero,
+// whatever the object is, so that it decides nothing.
+fn undecided(alloc: Global) -> Result<Decoder, Error> {
+    let (table, config) = configured(alloc, (1, 1, 1, 1, 1))?;
+    let mut decoder = Decoder::new(alloc, &table, config)?;
+    decoder.add_new_packet(packet(alloc, 0, 133, &[0])?)?;
     Ok(decoder)
 }
 
-// What the decoder answers where there is no memory.
+// What the decoder says of its block where there is no memory.
 fn answered_without_memory(
     alloc: Global,
-    decoder: &mut SourceBlockDecoder,
-) -> Result<Result<bool, Error>, Error> {
+    decoder: &mut Decoder,
+) -> Result<Result<(), Error>, Error> {
     let shortage = Shortage::new(alloc, 0, 0)?;
-    let answer = decoder.answer();
+    let answer = decoder.answer_block(0);
     drop(shortage);
-    Ok(answer.map(|block| block.is_some()))
+    Ok(answer)
 }
 
 // A packet that decides nothing isn't solved for: what the last attempt found shows it, without memory.
@@ -276,7 +274,8 @@ fn answered_without_memory(
 fn a_packet_that_decides_nothing(rt: HostRuntime) -> Result<(), Error> {
     let mut decoder = undecided(rt.alloc())?;
     decoder.record(packet(rt.alloc(), 0, 223, &[0])?)?;
-    same!(rt; answered_without_memory(rt.alloc(), &mut decoder)?, Ok(false));
+    same!(rt; answered_without_memory(rt.alloc(), &mut decoder)?, Ok(()));
+    holds!(rt; !decoder.is_complete());
     decoder.record(packet(rt.alloc(), 0, 0, &[7])?)?;
     same!(rt; answered_without_memory(rt.alloc(), &mut decoder)?, Err(Error::OutOfMemory));
     Ok(())

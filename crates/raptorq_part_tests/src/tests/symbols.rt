@@ -89,7 +89,8 @@ fn a_multiple_is_added(rt: HostRuntime) -> Result<(), Error> {
     slab.fma(0, 1, &Octet::new(3));
     same!(rt; slab.get(0), [7].as_slice());
     slab.add_all(1, &[0]);
-    same!(rt; slab.get(1), [5].as_slice());
+    let octets = octets_of(rt.alloc(), slab)?;
+    same!(rt; octets.as_slice(), [7, 5].as_slice());
     Ok(())
 }
 
