@@ -1,5 +1,5 @@
 #!/usr/bin/env bash
-# What checks/bare runs in a bare root, where /try has what it brought.
+# What checks/bare_release runs in a bare root, where /try has what it brought.
 set -euo pipefail
 export LC_ALL=C.UTF-8 DEBIAN_FRONTEND=noninteractive HOME=/root
 cd /try
