@@ -2,6 +2,7 @@
 #![tactic(auto)]
 
 use anyhow::Result;
+use raptorq::decoder::ObjectBlock;
 use raptorq::systematic_constants::SystematicTable;
 use raptorq::{
     Decoder, Encoder, EncoderBuilder, EncodingPacket, ObjectTransmissionInformation, PayloadId,
@@ -49,8 +50,11 @@ fn blocks(rt: &HostRuntime, table: &SystematicTable) -> Result<()> {
     let packets = block_packets(alloc, table, &config, &block)?;
     let count = packets.len();
     println!(rt; "SourceBlockEncoder: {count} packets")?;
-    let equal = planned(alloc, table, &config, &block)? == packets;
+    let by_plan = planned(alloc, table, &config, &block)?;
+    let equal = by_plan == packets;
     println!(rt; "SourceBlockEncodingPlan: the same packets: {equal}")?;
+    let answered = kept_block(alloc, table, &config, by_plan)?;
+    println!(rt; "ObjectBlock: they determine it: {answered}")?;
     let lossy = packets.into_iter().skip(4).collect(alloc)?;
     let back = decoded_block(alloc, table, &config, lossy)?;
     let equal = back.is_some_and(|bytes| bytes.as_slice() == block.as_slice());
@@ -145,6 +149,19 @@ fn planned(
     let mut packets = encoder.source_packets()?;
     packets.append(&mut encoder.repair_packets(0, 5)?)?;
     Ok(packets)
+}
+
+fn kept_block(
+    alloc: Global,
+    table: &SystematicTable,
+    config: &ObjectTransmissionInformation,
+    packets: Vec<EncodingPacket>,
+) -> Result<bool> {
+    let mut block = ObjectBlock::of_length(alloc, table, 0, config, 160)?; // block 0, of 160 bytes
+    for packet in packets {
+        block.add_new_packet(packet)?;
+    }
+    Ok(block.bytes().is_some()) // `None` until its packets determine the block
 }
 
 fn decoded_block(

@@ -6,21 +6,22 @@ use Rattle.std.specs.Option.{ForSome}
 use Rattle.std.specs.declared.vec.Vec.{Vec}
 use Rattle.std.specs.declared.alloc.Global.{Global}
 use Rattle.std.proofs.lemmas.Bool.{cases_lt}
-use Rattle.std.proofs.lemmas.List.{get_or-map, get_or_default, get_or_past, length-map, get_or-take, ext_get_or, length-take, take_min, take-append-le, take_all}
+use Rattle.std.proofs.lemmas.List.{get_or-map, get_or_default, get_or_past, length-map, get_or-take, ext_get_or, length-take, length-take-le, take_min, take-append-le, take_all}
 use Rattle.std.proofs.Math.Seq.{take-append-add, take-nil}
+use Rattle.std.proofs.lemmas.Grind.{div_ceil_times}
 use Rattle.rq_standard.specs.Configuration.{Configuration}
 use Rattle.rq_standard.specs.Cutting.{block_symbols, symbols_before, block_bytes}
 use Rattle.rq_standard.specs.Packet.{Packet}
 use Rattle.rq_standard.specs.ReceivedBlock.{ReceivedBlock}
-use Rattle.rq_standard.specs.DecoderState.{State, append_both, first_blocks}
+use Rattle.rq_standard.specs.DecoderState.{State, append_both, first_blocks, result_of}
 use Rattle.rq_standard.specs.declared.row.TableRow.{TableRow}
 use Rattle.rq_standard.specs.Following.{Lateness}
-use Rattle.rq_standard.proofs.BlockCuts.{symbols_before-first, symbols_before-next}
+use Rattle.rq_standard.proofs.BlockCuts.{symbols_before-first, symbols_before-next, symbols_before-all}
 use Rattle.rq_standard.proofs.HonestBlocks.{BlockStandsFor, stands_block}
 use Rattle.rq_standard.proofs.ObjectAnswers.{answered, has_answer}
 use Rattle.rq_standard.proofs.PlainCut.{length-block_bytes}
 use Rattle.raptorq.specs.declared.decoder.object.Decoder.{Decoder}
-use Rattle.raptorq.specs.declared.decoder.object.ObjectBlock.{ObjectBlock}
+use Rattle.raptorq.specs.declared.decoder.block.ObjectBlock.{ObjectBlock}
 use Rattle.raptorq.specs.BlockBytes.{bytes_of_block, object_part, answered_part, PartsMakeObject}
 use Rattle.raptorq.specs.Laws.{PartsAreObjects}
 use Rattle.raptorq.specs.Decoder.{answer_of, state_of, HoldsBlock}
@@ -55,6 +56,10 @@ both_parts n m None y long = refl
 both_parts n m (Some xs) None long = refl
 both_parts n m (Some xs) (Some ys) long = ap (λ k. Some (take n xs ++ take (n - k) ys)) (sym long) ∙ ap (λ zs. Some zs) (take_both n xs ys)
 
+taken_long : (o : Option (List ℕ)) (m n : ℕ) → n ≤ m → IfSome o (λ xs. length xs ≡ m) → IfSome (option_map (take n) o) (λ xs. length xs ≡ n)
+taken_long None m n few long = tt
+taken_long (Some xs) m n few long = length-take-le n xs (omega (arith, few, long))
+
 module _ (s : State) (long : AreLong s) where
   -- the first n blocks
   first_long : (n : ℕ) → n ≤ s.configuration.source_blocks → IfSome (first_blocks n s.answer) (λ xs. length xs ≡ symbols_before s.configuration n * s.configuration.symbol_size)
@@ -66,7 +71,7 @@ module _ (s : State) (long : AreLong s) where
       omega arith ∙ ap (λ m. m * c.symbol_size) (sym (symbols_before-next c n (omega arith)) ∙ ap (symbols_before c) next) in
       subst (λ m. IfSome (append_both (first_blocks n s.answer) (s.answer n)) (λ xs. length xs ≡ m)) is (both_long (first_blocks n s.answer) (s.answer n) _ _ (first_long n (omega arith)) (long n (omega arith)))
 
-  first_parts : (n : ℕ) → n ≤ s.configuration.source_blocks → first_blocks n (answered_part s) ≡ option_map (take s.configuration.transfer_length) (first_blocks n s.answer)
+  pub first_parts : (n : ℕ) → n ≤ s.configuration.source_blocks → first_blocks n (answered_part s) ≡ option_map (take s.configuration.transfer_length) (first_blocks n s.answer)
   first_parts zero within = ap (λ xs. Some xs) (sym (take-nil s.configuration.transfer_length))
   first_parts (suc n) within =
       ap (λ x. append_both x (answered_part s n)) (first_parts n (omega arith))
@@ -74,6 +79,14 @@ module _ (s : State) (long : AreLong s) where
 
   parts_make_object : PartsMakeObject s
   parts_make_object = first_parts s.configuration.source_blocks (omega arith)
+
+  -- the object is as long as the configuration says
+  pub result_long : 0 < s.configuration.source_blocks → 0 < s.configuration.symbol_size → IfSome (result_of s) (λ object. length object ≡ s.configuration.transfer_length)
+  result_long some positive =
+      let c = s.configuration in
+      let room : c.transfer_length ≤ symbols_before c c.source_blocks * c.symbol_size =
+      subst (λ n. c.transfer_length ≤ n * c.symbol_size) (sym (symbols_before-all c some)) (div_ceil_times c.transfer_length c.symbol_size positive).0 in
+      taken_long (first_blocks c.source_blocks s.answer) _ c.transfer_length room (first_long c.source_blocks (omega arith))
 
 -- ---- after a list of an object's packets
 
@@ -129,8 +142,11 @@ module _ (c : Configuration) (items : List ObjectBlock) (numbered : map block_nu
       subst (λ a. IfSome a (λ block. length block ≡ block_symbols c b * c.symbol_size)) (sym (get_or-map answer_of items b first None within))
       (subst (λ m. IfSome (answer_of x) (λ block. length block ≡ m)) whole (seen_long x.answer _ x.long))
 
+pub long_answers : (d : Decoder) → AreLong (state_of d)
+long_answers d = each_long d.config d.blocks.items d.numbered d.same d.cut
+
 pub parts_of_decoder : (d : Decoder) → PartsMakeObject (state_of d)
-parts_of_decoder d = parts_make_object (state_of d) (each_long d.config d.blocks.items d.numbered d.same d.cut)
+parts_of_decoder d = parts_make_object (state_of d) (long_answers d)
 
 -- a number that no block has
 pub no_part : (c : Configuration) (items : List ObjectBlock) (n : ℕ) → map block_number items ≡ range_with_len 0 c.source_blocks → c.source_blocks ≤ n → None ≡ answered_part (state c items) n

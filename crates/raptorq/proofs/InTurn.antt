@@ -1,9 +1,9 @@
 -- What the calls of an object's decoder do in turn with a packet is one step.
-use Rattle.std.proofs.Common.{◌≡◌, ◌≢◌, ◌⊎◌, ℕ, ◌<◌, ◌≤◌, Bool, true, false, cond, eqb, ltb, length, List, Option, Some, None, Result, Ok, Err, inl, inr, refl, sym, ap, ◌∙◌, subst, arith}
+use Rattle.std.proofs.Common.{◌≡◌, ◌≢◌, ◌⊎◌, ℕ, ◌<◌, Bool, true, false, cond, eqb, ltb, length, List, Option, Some, None, Result, Ok, Err, inl, inr, refl, sym, ap, ◌∙◌, subst, arith}
 use Rattle.std.specs.Prelude.{MatchOption, MatchResult, IfErr}
 use Rattle.std.proofs.lemmas.Bool.{eqb-true, eqb-false}
 use Rattle.rq_bytes.specs.declared.error.Error.{Error}
-use Rattle.rq_bytes.specs.declared.error.Error.TheVariants.{OutOfMemory, Contradiction}
+use Rattle.rq_bytes.specs.declared.error.Error.TheVariants.{OutOfMemory}
 use Rattle.rq_bytes.specs.Refusals.{IsAnswer, IsRefusal}
 use Rattle.rq_standard.specs.Packet.{Packet}
 use Rattle.rq_standard.specs.ReceivedBlock.{ReceivedBlock, has_received, with_received, IsBlockAnswer, IsContradictory}
@@ -15,12 +15,12 @@ use Rattle.rq_block.specs.SourceBlockDecoder.{Solving, solving_after, still_foun
 use Rattle.rq_block.proofs.Remembered.{still_more, still_same, still_threshold}
 use Rattle.rq_block.proofs.TakenPackets.{tests_find_no_contradiction}
 use Rattle.raptorq.specs.declared.decoder.object.Decoder.{Decoder}
-use Rattle.raptorq.specs.Decoder.{state_of, solving_at}
-use Rattle.raptorq.specs.InTurn.{KeptBlock, block_at, ChangesBlock, recorded_by, with_packet, RecordsHere, RecordsPacket, found_by, AnswersOpen, RefusesAnswer, AnswersHere, AnswersBlock, TakesInTurn}
+use Rattle.raptorq.specs.Decoder.{state_of}
+use Rattle.raptorq.specs.InTurn.{KeptBlock, block_at, ChangesBlock, recorded_by, with_packet, RecordsPacket, found_by, AnswersOpen, RefusesAnswer, AnswersHere, AnswersBlock}
 use Rattle.raptorq.specs.Laws.{TurnsTake, TurnsRemember}
 use Rattle.raptorq.specs.Refused.{packet_refusal}
 use Rattle.raptorq.specs.Remembering.{RemembersHere, Remembers}
-use Rattle.raptorq.specs.TakesPacket.{StopsBy, TakesPacket}
+use Rattle.raptorq.specs.TakesPacket.{TakesPacket}
 use Rattle.raptorq.proofs.FollowedRuns.{passes_below}
 
 -- ---- one block

@@ -1,10 +1,8 @@
 pub mod AnsweredParts
 pub mod AppendedBlocks
 pub mod BlockParts
-pub mod BlockTurns
 pub mod Built
 pub mod Changes
-pub mod Differences
 pub mod EncodedBlocks
 pub mod FollowedRuns
 pub mod InTurn
@@ -12,3 +10,5 @@ pub mod Lists
 pub mod ObjectBlocks
 pub mod Stops
 pub mod Witnesses
+pub mod WrittenParts
+pub mod Differences

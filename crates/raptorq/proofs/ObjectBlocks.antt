@@ -1,8 +1,7 @@
 -- The blocks of an object in a list, in the order of their numbers.
-use Rattle.std.proofs.Common.{◌≡◌, ◌≢◌, ℕ, suc, ◌+◌, ◌<◌, Bool, true, false, List, [], ◌++◌, length, get_or, set, take, map, All, Option, Some, None, Result, Ok, Err, refl, sym, ap, ◌∙◌, subst, arith, eq-eqb, inl, inr}
+use Rattle.std.proofs.Common.{◌≡◌, ◌≢◌, ℕ, suc, ◌+◌, ◌<◌, Bool, true, false, List, [], ◌++◌, length, get_or, set, take, map, All, Option, Some, None, Ok, refl, sym, ap, ◌∙◌, subst, arith, eq-eqb}
 use Rattle.std.specs.Prelude.{is_some, IsSome, option_map, unwrap_or, ltb, IfSome, vec_items}
 use Rattle.std.specs.Bool.{MatchBool}
-use Rattle.rq_bytes.specs.declared.error.Error.{Error}
 use denote.Ref.{Bor}
 use Rattle.std.specs.List.{range_with_len, AllWithin, HoldsAt}
 use Rattle.std.specs.Option.{option_copied}
@@ -26,7 +25,7 @@ use Rattle.raptorq.specs.Decoder.{received_at, answer_at, answer_of, solving_at,
 use Rattle.rq_block.specs.RefusedBlocks.{block_refusal}
 use Rattle.raptorq.specs.InTurn.{KeptBlock, block_of, block_at, ChangesBlock}
 use Rattle.rq_block.proofs.Numbered.{length-mapped, length-numbered, mapped_through, some_at}
-use Rattle.raptorq.specs.declared.decoder.object.ObjectBlock.{ObjectBlock}
+use Rattle.raptorq.specs.declared.decoder.block.ObjectBlock.{ObjectBlock}
 use Rattle.raptorq.specs.declared.decoder.object.Decoder.{Decoder}
 
 abbrev pub block_number : ObjectBlock → ℕ

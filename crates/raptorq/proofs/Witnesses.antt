@@ -19,7 +19,7 @@ use Rattle.rq_block.specs.SourceBlockDecoder.{received_of}
 use Rattle.raptorq.specs.Decoder.{received_at, answer_at}
 use Rattle.raptorq.specs.Unanswered.{ShowsUnanswered}
 use Rattle.rq_block.specs.Difference.{octets_of_column}
-use Rattle.raptorq.specs.declared.decoder.object.ObjectBlock.{ObjectBlock}
+use Rattle.raptorq.specs.declared.decoder.block.ObjectBlock.{ObjectBlock}
 use Rattle.rq_block.proofs.Numbered.{length-numbered, numbered_at, some_at}
 use Rattle.raptorq.proofs.ObjectBlocks.{state, block_number, received_here}
 

@@ -4,7 +4,7 @@ use Rattle.rq_standard.specs.TableRows.{no_row}
 use Rattle.rq_standard.specs.Configuration.{Configuration}
 use Rattle.rq_standard.specs.ReceivedBlock.{ReceivedBlock, nothing_received}
 use Rattle.rq_standard.specs.DecoderState.{State}
-use Rattle.raptorq.specs.declared.decoder.object.ObjectBlock.{ObjectBlock}
+use Rattle.raptorq.specs.declared.decoder.block.ObjectBlock.{ObjectBlock}
 use Rattle.raptorq.specs.declared.decoder.object.Decoder.{Decoder}
 use Rattle.rq_block.specs.declared.decoder.last_outcome.LastOutcome.TheVariants.{Untried}
 use Rattle.raptorq.specs.Unanswered.{missing_in}

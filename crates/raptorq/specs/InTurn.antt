@@ -1,15 +1,19 @@
 -- What the calls of an object's decoder do in turn: a packet is recorded, its block is answered, and the blocks are joined.
-use Rattle.std.specs.Prelude.{◌≡◌, ◌≢◌, ◌⊎◌, ℕ, ◌<◌, ◌≤◌, List, Option, Some, None, MatchOption, option_map, Result, Ok, Err, MatchResult, OnErr, IfOk, IfErr, IsSome}
+use Rattle.std.specs.Prelude.{◌≡◌, ◌≢◌, ◌⊎◌, ℕ, ◌<◌, ◌≤◌, List, [], Option, Some, None, MatchOption, option_map, Result, Ok, Err, MatchResult, OnErr, IfOk, IfErr, IsSome, if◌then◌else◌, ◌==◌}
 use Rattle.rq_bytes.specs.declared.error.Error.{Error}
 use Rattle.rq_bytes.specs.declared.error.Error.TheVariants.{OutOfMemory, Contradiction, UnknownBlock}
 use Rattle.rq_bytes.specs.Refusals.{IsAnswer}
+use Rattle.rq_standard.specs.Configuration.{Configuration}
 use Rattle.rq_standard.specs.Packet.{Packet}
+use Rattle.rq_standard.specs.declared.row.TableRow.{TableRow}
 use Rattle.rq_standard.specs.ReceivedBlock.{ReceivedBlock, with_received, IsContradictory, IsBlockAnswer}
 use Rattle.rq_standard.specs.DecoderState.{State, result_of}
 use Rattle.rq_standard.specs.DecoderSteps.{kept_of}
 use Rattle.rq_block.specs.declared.decoder.last_outcome.LastOutcome.TheVariants.{Untried, Undetermined, Contradictory}
-use Rattle.rq_block.specs.SourceBlockDecoder.{Solving, received_of, solving_of, solving_after, unsolved}
-use Rattle.raptorq.specs.declared.decoder.object.ObjectBlock.{ObjectBlock}
+use Rattle.rq_block.specs.SourceBlockDecoder.{Solving, received_of, solving_of, solving_after, unsolved, empty_block}
+use Rattle.rq_block.specs.RefusedBlocks.{block_refusal}
+use Rattle.rq_block.specs.declared.encoder.TheConstants.{SPARSE_MATRIX_THRESHOLD}
+use Rattle.raptorq.specs.declared.decoder.block.ObjectBlock.{ObjectBlock}
 use Rattle.raptorq.specs.declared.decoder.object.Decoder.{Decoder}
 use Rattle.raptorq.specs.Decoder.{answer_of, state_of, solving_at}
 use Rattle.raptorq.specs.Refused.{packet_refusal}
@@ -32,6 +36,14 @@ pub record ChangesBlock (Here : KeptBlock → KeptBlock → Type 0) (old : Decod
   pub configuration : (state_of new).configuration ≡ (state_of old).configuration
   pub here : Here (block_at old n) (block_at new n)
   pub others : (m : ℕ) → m ≢ n → block_at new m ≡ block_at old m
+
+-- what is answered of a block of K source symbols before any packet
+abbrev pub no_symbols : ℕ → Option (List ℕ)
+no_symbols k = if k == 0 then Some [] else None
+
+-- a block of K source symbols, of which nothing was received
+abbrev pub new_block : List TableRow → Configuration → ℕ → ℕ → KeptBlock
+new_block table c number k = record { received = empty_block table c number k; answer = no_symbols k; solving = unsolved SPARSE_MATRIX_THRESHOLD }
 
 -- ---- recording
 
@@ -91,6 +103,14 @@ pub record JoinsObject {V : Type 0} (view : V → List ℕ) (s : State) (result 
   pub complete : OnErr result (IsSome (result_of s))
 
 -- ---- in turn
+
+-- A packet of the block is recorded, and the block is answered then, unless the packet is refused.
+pub record TakesHere (old : KeptBlock) (p : Packet) (result : Result (Unit {0}) Error) (new : KeptBlock) : Type 0 where
+  pub recorded : Result (Unit {0}) Error
+  pub middle : KeptBlock
+  pub tested : IsAnswer (λ _. tt) recorded (block_refusal old.received p)
+  pub records : RecordsHere p recorded old middle
+  pub answers : MatchResult recorded (λ _. AnswersHere result middle new) (λ e. (result ≡ Err e) × (new ≡ middle))
 
 -- A packet is recorded, and its block is answered then, unless the packet is refused.
 pub record TakesInTurn (old : Decoder) (p : Packet) (result : Result (Unit {0}) Error) (new : Decoder) : Type 0 where

@@ -1,7 +1,7 @@
 -- What coders of an object refuse, in the order of the tests.
 use Rattle.std.specs.Prelude.{◌≡◌, ◌⊎◌, ℕ, List, Result, Ok, Err, if◌then◌else◌, ◌==◌, not, nat_lt}
 use Rattle.rq_bytes.specs.declared.error.Error.{Error}
-use Rattle.rq_bytes.specs.declared.error.Error.TheVariants.{OutOfMemory, Contradiction, UnknownBlock, WrongDataLength, Singular}
+use Rattle.rq_bytes.specs.declared.error.Error.TheVariants.{UnknownBlock, WrongDataLength, Singular}
 use Rattle.rq_bytes.specs.Refusals.{IsRefusal, and_then}
 use Rattle.rq_standard.specs.declared.row.TableRow.{TableRow}
 use Rattle.rq_standard.specs.TableRows.{greatest_size}

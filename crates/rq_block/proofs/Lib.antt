@@ -26,3 +26,4 @@ pub mod Summing
 pub mod TakenPackets
 pub mod Undetermined
 pub mod Waiting
+pub mod WrittenSteps

@@ -1,6 +1,6 @@
 -- What a decoder of a block keeps of its attempts to answer it.
 use Rattle.std.proofs.Common.{◌≡◌, ℕ, true, false, Option, None, Some, Result, Ok, Err, refl, ap, ◌∙◌, sym}
-use Rattle.std.specs.Prelude.{OnOk, IfErr}
+use Rattle.std.specs.Prelude.{IfErr}
 use Rattle.rq_bytes.specs.declared.error.Error.{Error}
 use Rattle.rq_bytes.specs.declared.error.Error.TheVariants.{OutOfMemory, Contradiction}
 use Rattle.rq_standard.specs.ReceivedBlock.{ReceivedBlock, has_received}
@@ -23,20 +23,11 @@ contradictory_by (Ok (Some v)) is = absurd (cc is)
 contradictory_by (Err Contradiction) is = refl
 contradictory_by (Err e) is = absurd (cc is)
 
--- where it is remembered, what follows of a refusal is
-pub remembered_refusal : (V : Type 0) (r : Result (Option V) Error) (o : LastOutcome) → o ≡ outcome_of r → IfErr r (λ e. e ≡ Contradiction → o ≡ Contradictory)
-remembered_refusal V (Ok v) o is = tt
-remembered_refusal V (Err e) o is = λ same. is ∙ ap (λ x. outcome_of {V = V} (Err x)) same
-
 -- where memory is refused for an attempt, what is remembered stays
 pub refused_attempt : (V : Type 0) (s t : Solving) (r : Result (Option V) Error) → s.last_outcome ≡ Untried → t ≡ record s { last_outcome = outcome_of r } → IfErr r (λ e. e ≡ OutOfMemory → t ≡ s)
 refused_attempt V s t (Ok v) untried is = tt
 refused_attempt V s t (Err e) untried is = λ memory.
     is ∙ ap (λ x. record s { last_outcome = outcome_of {V = V} (Err x) }) memory ∙ ap (λ o. record s { last_outcome = o }) (sym untried)
-
-pub whatever_answered : {V : Type 0} (r : Result V Error) (P : Type 0) → P → OnOk r P
-whatever_answered (Ok v) P p = p
-whatever_answered (Err e) P p = tt
 
 -- ---- by a payload more
 

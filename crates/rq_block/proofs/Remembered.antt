@@ -1,10 +1,7 @@
 -- What a decoder of a block remembers while packets are taken.
-use Rattle.std.proofs.Common.{◌≡◌, ◌≢◌, ℕ, Bool, true, false, List, Result, Ok, Err, inl, inr, refl, sym, ap, ◌∙◌}
-use Rattle.std.specs.Prelude.{is_some, IfErr}
-use Rattle.rq_bytes.specs.declared.error.Error.{Error}
-use Rattle.rq_bytes.specs.declared.error.Error.TheVariants.{OutOfMemory, Contradiction}
+use Rattle.std.proofs.Common.{◌≡◌, ℕ, Bool, true, false, List, inl, inr, refl, sym, ap, ◌∙◌}
+use Rattle.std.specs.Prelude.{is_some}
 use Rattle.rq_standard.specs.ReceivedBlock.{ReceivedBlock, has_received, with_received}
-use Rattle.rq_block.specs.Decoding.{IsUnanswered}
 use Rattle.rq_block.specs.Remembering.{HasNewId, IsStillFound}
 use Rattle.rq_block.specs.SourceBlockDecoder.{Solving, still_found, solving_after}
 use Rattle.rq_block.proofs.MissingCounts.{here_now}
@@ -48,13 +45,6 @@ module _ (old : ReceivedBlock) (before : Solving) where
 
   pub still_same : (now new : ReceivedBlock) (middle after : Solving) → IsStillFound old before now middle → new ≡ now → after ≡ middle → IsStillFound old before new after
   still_same now new middle after so same found = rw (same, found) so
-
-  -- of an attempt to answer the block
-  pub still_tried : {V : Type 0} (now new : ReceivedBlock) (middle after : Solving) (r : Result V Error) → IsStillFound old before now middle → new ≡ now
-      → IfErr r (IsUnanswered now) → IfErr r (λ e. e ≡ OutOfMemory → after ≡ middle) → IfErr r (λ e. e ≢ Contradiction → IsStillFound old before new after)
-  still_tried now new middle after (Ok v) so same why found = tt
-  still_tried now new middle after (Err e) so same why found = λ other.
-      elim why [ inl memory ↦ still_same now new middle after so same (found memory) | inr contradictory ↦ absurd (other contradictory.0) ]
 
   pub still_threshold : (new : ReceivedBlock) (after : Solving) → IsStillFound old before new after → after.sparse_threshold ≡ before.sparse_threshold
   still_threshold new after (inl same) = ap (λ (s : Solving). s.sparse_threshold) same.1

@@ -21,3 +21,4 @@ pub mod SourceBlockEncodingPlan
 pub mod SourceBlockEncodingPlanCache
 pub mod SourceSymbols
 pub mod SubBlocks
+pub mod WrittenPackets

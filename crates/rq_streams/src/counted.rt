@@ -34,6 +34,14 @@ impl<T> Counted<T> {
     {
         self.failed
     }
+
+    /// The reader or the writer, whose calls aren't counted any more.
+    pub fn into_inner(self) -> T
+        ensures { result ≡ inner self }
+    {
+        let Counted { inner, failed: _ } = self;
+        inner
+    }
 }
 
 impl<R: Read> Read for Counted<R> {

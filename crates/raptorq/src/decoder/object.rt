@@ -1,6 +1,7 @@
 //! The decoder of an object.
-ghost use Rattle.std.specs.Prelude.{◌≡◌, ◌↔◌, ℕ, ◌*◌, ◌-◌, ◌<◌, ◌≤◌, [], length, Ok, Some, None, IfSome, IfOk, IfErr, OnOk, OnErr, All, map, replicate, option_map, vec_items, is_some, IsSome};
+ghost use Rattle.std.specs.Prelude.{◌≡◌, ◌↔◌, ℕ, ◌*◌, ◌+◌, ◌-◌, ◌<◌, ◌≤◌, [], length, Ok, Some, None, IfSome, IfOk, IfErr, OnOk, OnErr, All, map, replicate, option_map, vec_items, is_some, IsSome};
 ghost use Rattle.std.specs.List.{range_with_len};
+ghost use Rattle.rq_bytes.specs.Ranges.{with_range};
 ghost use Rattle.std.specs.Option.{ForSome};
 ghost use Rattle.rq_bytes.specs.Refusals.{IsAnswer};
 ghost use Rattle.rq_standard.specs.Configuration.{IsAccepted, IsAligned, largest_block, total_symbols};
@@ -14,124 +15,13 @@ ghost use Rattle.rq_base.specs.RefusedInput.{checked_configuration};
 ghost use Rattle.rq_block.specs.SourceBlockDecoder.{received_of, solving_of, with_threshold, unsolved};
 ghost use Rattle.rq_block.specs.declared.encoder.TheConstants.{SPARSE_MATRIX_THRESHOLD};
 
-use crate::blocks::{block_symbols, symbols_before};
+use crate::blocks::symbols_before;
+use crate::decoder::block::ObjectBlock;
 use rq_base::base::{EncodingPacket, ObjectTransmissionInformation};
-use rq_block::decoder::{SourceBlockDecoder, check_size};
+use rq_block::decoder::check_size;
 use rq_bytes::error::Error;
 use rq_tables::systematic_constants::SystematicTable;
 use std::alloc::{AllocError, Global};
-
-// A block of an object: its decoder, and its bytes once they are answered.
-#[derive(Debug, PartialEq, Eq, Drop)]
-struct ObjectBlock {
-    decoder: SourceBlockDecoder,
-    answer: Option<Vec<u8>>,
-    pub ghost long: { ForSome answer (λ v. length v.items ≡ (received_of decoder).source_symbols * (received_of decoder).configuration.symbol_size) },
-}
-
-impl ObjectBlock {
-    ghost use Rattle.raptorq.specs.Unanswered.{ShowsUnanswered};
-    ghost use Rattle.rq_standard.specs.DecoderState.{IsReceivedOf, new_received, new_answer};
-    ghost use Rattle.raptorq.specs.Decoder.{answer_of};
-    ghost use Rattle.raptorq.specs.InTurn.{block_of, RecordsHere, AnswersHere};
-    ghost use Rattle.rq_block.specs.MissingPackets.{NeedsMore};
-    ghost use Rattle.raptorq.specs.Unanswered.{TellsMissingOf, missing_in};
-    ghost use Rattle.rq_block.specs.RefusedBlocks.{block_refusal};
-
-    // A block that has no packets. It is answered where it has no symbols.
-    fn new(
-        alloc: Global,
-        table: &SystematicTable,
-        config: &ObjectTransmissionInformation,
-        number: u8,
-    ) -> ObjectBlock
-        requires accepted { IsAccepted (greatest_size table.now) config.now }
-        requires few { largest_block config.now < 65536 }
-        requires number { number < config.now.source_blocks }
-        ensures received { received_of result.decoder ≡ new_received table.now config.now number }
-        ensures answer { answer_of result ≡ new_answer config.now number }
-        ensures shape { IsReceivedOf table.now config.now number (new_received table.now config.now number) }
-        ensures solving { solving_of result.decoder ≡ unsolved SPARSE_MATRIX_THRESHOLD }
-    {
-        let source_symbols = block_symbols(config, number);
-        let decoder = SourceBlockDecoder::of_symbols(alloc, table, number, config, source_symbols);
-        let answer = if source_symbols == 0 {
-            Some(Vec::new(alloc))
-        } else {
-            None
-        };
-        ObjectBlock { decoder, answer }
-    }
-
-    // Records a packet of the block. An answered block takes nothing more.
-    fn record(&mut self, packet: EncodingPacket) -> Result<(), Error>
-        requires { block_refusal (received_of self.old.decoder) packet ≡ Ok tt }
-        ensures records { RecordsHere packet result (block_of self.old) (block_of self.new) }
-        ensures memory { IfErr result (λ e. e ≡ Error.OutOfMemory) }
-        ensures number { (received_of self.new.decoder).number ≡ (received_of self.old.decoder).number }
-        ensures configuration { (received_of self.new.decoder).configuration ≡ (received_of self.old.decoder).configuration }
-        ensures symbols { (received_of self.new.decoder).source_symbols ≡ (received_of self.old.decoder).source_symbols }
-    {
-        if self.answer.is_some() {
-            return Ok(());
-        }
-        self.decoder.record(packet)?;
-        Ok(())
-    }
-
-    // Answers the block where what was received determines it, and keeps nothing but its bytes then.
-    fn find_answer(&mut self) -> Result<(), Error>
-        ensures answers { AnswersHere result (block_of self.old) (block_of self.new) }
-        ensures number { (received_of self.new.decoder).number ≡ (received_of self.old.decoder).number }
-        ensures configuration { (received_of self.new.decoder).configuration ≡ (received_of self.old.decoder).configuration }
-        ensures symbols { (received_of self.new.decoder).source_symbols ≡ (received_of self.old.decoder).source_symbols }
-    {
-        if self.answer.is_some() {
-            return Ok(());
-        }
-        self.answer = self.decoder.answer()?;
-        if self.answer.is_some() {
-            self.decoder.forget();
-        }
-        Ok(())
-    }
-
-    // How many packets more the block needs at least.
-    fn missing_packets(&self) -> Option<u32>
-        ensures value { result ≡ missing_in (answer_of self.now) (solving_of self.now.decoder).last_outcome (received_of self.now.decoder) }
-        ensures told { TellsMissingOf (received_of self.now.decoder) (answer_of self.now) result }
-        ensures needed { IfSome result (NeedsMore (received_of self.now.decoder)) }
-    {
-        if self.answer.is_some() {
-            return Some(0);
-        }
-        self.decoder.missing_packets()
-    }
-
-    // A column of octets that shows that the block isn't determined, where it has no answer.
-    fn homogeneous(&self) -> Result<Option<Vec<u8>>, Error>
-        ensures shown { IfOk result (λ column. ShowsUnanswered (received_of self.now.decoder) (answer_of self.now) (option_map vec_items column)) }
-        ensures memory { IfErr result (λ e. e ≡ Error.OutOfMemory) }
-    {
-        if self.answer.is_some() {
-            return Ok(None);
-        }
-        self.decoder.homogeneous()
-    }
-}
-
-impl Clone for ObjectBlock {
-    ghost use Rattle.raptorq.specs.Decoder.{answer_of};
-
-    ghost is_clone = { λ a b. (received_of b.decoder ≡ received_of a.decoder) × (answer_of b ≡ answer_of a) × (solving_of b.decoder ≡ solving_of a.decoder) };
-
-    fn clone(&self) -> Result<ObjectBlock, AllocError> {
-        Ok(ObjectBlock {
-            decoder: self.decoder.clone()?,
-            answer: self.answer.clone()?,
-        })
-    }
-}
 
 /// Puts an object together again from its packets (RFC 6330, section 5.4), from any that determine
 /// it, in any order.
@@ -303,6 +193,22 @@ impl Decoder {
         Ok(object)
     }
 
+    /// Writes the object over as many bytes as it has: what [`Decoder::get_result`] answers, without
+    /// taking memory. Each block is answered, which [`Decoder::is_complete`] tells. Not in the Rust crate.
+    pub fn write_result(&self, object: &mut [u8])
+        requires complete { IsSome (result_of (state_of self.now)) }
+        requires len { length object.old ≡ (state_of self.now).configuration.transfer_length }
+        ensures { Some object.new ≡ result_of (state_of self.now) }
+    {
+        let mut end = 0;
+        for number in 0..self.config.source_blocks() {
+            if let Some(bytes) = self.block_bytes(number) {
+                write_range(object, end, bytes);
+                end += bytes.len();
+            }
+        }
+    }
+
     // The block of a number, where the object has it.
     fn block(&self, number: u8) -> Option<&ObjectBlock>
         ensures at { IsBlockAt (state_of self.now) number (option_copied result) }
@@ -459,4 +365,12 @@ pub fn decode_all(
         decoder.add_new_packet(step.1)?;
     }
     decoder.get_result()
+}
+
+// Writes bytes over those from a place on.
+fn write_range(bytes: &mut [u8], start: usize, source: &[u8])
+    requires { start + length source.now ≤ length bytes.old }
+    ensures { bytes.new ≡ with_range bytes.old start source.now }
+{
+    bytes[start..start + source.len()].copy_from_slice(source);
 }

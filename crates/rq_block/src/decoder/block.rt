@@ -162,8 +162,15 @@ impl SourceBlockDecoder {
         self.sparse_threshold = value;
     }
 
-    /// The size of a symbol, in bytes.
-    pub(crate) fn symbol_size(&self) -> usize
+    /// The number of source symbols (K). Not in the Rust crate.
+    pub fn source_symbol_count(&self) -> u32
+        ensures { result ≡ (received_of self.now).source_symbols }
+    {
+        self.source_symbols
+    }
+
+    /// The size of a symbol, in bytes. Not in the Rust crate.
+    pub fn symbol_size(&self) -> usize
         ensures value { result ≡ (received_of self.now).configuration.symbol_size }
         ensures below { result < 65536 }
     {
@@ -233,6 +240,19 @@ impl SourceBlockDecoder {
         }
     }
 
+    /// Tests a packet, which is recorded where nothing is refused. Not in the Rust crate.
+    ///
+    /// Refuses, in this order, [`Error::UnknownBlock`] where the packet is of another block, and
+    /// [`Error::WrongPayloadSize`] where its payload hasn't the size of a symbol.
+    pub fn check(&self, packet: &EncodingPacket) -> Result<(), Error>
+        ensures { result ≡ block_refusal (received_of self.now) packet.now }
+    {
+        if packet.payload_id().source_block_number() != self.number {
+            return Err(Error::UnknownBlock);
+        }
+        check_size(&self.config, packet)
+    }
+
     // Tests a packet and records it.
     fn add(&mut self, packet: EncodingPacket) -> Result<(), Error>
         ensures tested { IsAnswer (λ _. tt) result (block_refusal (received_of self.old) packet) }
@@ -241,10 +261,7 @@ impl SourceBlockDecoder {
         ensures solving { OnOk result (solving_of self.new ≡ solving_after (received_of self.old) packet.id.esi (solving_of self.old)) }
         ensures kept { OnErr result (solving_of self.new ≡ solving_of self.old) }
     {
-        if packet.payload_id().source_block_number() != self.number {
-            return Err(Error::UnknownBlock);
-        }
-        check_size(&self.config, &packet)?;
+        self.check(&packet)?;
         self.record(packet)?;
         Ok(())
     }

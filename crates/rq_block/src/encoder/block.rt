@@ -1,5 +1,5 @@
 //! The encoder of one source block.
-ghost use Rattle.std.specs.Prelude.{◌≡◌, ◌+◌, ◌-◌, ◌/◌, ◌^◌, ◌<◌, ◌≤◌, All, length, None, IfOk, IfErr, OnOk, OnErr};
+ghost use Rattle.std.specs.Prelude.{◌≡◌, ◌+◌, ◌-◌, ◌*◌, ◌/◌, ◌^◌, ◌<◌, ◌≤◌, All, length, None, IfOk, IfErr, OnOk, OnErr};
 ghost use Rattle.rq_bytes.specs.Refusals.{IsAnswer};
 ghost use Rattle.rq_bytes.specs.SymbolSlab.{symbol_in, symbols_in};
 ghost use Rattle.rq_standard.specs.Configuration.{IsAligned};
@@ -7,13 +7,14 @@ ghost use Rattle.rq_standard.specs.Headline.{IsNonsingular, IsOnlyIntermediateCo
 ghost use Rattle.rq_standard.specs.TableRows.{greatest_size, intermediate_symbols};
 ghost use Rattle.rq_block.specs.RefusedBlocks.{wanted_count, repair_refusal, AreWholeSymbols};
 
-use crate::enc::encoding_symbol;
+use crate::enc::{add_encoding_symbol, encoding_symbol};
 use crate::encoder::cache::SourceBlockEncodingPlanCache;
 use crate::encoder::plan::SourceBlockEncodingPlan;
 use crate::ids::internal_symbol_id;
 use crate::sub_blocks::BlockLayout;
 use rq_base::base::{
-    ENCODING_SYMBOL_IDS, EncodingPacket, ObjectTransmissionInformation, PayloadId,
+    ENCODING_SYMBOL_IDS, EncodingPacket, ObjectTransmissionInformation, PAYLOAD_ID_LENGTH,
+    PayloadId,
 };
 use rq_bytes::error::Error;
 use rq_bytes::symbol_slab::SymbolSlab;
@@ -45,7 +46,9 @@ pub struct SourceBlockEncoder {
 
 impl SourceBlockEncoder {
     ghost use Rattle.rq_base.specs.RefusedInput.{new_id};
+    ghost use Rattle.rq_standard.specs.Packet.{id_bytes};
     ghost use Rattle.rq_block.specs.SourceBlockEncoder.{block_encoded_of, IsBlockPacket, AreBlockPackets};
+    ghost use Rattle.rq_block.specs.WrittenPackets.{AreStretchBytes, IsFrame, WritesFrame};
     ghost use Rattle.rq_block.specs.BlockData.{block_of, block_by_plan, IsPlanFor, RefusesBlock, RefusesPlanned};
     ghost use Rattle.rq_block.specs.SourceBlockEncodingPlanCache.{after_use};
     ghost use Rattle.rq_block.specs.SourceBlockEncodingPlan.{plan_of};
@@ -209,6 +212,73 @@ impl SourceBlockEncoder {
     {
         let id = PayloadId::new(self.number, encoding_symbol_id)?;
         Ok(EncodingPacket::new(id, self.payload(encoding_symbol_id)?))
+    }
+
+    /// Writes the packets with the encoding symbol ids from `start` on and before `end` over as many
+    /// bytes as they take, each its payload id of 4 bytes and its symbol. Not in the Rust crate.
+    pub fn write_packets(&self, start: u32, end: u32, packets: &mut [u8])
+        requires order { start ≤ end }
+        requires ids { end ≤ 2 ^ 24 }
+        requires len { length packets.old ≡ (end - start) * (4 + (block_encoded_of self.now).size) }
+        ensures { AreStretchBytes (block_encoded_of self.now) start (end - start) packets.new }
+    {
+        let len = self.packet_length();
+        for esi in start..end {
+            let place = (esi - start) as usize * len;
+            self.write_packet_at(esi, place, packets);
+        }
+    }
+
+    /// How many bytes a packet takes: its payload id and its symbol. Not in the Rust crate.
+    pub fn packet_length(&self) -> usize
+        ensures { result ≡ 4 + (block_encoded_of self.now).size }
+    {
+        // Of a symbol that is there, whose length is known to be small.
+        PAYLOAD_ID_LENGTH + self.intermediate.get(0).len()
+    }
+
+    // Writes the packet of an encoding symbol id over the bytes from a place on.
+    fn write_packet_at(&self, esi: u32, place: usize, packets: &mut [u8])
+        requires id { esi < 2 ^ 24 }
+        requires within { place + (4 + (block_encoded_of self.now).size) ≤ length packets.old }
+        ensures { WritesFrame (block_encoded_of self.now) esi place packets.old packets.new }
+    {
+        let end = place + self.packet_length();
+        self.write_packet(esi, &mut packets[place..end]);
+    }
+
+    /// Writes the packet of an encoding symbol id over as many bytes as it takes. Not in the Rust crate.
+    pub fn write_packet(&self, esi: u32, packet: &mut [u8])
+        requires id { esi < 2 ^ 24 }
+        requires len { length packet.old ≡ 4 + (block_encoded_of self.now).size }
+        ensures { IsFrame (block_encoded_of self.now) esi packet.new }
+    {
+        let (id, symbol) = packet.split_at_mut(PAYLOAD_ID_LENGTH);
+        id.copy_from_slice(&self.id_bytes(esi));
+        self.write_symbol(esi, symbol);
+    }
+
+    // The bytes of the payload id of an encoding symbol id.
+    fn id_bytes(&self, esi: u32) -> [u8; PAYLOAD_ID_LENGTH]
+        requires { esi < 2 ^ 24 }
+        ensures { result ≡ id_bytes (record { block = (block_encoded_of self.now).number; esi = esi }) }
+    {
+        (u32::from(self.number) * ENCODING_SYMBOL_IDS + esi).to_be_bytes()
+    }
+
+    // Writes the payload of an encoding symbol id: a source symbol, or a sum of intermediate symbols.
+    fn write_symbol(&self, esi: u32, symbol: &mut [u8])
+        requires id { esi < 2 ^ 24 }
+        requires len { length symbol.old ≡ (block_encoded_of self.now).size }
+        ensures { let b = block_encoded_of self.now in IsEncodingSymbol b.row b.size b.source esi symbol.new }
+    {
+        if esi < self.source_symbol_count() {
+            symbol.copy_from_slice(self.source.get(esi as usize));
+            return;
+        }
+        symbol.fill(0);
+        let internal = internal_symbol_id(&self.row, self.source_symbol_count(), esi);
+        add_encoding_symbol(&self.row, &self.intermediate, internal, symbol);
     }
 
     // The payload of an encoding symbol id: a source symbol, or a sum of intermediate symbols.

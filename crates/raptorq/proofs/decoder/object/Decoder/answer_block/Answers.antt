@@ -1,4 +1,4 @@
-use Rattle.std.proofs.Common.{◌≡◌, ◌<◌, length, refl, arith}
+use Rattle.std.proofs.Common.{◌<◌, length, refl, arith}
 use Rattle.rq_block.proofs.Numbered.{length-numbered}
 use Rattle.raptorq.specs.InTurn.{AnswersHere}
 use Rattle.raptorq.proofs.InTurn.{answers_number}

@@ -1,7 +1,7 @@
 use Rattle.std.proofs.Common.{◌≡◌, true, false, rules, tests}
 use Rattle.std.specs.Prelude.{is_some}
 use Rattle.std.proofs.lemmas.Iterator.{cases_from_all, YieldsList-from_slice}
-use Rattle.raptorq.specs.declared.decoder.object.ObjectBlock.{ObjectBlock}
+use Rattle.raptorq.specs.declared.decoder.block.ObjectBlock.{ObjectBlock}
 use Rattle.raptorq.proofs.ObjectBlocks.{all_answered}
 use Rattle.raptorq.proofs.decoder.object.Decoder.is_complete.Goals as goal
 
