@@ -5,6 +5,10 @@ python/reamertan/_calls.py, by ctypes, are compared as they are."""
 import ctypes
 import re
 
+# What calls keep behind pointers, by its names in C, and what stands for all of them in Rattle: what a pointer of C's points to, and the
+# pointer, where a call writes it.
+CODERS = {"encoder", "plan", "block_encoder", "decoder", "block_decoder"}
+KEPT, SLOT = "Kept", "Slot"
 CTYPES = {
     "()": None,
     "bool": ctypes.c_bool,
@@ -25,16 +29,22 @@ def parts(text, separator):
     return [squeezed(part) for part in text.split(separator) if part.strip()]
 
 
+def camel(name):
+    return "".join(word.capitalize() for word in name.split("_"))
+
+
 def c_pair(text):
     """The name and the type of a parameter, a field or a call in C."""
-    found = re.fullmatch(r"(const )?(struct reamertan_)?(\w+) (\*?)(\w+)(\[REAMERTAN_CONFIGURATION_BYTES\])?", text)
-    if not found:
+    found = re.fullmatch(r"(const )?(struct )?(reamertan_)?(\w+) (\*{0,2})(\w+)(\[REAMERTAN_CONFIGURATION_BYTES\])?", text)
+    if not found or found[3] and not found[2] and (found[1] or found[4] not in CODERS or not found[5]):
         raise ValueError(f"no parameter, field or call of C that can be read: {text}")
-    constant, struct, kind, star, name, array = found.groups()
-    kind = kind.capitalize() if struct else C_TYPES.get(kind, kind)
+    constant, _, own, kind, stars, name, array = found.groups()
+    kind = camel(kind) if own else C_TYPES.get(kind, kind)
     if array:
         kind = "Configuration"
-    return name, f"*{'const' if constant else 'mut'} {kind}" if star or array else kind
+    if stars == "**":
+        kind = f"*mut {kind}"
+    return name, f"*{'const' if constant else 'mut'} {kind}" if stars or array else kind
 
 
 def c_calls(text, end):
@@ -54,12 +64,17 @@ def constants(text):
 def header(text):
     """The calls and structs of the header, in its order."""
     text = re.sub(r"/\*.*?\*/", "", text, flags=re.S)
-    # A struct that stands within another one has the name of its field.
-    nested = r"struct \{([^{}]*)\} (\w+);"
-    structs = {name.capitalize(): fields for fields, name in re.findall(nested, text)}
-    text = re.sub(nested, lambda found: f"{found[2].capitalize()} {found[2]};", text)
-    structs |= {name.capitalize(): fields for name, fields in re.findall(r"^struct reamertan_(\w+) \{([^{}]*)\};", text, re.M)}
+    structs = {camel(name): fields for name, fields in re.findall(r"^struct reamertan_(\w+) \{([^{}]*)\};", text, re.M)}
     return c_calls(text, ";"), {name: [c_pair(part) for part in parts(fields, ";")] for name, fields in structs.items()}
+
+
+def in_rattle(wanted):
+    """The header's calls and structs as Rattle has them, where one type stands for all coders, and one for pointers to them."""
+    calls, structs = wanted
+    spelled = {f"*mut {camel(name)}": f"*mut {KEPT}" for name in CODERS} | {f"*mut *mut {camel(name)}": f"*mut {SLOT}" for name in CODERS}
+    return {
+        name: ([(parameter, spelled.get(kind, kind)) for parameter, kind in pairs], result) for name, (pairs, result) in calls.items()
+    }, structs
 
 
 def c_pairs(name, kind):
@@ -81,7 +96,7 @@ def rust_calls(text, start, spelled):
     """The calls behind these words, in their order."""
     calls = {}
     unread = len(re.findall(start + r"fn \w+", text))
-    for name, parameters, result in re.findall(start + r"fn (reamertan_\w+)\(([^()]*)\)(?: -> (\w+))?", text):
+    for name, parameters, result in re.findall(start + r"fn (reamertan_\w+)\(([^()]*)\)(?:\s+-> (\w+))?", text):
         pairs = [part.split(": ", 1) for part in parts(parameters, ",")]
         calls[name] = [pair for name_and_kind in pairs for pair in spelled(*name_and_kind)], result or "()"
         unread -= 1
@@ -103,7 +118,8 @@ def rust_structs(text):
 def exports(texts):
     """The calls and structs of the sources of crates/raptorq_c."""
     text = "\n".join(texts)
-    return rust_calls(text, r'pub extern "C" ', c_pairs), rust_structs(text)
+    structs = {name: fields for name, fields in rust_structs(text).items() if name not in (KEPT, SLOT)}
+    return rust_calls(text, r'pub extern "C" ', c_pairs), structs
 
 
 def wrapper(text):
@@ -146,13 +162,16 @@ def differences(place, found, wanted, is_whole):
 
 def in_ctypes(kind, structs):
     """What stands for a type of the header in Python, where these are the structs."""
-    known = {**CTYPES, **structs}
+    known = {**CTYPES, **structs, **{camel(name): None for name in CODERS}}
+    if kind.startswith("*mut *mut "):
+        return ctypes.POINTER(ctypes.c_void_p)
     pointer = re.fullmatch(r"\*(?:const|mut) (\w+)", kind)
     if not pointer:
         return known[kind]
     if pointer[1] in ("u8", "char", "Configuration"):
         return ctypes.c_char_p
-    return ctypes.c_void_p if pointer[1] == "Row" else ctypes.POINTER(known[pointer[1]])
+    # A pointer to a coder is never followed, and that to a bool goes as its address.
+    return ctypes.c_void_p if known[pointer[1]] in (None, ctypes.c_bool) else ctypes.POINTER(known[pointer[1]])
 
 
 def module_differences(declared, wanted):
@@ -160,8 +179,7 @@ def module_differences(declared, wanted):
     calls, structs = wanted
     classes = {name: getattr(declared, name) for name in structs if hasattr(declared, name)}
     for name, made in classes.items():
-        # A pointer to bytes that a struct owns is never followed.
-        fields = [(field, ctypes.c_void_p if kind == "*mut u8" else in_ctypes(kind, classes)) for field, kind in structs[name]]
+        fields = [(field, in_ctypes(kind, classes)) for field, kind in structs[name]]
         if made._fields_ != fields:
             yield f"python/reamertan/_calls.py: {name} is {made._fields_}, and in the header {fields}"
     for name, found in declared.CALLS.items():

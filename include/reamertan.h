@@ -8,21 +8,28 @@
  * 12 bytes of RFC 6330, 3.3 (Common and Scheme-Specific FEC Object Transmission Information), which go
  * before the packets in a stream. Any 12 bytes may be handed in.
  *
- * Calls on buffers read and write these alone and keep no memory. Calls on a handle keep a coder in it
- * between them, for those who send or receive packet by packet. What a call writes may not overlap what it
- * reads. A call that answers another number than REAMERTAN_DONE leaves the caller's buffers as they were.
+ * A call that answers another number than REAMERTAN_DONE leaves the caller's buffers as they were, but for `completes`. A buffer
+ * that is to be filled has exactly the length of what is written, and may be uninitialised.
  *
- * `rows` may be null where `row_count` is 0, which is tested. No other pointer may be null, also where its length
- * is 0: what is proved is of bytes that lie somewhere. `data()` of an empty vector of C++ may be null: hand in any
- * other address then.
+ * A coder is kept behind a pointer: an encoder of an object or of a block, a plan, a decoder of an object or of a
+ * block. `open`, and what shares or copies a coder, writes a pointer over a null one. `close` frees the coder and
+ * makes the pointer null; over a null one it does nothing. A coder that isn't closed leaks.
  *
  * The library takes memory by malloc and realloc and gives it back by free, and starts no thread. It is
  * proved for programs that keep to this, which nothing looks for:
+ *   no pointer is null, also where its length is 0, but the one that `open`, `share` or `copy` writes over, which has
+ *     to be null, and the one that `close` makes null, which may be. `data()` of an empty vector of C++ may be null:
+ *     hand in any other address then;
+ *   where a call takes a coder, the pointer is one that a call of the same kind of coder wrote, and that wasn't
+ *     closed since. Nothing but these calls reads or writes what it points to, or copies it;
+ *   what a call writes overlaps nothing else that it is handed;
+ *   a bool that a call writes over has a value before: `bool completes = false;`;
+ *   calls may be made from any thread, several at a time, but of one pointer to a coder one at a time. A pointer goes to
+ *     another thread in the order of a lock, of a thread's start or join, or of a sequentially consistent atomic;
  *   the three come from one allocator, and align a block to each power of two up to 16 that divides its size,
  *     as those of the C library do;
  *   no call is made from a signal handler, nor in a process that a process with threads forked, before it
  *     executes another program;
- *   calls may be made from any thread, several at a time, but of one handle one at a time;
  *   a call finds 32 KiB of stack. The most that one took in a thread of its own, of 10 to 56403 symbols a block, was
  *     12 KiB.
  *
@@ -36,10 +43,9 @@
  * linked with the library, but ends it with 127 and a line that says why. What is linked statically, or by another
  * linker, runs until a call ends it (SIGILL).
  *
- * `reamertan_processor`, `reamertan_answer_text` and `reamertan_further_rows` answer constants, so that a program in
- * another language reads no header. They are written in C, and not proved. Any processor of the architecture runs
- * them, so that a program may ask which build runs before it makes another call. What they point at is there as long
- * as the library is loaded.
+ * `reamertan_processor` and `reamertan_answer_text` answer constants, so that a program in another language reads no
+ * header. They are written in C, and not proved. Any processor of the architecture runs them, so that a program may ask
+ * which build runs before it makes another call. What they point at is there as long as the library is loaded.
  */
 #ifndef REAMERTAN_H
 #define REAMERTAN_H
@@ -69,6 +75,10 @@ extern "C" {
 /* The decoder's memory, in bytes, of a default configuration. */
 #define REAMERTAN_DEFAULT_DECODER_MEMORY 10485760
 
+/* Source blocks of at most so many symbols are coded fastest, and none has more than the second number. */
+#define REAMERTAN_FAST_BLOCK 497
+#define REAMERTAN_GREATEST_BLOCK 56403
+
 /* What calls answer. Refusals have the numbers of the codec's `Error::code`: those from 1 to 23 and, in later
  * versions, from 32 on. Those from 24 to 31 are for what this library answers beside them. Made by errors/make_lists. */
 enum reamertan_answer {
@@ -86,7 +96,7 @@ enum reamertan_answer {
     REAMERTAN_SYMBOL_SIZE_ZERO = 5,
     /* The number of source blocks is 0. */
     REAMERTAN_SOURCE_BLOCKS_ZERO = 6,
-    /* A source block has more symbols than the table's greatest row: 497, or K' of the last row handed in. */
+    /* A source block has more symbols than the table's greatest row, 56403. */
     REAMERTAN_BLOCK_OVER_TABLE = 7,
     /* The object has another length than its configuration says. */
     REAMERTAN_WRONG_DATA_LENGTH = 8,
@@ -110,8 +120,6 @@ enum reamertan_answer {
     REAMERTAN_MEMORY_REQUIREMENT_TOO_SMALL = 17,
     /* The object would need more than 255 source blocks. */
     REAMERTAN_TOO_MANY_BLOCKS = 18,
-    /* A row that is handed in fails a check. */
-    REAMERTAN_ROW_REFUSED = 19,
     /* malloc or realloc refused. */
     REAMERTAN_OUT_OF_MEMORY = 21,
     /* The packets of a block determine it, and no block fits all of them: some are damaged or forged. */
@@ -119,9 +127,7 @@ enum reamertan_answer {
     /* A buffer that is to be filled has another length than what is to be written. */
     REAMERTAN_WRONG_BUFFER = 24,
     /* The packets don't determine the object, or the block asked for, or some of them contradict each other. */
-    REAMERTAN_INCOMPLETE = 25,
-    /* The handle holds no coder, or one of another kind. */
-    REAMERTAN_NO_CODER = 26
+    REAMERTAN_INCOMPLETE = 25
 };
 
 /* What a call answered, in words. Each number has a text, and those that are no answers have one in common. */
@@ -132,6 +138,8 @@ uint32_t reamertan_version(void);
 
 /* The processor that the build which runs is for: "x86-64-v2", "x86-64-v3" or "aarch64". */
 const char *reamertan_processor(void);
+
+/* ---- Configurations */
 
 /* The numbers of a configuration. */
 struct reamertan_parameters {
@@ -148,38 +156,24 @@ struct reamertan_range {
     uint64_t end;
 };
 
-/* A row of the table of RFC 6330, 5.6: the numbers of source blocks of up to K' symbols. 74 rows are built
- * in, for up to 497 symbols. The calls that need a table take the rows that follow them, `rows`, of which
- * there are `row_count`: NULL and 0 for the built-in ones alone. reamertan_rows.h has all others. Sender and
- * receiver need the same row for a block.
+/* Writes the configuration of an object of `object_length` bytes in symbols of `symbol_size` bytes, cut into as few
+ * source blocks as have at most `block_symbols` symbols each, with one sub-block and an alignment of 1. Coders take it.
+ * Blocks of REAMERTAN_FAST_BLOCK symbols are coded several times as fast as those of REAMERTAN_GREATEST_BLOCK; of
+ * larger blocks more packets can stand for a lost one.
  *
- * Such a call first tests the rows, in their order, and refuses ROW_REFUSED where one fails:
- *   K' is the size that follows that of the row before, 511 in the first;
- *   S is odd;
- *   W - S is at least 1, at most S * (S - 1) and at most K';
- *   H is at least 2, at most K' and at most 255;
- *   P = K' + S + H - W is at least 3, at most P1 and at least half of P1, the number that belongs to K';
- *   K' + S + H is below 65536;
- *   J is at most 1000.
- * Which row failed, and how, isn't told. A row that passes may still be SINGULAR. */
-struct reamertan_row {
-    uint32_t extended_symbols; /* K': source and padding symbols of a block */
-    uint32_t systematic_index; /* J */
-    uint32_t ldpc_symbols;     /* S */
-    uint32_t hdpc_symbols;     /* H */
-    uint32_t lt_symbols;       /* W */
-};
-
-/* The first of the rows of reamertan_rows.h, which lie one behind another. Writes how many there are. */
-const struct reamertan_row *reamertan_further_rows(size_t *count);
+ * Refuses, in this order: SYMBOL_SIZE_ZERO, TRANSFER_LENGTH_ZERO, TOO_MANY_BLOCKS, also where `block_symbols` is 0,
+ * TRANSFER_TOO_LONG, TOO_MANY_SYMBOLS. */
+uint8_t reamertan_cut(uint64_t object_length, uint16_t symbol_size, uint16_t block_symbols,
+                      uint8_t configuration[REAMERTAN_CONFIGURATION_BYTES]);
 
 /* Writes the configuration of an object of `object_length` bytes in packets of at most `packet_size`
- * bytes of payload, each of whose sub-blocks fits `decoder_memory` bytes (RFC 6330, 4.3).
+ * bytes of payload, each of whose sub-blocks fits `decoder_memory` bytes (RFC 6330, 4.3), with
+ * REAMERTAN_DEFAULT_DECODER_MEMORY that of the Rust crate `raptorq`. Blocks have up to 56403 symbols:
+ * `reamertan_cut` makes smaller ones, which are faster.
  *
- * Refuses, in this order: ROW_REFUSED, PACKET_SIZE_ZERO, TRANSFER_LENGTH_ZERO, TRANSFER_TOO_LONG,
+ * Refuses, in this order: PACKET_SIZE_ZERO, TRANSFER_LENGTH_ZERO, TRANSFER_TOO_LONG,
  * MEMORY_REQUIREMENT_TOO_SMALL, TOO_MANY_BLOCKS. OUT_OF_MEMORY may come before any. */
-uint8_t reamertan_derive_configuration(const struct reamertan_row *rows, size_t row_count,
-                                       uint64_t object_length, uint16_t packet_size,
+uint8_t reamertan_derive_configuration(uint64_t object_length, uint16_t packet_size,
                                        uint64_t decoder_memory,
                                        uint8_t configuration[REAMERTAN_CONFIGURATION_BYTES]);
 
@@ -196,10 +190,9 @@ void reamertan_read_configuration(const uint8_t configuration[REAMERTAN_CONFIGUR
 
 /* Whether coders take a configuration.
  *
- * Refuses, in this order: ROW_REFUSED, SYMBOL_SIZE_ZERO, ALIGNMENT_ZERO, MISALIGNED, SOURCE_BLOCKS_ZERO,
+ * Refuses, in this order: SYMBOL_SIZE_ZERO, ALIGNMENT_ZERO, MISALIGNED, SOURCE_BLOCKS_ZERO,
  * BLOCK_OVER_TABLE. OUT_OF_MEMORY may come before any. */
-uint8_t reamertan_check_configuration(const struct reamertan_row *rows, size_t row_count,
-                                      const uint8_t configuration[REAMERTAN_CONFIGURATION_BYTES]);
+uint8_t reamertan_check_configuration(const uint8_t configuration[REAMERTAN_CONFIGURATION_BYTES]);
 
 /* Writes where source block `block` begins and where it ends in the object, in bytes (RFC 6330, 4.4.1.2).
  * It has (end - start) / T source symbols. The last blocks can end past the object, which is filled up
@@ -216,9 +209,10 @@ uint8_t reamertan_block_range(const uint8_t configuration[REAMERTAN_CONFIGURATIO
  *
  * Refuses, in this order: what `reamertan_check_configuration` refuses, ESI_TOO_LARGE. OUT_OF_MEMORY
  * may come before any. */
-uint8_t reamertan_packets_length(const struct reamertan_row *rows, size_t row_count,
-                                 const uint8_t configuration[REAMERTAN_CONFIGURATION_BYTES],
+uint8_t reamertan_packets_length(const uint8_t configuration[REAMERTAN_CONFIGURATION_BYTES],
                                  uint32_t repair, uint64_t *length);
+
+/* ---- Whole objects */
 
 /* Fills `packets` with the packets of an object: block by block those of its source symbols, and then
  * of `repair` repair symbols. `packets_length` has to be what they take together, as
@@ -226,8 +220,7 @@ uint8_t reamertan_packets_length(const struct reamertan_row *rows, size_t row_co
  *
  * Refuses, in this order: what `reamertan_check_configuration` refuses, WRONG_DATA_LENGTH, SINGULAR,
  * ESI_TOO_LARGE, WRONG_BUFFER. OUT_OF_MEMORY may come before any. */
-uint8_t reamertan_encode(const struct reamertan_row *rows, size_t row_count,
-                         const uint8_t configuration[REAMERTAN_CONFIGURATION_BYTES],
+uint8_t reamertan_encode(const uint8_t configuration[REAMERTAN_CONFIGURATION_BYTES],
                          const uint8_t *object, size_t object_length, uint32_t repair,
                          uint8_t *packets, size_t packets_length);
 
@@ -238,183 +231,201 @@ uint8_t reamertan_encode(const struct reamertan_row *rows, size_t row_count,
  * CONTRADICTION, INCOMPLETE or WRONG_BUFFER.
  *
  * Refuses, in this order:
- *   ROW_REFUSED;
  *   PACKET_TOO_SHORT, where the last packet is shorter than its id;
- *   what else `reamertan_check_configuration` refuses;
+ *   what `reamertan_check_configuration` refuses;
  *   of the first packet that is refused UNKNOWN_BLOCK, or WRONG_PAYLOAD_SIZE (the last packet may be cut
  *     short), or CONTRADICTION: with it those of its block, which has no answer yet, determine the block,
  *     and no block fits them all;
  *   INCOMPLETE;
  *   WRONG_BUFFER.
  * OUT_OF_MEMORY may come before any. */
-uint8_t reamertan_decode(const struct reamertan_row *rows, size_t row_count,
-                         const uint8_t configuration[REAMERTAN_CONFIGURATION_BYTES],
+uint8_t reamertan_decode(const uint8_t configuration[REAMERTAN_CONFIGURATION_BYTES],
                          const uint8_t *packets, size_t packets_length, uint8_t *object,
                          size_t object_length);
 
-/* A coder between calls: an encoder of an object or of a block, a plan, a decoder, or none. It begins as none, by `struct reamertan_handle handle =
- * REAMERTAN_HANDLE_INIT;` or with all bytes zero, and is then changed by the calls below alone. The caller doesn't
- * copy it, except to move it: of the two only one is used from then on. It is used by one call at a time, and may go
- * to another thread, in the order of a lock, of a thread's start or join, or of a sequentially consistent
- * atomic. What a call opened stays until `reamertan_close` frees it, or another call opens a coder in its
- * place. A handle that isn't closed leaks its coder. */
-struct reamertan_handle {
-    bool full;
-    struct {
-        uint8_t *at;
-    } owned;
-};
+/* ---- Senders */
 
-/* A handle that holds none, in C and in C++. */
-#define REAMERTAN_HANDLE_INIT {false, {NULL}}
+/* Makes the packets of an object. */
+typedef struct reamertan_encoder reamertan_encoder;
 
-/* Makes the encoder of an object, which the handle holds from then on. A coder that it held is freed.
- * The object's bytes and the rows aren't needed any more.
+/* Solves the equations of source blocks of one number of symbols, whatever their bytes and their symbols' size. */
+typedef struct reamertan_plan reamertan_plan;
+
+/* Makes the packets of a source block. */
+typedef struct reamertan_block_encoder reamertan_block_encoder;
+
+/* Makes the encoder of an object. The object's bytes aren't needed any more.
  *
  * Refuses, in this order: what `reamertan_check_configuration` refuses, WRONG_DATA_LENGTH, SINGULAR.
- * OUT_OF_MEMORY may come before any. Where it refuses, the handle holds what it held. */
-uint8_t reamertan_open_encoder(const struct reamertan_row *rows, size_t row_count,
+ * OUT_OF_MEMORY may come before any. Where it refuses, the pointer stays null. */
+uint8_t reamertan_encoder_open(reamertan_encoder **encoder,
                                const uint8_t configuration[REAMERTAN_CONFIGURATION_BYTES],
-                               const uint8_t *object, size_t object_length,
-                               struct reamertan_handle *handle);
-
-/* Fills `packet` with the packet of source block `block` and encoding symbol id `esi`: below the block's
- * number of source symbols that of a source symbol, and else that of a repair symbol. `packet_length` has
- * to be 4 + T.
- *
- * Refuses, in this order: NO_CODER where the handle holds no encoder of an object, ESI_TOO_LARGE where
- * `esi` is above 2^24 - 1, UNKNOWN_BLOCK, OUT_OF_MEMORY, WRONG_BUFFER. */
-uint8_t reamertan_write_packet(struct reamertan_handle *handle, uint8_t block, uint32_t esi,
-                               uint8_t *packet, size_t packet_length);
+                               const uint8_t *object, size_t object_length);
 
 /* Fills `packets` with `count` packets of source block `block`, those of the encoding symbol ids from `first` on, one
- * behind another. `packets_length` has to be `count` * (4 + T).
+ * behind another: below the block's number of source symbols those of source symbols, and else of repair symbols.
+ * `packets_length` has to be `count` * (4 + T). No memory is taken.
  *
- * Refuses, in this order: NO_CODER where the handle holds no encoder of an object, ESI_TOO_LARGE where `first` +
- * `count` is above 2^24, UNKNOWN_BLOCK, OUT_OF_MEMORY, WRONG_BUFFER. */
-uint8_t reamertan_write_packets(struct reamertan_handle *handle, uint8_t block, uint32_t first, uint32_t count,
+ * Refuses, in this order: ESI_TOO_LARGE where `first` + `count` is above 2^24, UNKNOWN_BLOCK, WRONG_BUFFER. */
+uint8_t reamertan_encoder_write(reamertan_encoder *encoder, uint8_t block, uint32_t first, uint32_t count,
                                 uint8_t *packets, size_t packets_length);
 
-/* Makes the plan of source blocks of `source_symbols` symbols, which the handle holds from then on. A coder that it
- * held is freed. The rows aren't needed any more. Blocks of one size share a plan, whatever their symbols' size: it is
- * most of the work of an encoder of small symbols.
+/* Makes `twin` a further pointer to the encoder, without a copy. Each is used and closed by itself, and one may be used
+ * by one thread while the other is used by another. The last one that is closed frees the encoder.
  *
- * Refuses, in this order: ROW_REFUSED, BLOCK_OVER_TABLE, SINGULAR. OUT_OF_MEMORY may come before any. Where it
- * refuses, the handle holds what it held. */
-uint8_t reamertan_open_plan(const struct reamertan_row *rows, size_t row_count, uint16_t source_symbols,
-                            struct reamertan_handle *handle);
+ * Refuses OUT_OF_MEMORY. Where it refuses, `twin` stays null. */
+uint8_t reamertan_encoder_share(reamertan_encoder *encoder, reamertan_encoder **twin);
 
-/* Makes the encoder of source block `block`, whose bytes are `bytes`, by the plan that `plan` holds. `handle`, which
- * isn't `plan`, holds it from then on. A coder that it held is freed. Neither the plan is needed any more, nor bytes
- * and rows. Of the configuration the symbol size is read, the number of sub-blocks and the alignment. The bytes are
- * all of the block's, with the zeros that fill up the last one: `end` - `start` of `reamertan_block_range`.
- *
- * Refuses, in this order: NO_CODER where `plan` holds no plan, ROW_REFUSED, SYMBOL_SIZE_ZERO, ALIGNMENT_ZERO,
- * MISALIGNED, WRONG_DATA_LENGTH where the bytes aren't whole symbols, BLOCK_OVER_TABLE, PLAN_MISMATCH. OUT_OF_MEMORY
- * may come before any of these but NO_CODER. Where it refuses, `handle` holds what it held. */
-uint8_t reamertan_open_block_encoder(const struct reamertan_row *rows, size_t row_count,
-                                     const uint8_t configuration[REAMERTAN_CONFIGURATION_BYTES],
-                                     uint8_t block, const uint8_t *bytes, size_t length,
-                                     struct reamertan_handle *plan, struct reamertan_handle *handle);
+/* Frees an encoder, unless another pointer shares it, and makes the pointer null. Does nothing over a null pointer. */
+void reamertan_encoder_close(reamertan_encoder **encoder);
 
-/* Does the same by the plan alone, for blocks of one size one after another: with the rows that the plan was made of it
- * is the same encoder, and no table is made of them.
+/* Makes the plan of source blocks of `source_symbols` symbols: most of the work of an encoder of small symbols, which
+ * blocks of one size share.
  *
- * Refuses, in this order: NO_CODER where `plan` holds no plan, SYMBOL_SIZE_ZERO, ALIGNMENT_ZERO, MISALIGNED,
- * WRONG_DATA_LENGTH where the bytes aren't whole symbols, PLAN_MISMATCH where the plan is for another number of them.
- * OUT_OF_MEMORY may come before any of these but NO_CODER. Where it refuses, `handle` holds what it held. */
-uint8_t reamertan_open_planned_encoder(const uint8_t configuration[REAMERTAN_CONFIGURATION_BYTES], uint8_t block,
-                                       const uint8_t *bytes, size_t length, struct reamertan_handle *plan,
-                                       struct reamertan_handle *handle);
+ * Refuses, in this order: BLOCK_OVER_TABLE, SINGULAR. OUT_OF_MEMORY may come before any. Where it refuses, the pointer
+ * stays null. */
+uint8_t reamertan_plan_open(reamertan_plan **plan, uint16_t source_symbols);
 
-/* Fills `packets` with `count` packets of the block whose encoder the handle holds, as `reamertan_write_packets` does.
+/* Makes `twin` a further pointer to the plan, as `reamertan_encoder_share` does. */
+uint8_t reamertan_plan_share(reamertan_plan *plan, reamertan_plan **twin);
+
+/* Frees a plan, unless another pointer shares it, and makes the pointer null. Does nothing over a null pointer. */
+void reamertan_plan_close(reamertan_plan **plan);
+
+/* Makes the encoder of source block `block` by a plan. Neither the plan is needed any more, nor the bytes. Of the
+ * configuration the symbol size is read, the number of sub-blocks and the alignment. The bytes are all of the block's,
+ * with the zeros that fill up the last one: `end` - `start` of `reamertan_block_range`.
  *
- * Refuses, in this order: NO_CODER where the handle holds no encoder of a block, ESI_TOO_LARGE, OUT_OF_MEMORY,
- * WRONG_BUFFER. */
-uint8_t reamertan_write_block_packets(struct reamertan_handle *handle, uint32_t first, uint32_t count,
+ * Refuses, in this order: SYMBOL_SIZE_ZERO, ALIGNMENT_ZERO, MISALIGNED, WRONG_DATA_LENGTH where the bytes aren't whole
+ * symbols, PLAN_MISMATCH where the plan is for another number of them. OUT_OF_MEMORY may come before any. Where it
+ * refuses, the pointer to an encoder stays null. */
+uint8_t reamertan_block_encoder_open(reamertan_block_encoder **encoder, reamertan_plan *plan,
+                                     const uint8_t configuration[REAMERTAN_CONFIGURATION_BYTES], uint8_t block,
+                                     const uint8_t *bytes, size_t length);
+
+/* Fills `packets` with `count` packets of the block, as `reamertan_encoder_write` does.
+ *
+ * Refuses, in this order: ESI_TOO_LARGE, WRONG_BUFFER. */
+uint8_t reamertan_block_encoder_write(reamertan_block_encoder *encoder, uint32_t first, uint32_t count,
                                       uint8_t *packets, size_t packets_length);
 
-/* Makes `twin`, which isn't `handle`, a further handle on the encoder or the plan that `handle` holds, without a copy.
- * A coder that it held is freed. Each is used and closed by itself, and one may be used by one thread while the other
- * is used by another. The last one that is closed frees the encoder or the plan.
- *
- * Refuses NO_CODER where `handle` holds none, as where it holds a decoder, and OUT_OF_MEMORY. Where it refuses, `twin`
- * holds what it held. */
-uint8_t reamertan_share(struct reamertan_handle *handle, struct reamertan_handle *twin);
+/* Makes `twin` a further pointer to the encoder, as `reamertan_encoder_share` does. */
+uint8_t reamertan_block_encoder_share(reamertan_block_encoder *encoder, reamertan_block_encoder **twin);
 
-/* Makes the decoder of an object, which the handle holds from then on. A coder that it held is freed.
- * The rows aren't needed any more.
+/* Frees an encoder, unless another pointer shares it, and makes the pointer null. Does nothing over a null pointer. */
+void reamertan_block_encoder_close(reamertan_block_encoder **encoder);
+
+/* ---- Receivers */
+
+/* Takes the packets of an object. */
+typedef struct reamertan_decoder reamertan_decoder;
+
+/* Takes the packets of a source block. */
+typedef struct reamertan_block_decoder reamertan_block_decoder;
+
+/* Makes the decoder of an object.
  *
  * Refuses what `reamertan_check_configuration` refuses. OUT_OF_MEMORY may come before any. Where it
- * refuses, the handle holds what it held. */
-uint8_t reamertan_open_decoder(const struct reamertan_row *rows, size_t row_count,
-                               const uint8_t configuration[REAMERTAN_CONFIGURATION_BYTES],
-                               struct reamertan_handle *handle);
+ * refuses, the pointer stays null. */
+uint8_t reamertan_decoder_open(reamertan_decoder **decoder,
+                               const uint8_t configuration[REAMERTAN_CONFIGURATION_BYTES]);
 
-/* Takes a packet, 4 bytes of payload id and a symbol. A packet that was taken before changes nothing,
- * unless memory was refused before: then its block is tried again.
+/* Takes a packet, 4 bytes of payload id and a symbol, and writes whether its block, of the number in its first byte, is
+ * complete by it: true for the packet that completes it, and false for any other, also where it is refused. A packet
+ * that was taken before changes nothing, unless memory was refused before: then its block is tried again.
  *
- * Refuses, in this order: NO_CODER where the handle holds no decoder, PACKET_TOO_SHORT, UNKNOWN_BLOCK,
- * WRONG_PAYLOAD_SIZE; the decoder then holds what it held. And then CONTRADICTION, where with the
- * packet those of its block, which has no answer yet, determine the block and no block fits them all: it
- * is taken, each later packet of its block is refused so too, and the object is never complete.
- * OUT_OF_MEMORY may come before any of these but NO_CODER and PACKET_TOO_SHORT, and then the packet may be taken or
- * not, unless it is one to be refused by the first four; hand it in again. */
-uint8_t reamertan_add_packet(struct reamertan_handle *handle, const uint8_t *packet,
-                             size_t packet_length);
+ * Refuses, in this order: PACKET_TOO_SHORT, UNKNOWN_BLOCK, WRONG_PAYLOAD_SIZE; the decoder then holds what it
+ * held. And then CONTRADICTION, where with the packet those of its block, which has no answer yet, determine the block
+ * and no block fits them all: it is taken, each later packet of its block is refused so too, and the object is never
+ * complete. OUT_OF_MEMORY may come before any of these but PACKET_TOO_SHORT, and then the packet may be taken or
+ * not, unless it is one to be refused by the first three; hand it in again. */
+uint8_t reamertan_decoder_add_packet(reamertan_decoder *decoder, const uint8_t *packet, size_t packet_length,
+                                     bool *completes);
 
-/* Takes packets that lie one behind another, each of 4 + T bytes, in their order, as `reamertan_add_packet` takes each.
+/* Takes packets that lie one behind another, each of 4 + T bytes, in their order, as `reamertan_decoder_add_packet`
+ * takes each.
  *
- * Refuses, in this order: NO_CODER where the handle holds no decoder; WRONG_PAYLOAD_SIZE, before a packet is taken,
- * where `length` isn't that of whole packets; and of the first packet that is refused UNKNOWN_BLOCK or CONTRADICTION, as
- * `reamertan_add_packet` does. OUT_OF_MEMORY may come of any packet. Those before it are taken then, and those behind it
- * aren't: after OUT_OF_MEMORY hand in all of them again. */
-uint8_t reamertan_add_packets(struct reamertan_handle *handle, const uint8_t *packets, size_t length);
+ * Refuses, in this order: WRONG_PAYLOAD_SIZE, before a packet is taken, where `packets_length` isn't that of whole
+ * packets; and of the first packet that is refused UNKNOWN_BLOCK or CONTRADICTION, as `reamertan_decoder_add_packet`
+ * does. OUT_OF_MEMORY may come of any packet. Those before it are taken then, and those behind it aren't: after
+ * OUT_OF_MEMORY hand in all of them again. */
+uint8_t reamertan_decoder_add_packets(reamertan_decoder *decoder, const uint8_t *packets, size_t packets_length);
 
-/* Makes `twin`, which isn't `handle`, a further decoder, with the packets and answers of the decoder that `handle` holds.
- * A coder that it held is freed. From then on each takes packets by itself.
- *
- * Refuses NO_CODER where `handle` holds no decoder, and OUT_OF_MEMORY. Where it refuses, `twin` holds what it held. */
-uint8_t reamertan_copy_decoder(struct reamertan_handle *handle, struct reamertan_handle *twin);
+/* Whether the object is complete, which each of its blocks then is. */
+bool reamertan_decoder_is_complete(reamertan_decoder *decoder);
 
-/* Tells whether the object is complete, which each of its blocks then is.
+/* Writes how many packets more source block `block` needs at least, of ids that weren't taken yet: with
+ * fewer it isn't complete, whichever they are. That is the number of its source symbols less that of the ids
+ * that were taken, or 1 where these are as many and don't determine the block. It is 0 where the block is
+ * complete, or where memory was refused for its answer: its next packet has it tried again.
  *
- * Refuses, in this order: NO_CODER where the handle holds no decoder, INCOMPLETE. Never OUT_OF_MEMORY. */
-uint8_t reamertan_is_complete(struct reamertan_handle *handle);
-
-/* Fills `object` with the object, where the packets that were taken determine it. `object_length` has to
- * be the object's, F. What is written is the object where the packets are the object's: packets that were
- * forged, or damaged but for their ids, and don't contradict each other, give other bytes. The decoder
- * stays as it is.
- *
- * Refuses, in this order: NO_CODER where the handle holds no decoder, INCOMPLETE, OUT_OF_MEMORY, WRONG_BUFFER. */
-uint8_t reamertan_write_object(struct reamertan_handle *handle, uint8_t *object,
-                               size_t object_length);
+ * Refuses, in this order: UNKNOWN_BLOCK, CONTRADICTION where the packets of the block were found to contradict each
+ * other. */
+uint8_t reamertan_decoder_missing(reamertan_decoder *decoder, uint8_t block, uint32_t *packets);
 
 /* Fills `bytes` with the object's bytes in source block `block`, where the packets that were taken determine
  * the block. So a receiver writes each block to its place, from `start` of `reamertan_block_range` on, by a buffer
  * for one block. The decoder itself holds all blocks until it is closed. `length` has to be their number,
  * `end` - `start`, but they end where the object does, and a block behind it has none. Those of all blocks one
- * behind another are what `reamertan_write_object` writes. The decoder stays as it is.
+ * behind another are what `reamertan_decoder_write_object` writes.
  *
- * Refuses, in this order: NO_CODER where the handle holds no decoder, UNKNOWN_BLOCK, INCOMPLETE, WRONG_BUFFER.
- * Never OUT_OF_MEMORY. */
-uint8_t reamertan_write_block(struct reamertan_handle *handle, uint8_t block, uint8_t *bytes,
-                              size_t length);
+ * Refuses, in this order: UNKNOWN_BLOCK, INCOMPLETE, WRONG_BUFFER. */
+uint8_t reamertan_decoder_write_block(reamertan_decoder *decoder, uint8_t block, uint8_t *bytes, size_t length);
 
-/* Writes how many packets more source block `block` needs at least, of ids that weren't taken yet: with
- * fewer it isn't complete, whichever they are. That is the number of its source symbols less that of the ids
- * that were taken, or 1 where these are as many and don't determine the block. It is 0 where the block is
- * complete, or where memory was refused for its answer: its next packet has it tried again. The decoder
- * stays as it is.
+/* Fills `object` with the object, where the packets that were taken determine it. `object_length` has to
+ * be the object's, F. What is written is the object where the packets are the object's: packets that were
+ * forged, or damaged but for their ids, and don't contradict each other, give other bytes. No memory is taken.
  *
- * Refuses, in this order: NO_CODER where the handle holds no decoder, UNKNOWN_BLOCK, CONTRADICTION where the
- * packets of the block were found to contradict each other. Never OUT_OF_MEMORY. */
-uint8_t reamertan_missing_packets(struct reamertan_handle *handle, uint8_t block, uint32_t *missing);
+ * Refuses, in this order: INCOMPLETE, WRONG_BUFFER. */
+uint8_t reamertan_decoder_write_object(reamertan_decoder *decoder, uint8_t *object, size_t object_length);
 
-/* Frees the coder that a handle holds, if any, unless another handle holds it too. The handle then holds none, and may
- * be used again. */
-void reamertan_close(struct reamertan_handle *handle);
+/* Makes `twin` a further decoder, with the packets and answers of this one. From then on each takes packets by itself.
+ *
+ * Refuses OUT_OF_MEMORY. Where it refuses, `twin` stays null. */
+uint8_t reamertan_decoder_copy(reamertan_decoder *decoder, reamertan_decoder **twin);
+
+/* Frees a decoder, and makes the pointer null. Does nothing over a null pointer. */
+void reamertan_decoder_close(reamertan_decoder **decoder);
+
+/* Makes the decoder of source block `block` alone, of as many source symbols as cover `length` bytes: `end` - `start` of
+ * `reamertan_block_range`. Of the configuration the symbol size is read, the number of sub-blocks and the alignment. A
+ * block of no symbols is complete from the start.
+ *
+ * Refuses, in this order: SYMBOL_SIZE_ZERO, ALIGNMENT_ZERO, MISALIGNED, BLOCK_OVER_TABLE. OUT_OF_MEMORY may come before
+ * any. Where it refuses, the pointer stays null. */
+uint8_t reamertan_block_decoder_open(reamertan_block_decoder **decoder,
+                                     const uint8_t configuration[REAMERTAN_CONFIGURATION_BYTES], uint8_t block,
+                                     uint64_t length);
+
+/* Takes packets that lie one behind another, each of 4 + T bytes, in their order, as `reamertan_decoder_add_packet`
+ * takes each.
+ *
+ * Refuses, in this order: WRONG_PAYLOAD_SIZE, before a packet is taken, where `packets_length` isn't that of whole
+ * packets; and of the first packet that is refused UNKNOWN_BLOCK where it is another block's, or CONTRADICTION.
+ * OUT_OF_MEMORY may come of any packet. Those before it are taken then, and those behind it aren't: after OUT_OF_MEMORY
+ * hand in all of them again. */
+uint8_t reamertan_block_decoder_add_packets(reamertan_block_decoder *decoder, const uint8_t *packets,
+                                            size_t packets_length);
+
+/* Whether the block is complete. */
+bool reamertan_block_decoder_is_complete(reamertan_block_decoder *decoder);
+
+/* Writes how many packets more the block needs at least, as `reamertan_decoder_missing` does.
+ *
+ * Refuses CONTRADICTION where its packets were found to contradict each other. */
+uint8_t reamertan_block_decoder_missing(reamertan_block_decoder *decoder, uint32_t *packets);
+
+/* Fills `bytes` with the block, where the packets that were taken determine it: all of its source symbols, with the zeros
+ * that fill up the last one. `length` has to be theirs, K * T. No memory is taken.
+ *
+ * Refuses, in this order: INCOMPLETE, WRONG_BUFFER. */
+uint8_t reamertan_block_decoder_write(reamertan_block_decoder *decoder, uint8_t *bytes, size_t length);
+
+/* Makes `twin` a further decoder, as `reamertan_decoder_copy` does. */
+uint8_t reamertan_block_decoder_copy(reamertan_block_decoder *decoder, reamertan_block_decoder **twin);
+
+/* Frees a decoder, and makes the pointer null. Does nothing over a null pointer. */
+void reamertan_block_decoder_close(reamertan_block_decoder **decoder);
 
 #ifdef __cplusplus
 }

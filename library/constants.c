@@ -1,7 +1,7 @@
 /* The calls that answer constants, for programs in languages that read no header. Nothing proves these lines. `install`
  * compiles them for any processor of the architecture, and names in REAMERTAN_PROCESSOR the one of the library. Where there are
  * several builds in it, library/choose.c says which one runs. */
-#include "reamertan_rows.h"
+#include "reamertan.h"
 
 #ifdef REAMERTAN_PROCESSOR
 const char *reamertan_processor(void)
@@ -9,12 +9,6 @@ const char *reamertan_processor(void)
     return REAMERTAN_PROCESSOR;
 }
 #endif
-
-const struct reamertan_row *reamertan_further_rows(size_t *count)
-{
-    *count = REAMERTAN_ROW_COUNT;
-    return reamertan_rows;
-}
 
 /* The cases are made by errors/make_lists. There is no `default`, so that a compiler warns where an answer has no text. */
 const char *reamertan_answer_text(uint8_t answer)
@@ -39,12 +33,10 @@ const char *reamertan_answer_text(uint8_t answer)
     case REAMERTAN_TRANSFER_LENGTH_ZERO: return "the object's length is 0";
     case REAMERTAN_MEMORY_REQUIREMENT_TOO_SMALL: return "no row of the table fits the decoder's memory";
     case REAMERTAN_TOO_MANY_BLOCKS: return "the object would need more than 255 source blocks";
-    case REAMERTAN_ROW_REFUSED: return "a row that is handed in fails a check";
     case REAMERTAN_OUT_OF_MEMORY: return "there is no memory";
     case REAMERTAN_CONTRADICTION: return "packets of a source block contradict each other";
     case REAMERTAN_WRONG_BUFFER: return "the buffer has another length than what is to be written";
     case REAMERTAN_INCOMPLETE: return "the packets don't determine it";
-    case REAMERTAN_NO_CODER: return "the handle holds no coder of this kind";
     }
     return "no answer of this version";
 }

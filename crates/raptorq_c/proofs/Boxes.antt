@@ -24,12 +24,12 @@ use Rattle.std.specs.contracts.alloc.Global as global
 use Rattle.std.specs.contracts.impls.GlobalAllocator.TheImpl.{ghosts, dict}
 use Rattle.std.proofs.alloc.Global.TheLaws as heap_laws
 use Rattle.std_alloc.proofs.BoxSteps.Form as box
-use Rattle.raptorq_c.specs.contracts.owned.Coder as coder
-use Rattle.raptorq_c.proofs.owned.Coder.TheLaws as coder_laws
-use Rattle.raptorq_c.proofs.raptorq_c++owned++Coder+Destruct.drop.Kinds as drops
-use Rattle.raptorq_c.proofs.raptorq_c++owned++Coder+Destruct.drop.Reads as reads
-use Rattle.raptorq_c.proofs.raptorq_c++owned++Coder+Destruct.drop.Symbol as symbol
-use Rattle.raptorq_c.proofs.raptorq_c++owned++Coder+Destruct.drop.Met.{met}
+use Rattle.raptorq_c.specs.contracts.kept.Coder as coder
+use Rattle.raptorq_c.proofs.kept.Coder.TheLaws as coder_laws
+use Rattle.raptorq_c.proofs.raptorq_c++kept++Coder+Destruct.drop.Kinds as drops
+use Rattle.raptorq_c.proofs.raptorq_c++kept++Coder+Destruct.drop.Reads as reads
+use Rattle.raptorq_c.proofs.raptorq_c++kept++Coder+Destruct.drop.Symbol as symbol
+use Rattle.raptorq_c.proofs.raptorq_c++kept++Coder+Destruct.drop.Met.{met}
 
 abbrev pub T : RattleType
 T = arg (bare (layout coder.the_row)) no coder.the_row
@@ -48,7 +48,7 @@ abbrev pub dd : Dict
 dd = impl ("raptorq_c::Destruct++none::drop" ∷ []) (tcons (layout A) tnil) dnil
 
 abbrev pub dx : Dict
-dx = impl ("raptorq_c::raptorq_c++owned++Coder+Destruct::drop" ∷ []) tnil dnil
+dx = impl ("raptorq_c::raptorq_c++kept++Coder+Destruct::drop" ∷ []) tnil dnil
 
 abbrev pub E : box.Bx
 E = record { row = T; laws = LT; al = record { row = A; laws = LA; g = ghosts; d = dict; drops = dd } }

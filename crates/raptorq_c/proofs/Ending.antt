@@ -1,5 +1,5 @@
 -- What a number says of how a call ended.
-use Rattle.std.proofs.Common.{◌≡◌, ◌≢◌, ◌⊎◌, inl, inr, ℕ, ◌<◌, ◌≤◌, List, [], ◌∷◌, get_or, Ok, Err, Result, refl, sym, ap, ◌∙◌, arith, lit<}
+use Rattle.std.proofs.Common.{◌≡◌, ◌≢◌, ◌⊎◌, inl, inr, ℕ, ◌<◌, ◌≤◌, Ok, Err, Result, refl, sym, ap, ◌∙◌, arith, lit<}
 use Rattle.std.specs.Prelude.{OnErr}
 use Rattle.rq_bytes.specs.declared.error.Error.{Error}
 use Rattle.rq_bytes.specs.declared.error.Error.TheVariants.{TransferTooLong, AlignmentZero, Misaligned, TooManySymbols, SymbolSizeZero, SourceBlocksZero, BlockOverTable, WrongDataLength, Singular, PlanMismatch, EsiTooLarge, PacketTooShort, WrongPayloadSize, UnknownBlock, PacketSizeZero, TransferLengthZero, MemoryRequirementTooSmall, TooManyBlocks, RowRefused, AlreadyExecuted, OutOfMemory, Contradiction, HeaderTooShort}
@@ -50,41 +50,6 @@ code_no_call e = (code_apart e).1
 pub is_stopped : (ended : Result (Unit {0}) CallEnd) (P : Type 0) → OnErr ended P → number_of ended ≢ 0 → P
 is_stopped (Ok x) P stopped other = absurd (other refl)
 is_stopped (Err s) P stopped other = stopped
-
--- the errors by their numbers, with another one where there is none, and for a row's refusal, which says more than its number
-errors : List Error
-errors = OutOfMemory ∷ TransferTooLong ∷ AlignmentZero ∷ Misaligned ∷ TooManySymbols ∷ SymbolSizeZero ∷ SourceBlocksZero ∷ BlockOverTable ∷ WrongDataLength ∷ Singular ∷ PlanMismatch ∷ EsiTooLarge ∷ PacketTooShort ∷ WrongPayloadSize ∷ UnknownBlock ∷ PacketSizeZero ∷ TransferLengthZero ∷ MemoryRequirementTooSmall ∷ TooManyBlocks ∷ OutOfMemory ∷ AlreadyExecuted ∷ OutOfMemory ∷ Contradiction ∷ HeaderTooShort ∷ []
-
-is_numbered : (e : Error) → code_of e ≢ 19 → get_or errors (code_of e) OutOfMemory ≡ e
-unfolding errors
-is_numbered TransferTooLong other = refl
-is_numbered AlignmentZero other = refl
-is_numbered Misaligned other = refl
-is_numbered TooManySymbols other = refl
-is_numbered SymbolSizeZero other = refl
-is_numbered SourceBlocksZero other = refl
-is_numbered BlockOverTable other = refl
-is_numbered WrongDataLength other = refl
-is_numbered Singular other = refl
-is_numbered PlanMismatch other = refl
-is_numbered EsiTooLarge other = refl
-is_numbered PacketTooShort other = refl
-is_numbered WrongPayloadSize other = refl
-is_numbered UnknownBlock other = refl
-is_numbered PacketSizeZero other = refl
-is_numbered TransferLengthZero other = refl
-is_numbered MemoryRequirementTooSmall other = refl
-is_numbered TooManyBlocks other = refl
-is_numbered (RowRefused place check) other = absurd (other refl)
-is_numbered AlreadyExecuted other = refl
-is_numbered OutOfMemory other = refl
-is_numbered Contradiction other = refl
-is_numbered HeaderTooShort other = refl
-
--- 21 is the number of want of memory alone
-pub is_memory : (e : Error) → code_of e ≡ 21 → e ≡ OutOfMemory
-unfolding errors
-is_memory e is = sym (is_numbered e (λ row. omega (arith, is, row))) ∙ ap (λ n. get_or errors n OutOfMemory) is
 
 -- ---- buffers
 

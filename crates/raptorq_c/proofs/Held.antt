@@ -1,12 +1,13 @@
--- What is said of the coder that is held, where one is.
-use Rattle.std.proofs.Common.{◌≡◌, Option, Some, None, IfSome, IsSomeAnd, refl, sym, subst}
+-- What is said of a coder that is kept, of one kind.
+use Rattle.std.proofs.Common.{◌≡◌, Option, Some, IsSomeAnd, sym, subst}
+use Rattle.std.specs.Prelude.{option_and_then}
+use Rattle.raptorq_c.specs.declared.kept.Coder.{Coder}
 
-pub at_some : {X : Type 0} (o : Option X) (x : X) (P : X → Type 0) → Some x ≡ o → P x → IfSome o P
-at_some o x P is p = subst (λ held. IfSome held P) is p
+module _ {X : Type 0} (kind : Coder → Option X) (held : Option Coder) (k : Coder) (is : held ≡ Some k) where
+  pub said_kept : (P : X → Type 0) → IsSomeAnd (kind k) P → IsSomeAnd (option_and_then kind held) P
+  said_kept P said = subst (λ o. IsSomeAnd (option_and_then kind o) P) (sym is) said
 
-pub and_some : {X : Type 0} (o : Option X) (x : X) (P : X → Type 0) → o ≡ Some x → P x → IsSomeAnd o P
-and_some o x P is p = subst (λ held. IsSomeAnd held P) (sym is) p
-
-pub some_from : {X : Type 0} (o : Option X) (P Q : X → Type 0) → (o ≡ None → ⊥) → IfSome o P → ((x : X) → P x → Q x) → IsSomeAnd o Q
-some_from None P Q never p more = absurd (never refl)
-some_from (Some x) P Q never p more = more x p
+  -- and of what it becomes
+  pub changed_kept : (after : Option Coder) (l : Coder) (P : X → X → Type 0) → after ≡ Some l → IsSomeAnd (kind k) (λ old. IsSomeAnd (kind l) (P old))
+      → IsSomeAnd (option_and_then kind held) (λ old. IsSomeAnd (option_and_then kind after) (P old))
+  changed_kept after l P now said = said_kept (λ old. IsSomeAnd (option_and_then kind after) (P old)) (subst (λ o. IsSomeAnd (kind k) (λ old. IsSomeAnd (option_and_then kind o) (P old))) (sym now) said)

@@ -1,12 +1,14 @@
+pub mod Answering
 pub mod Boxes
 pub mod Ending
 pub mod FrameSteps
-pub mod HandleAnswers
 pub mod Held
+pub mod Nullness
+pub mod Overs
 pub mod PacketFrames
 pub mod PacketLengths
 pub mod PlannedBlocks
 pub mod Pointers
 pub mod Sized
+pub mod SlotBoxes
 pub mod StretchSteps
-pub mod Tables

@@ -1,9 +1,8 @@
 -- How many bytes the packets of an object take.
-use Rattle.std.proofs.Common.{◌≡◌, ℕ, zero, suc, ◌+◌, ◌*◌, ◌≤◌, List, [], ◌∷◌, length, map, Result, Ok, sym, ap, ◌∙◌, arith, length-append}
+use Rattle.std.proofs.Common.{◌≡◌, ℕ, zero, suc, ◌+◌, ◌*◌, ◌≤◌, List, [], ◌∷◌, length, Ok, sym, ap, ◌∙◌, arith, length-append}
 use Rattle.std.specs.List.{AllByRecursion}
 use Rattle.std.proofs.lemmas.List.{length-map}
 use Rattle.std.proofs.lemmas.List.FromFn.{length-map-range_with_len}
-use Rattle.rq_bytes.specs.declared.error.Error.{Error}
 use Rattle.rq_standard.specs.Configuration.{Configuration, IsAccepted, configuration_of_bytes, total_symbols}
 use Rattle.rq_standard.specs.Cutting.{block_symbols, symbols_before}
 use Rattle.rq_standard.specs.Headline.{IsPacketOf}
@@ -16,17 +15,15 @@ use Rattle.rq_standard.proofs.BlockCuts.{symbols_before-first, symbols_before-ne
 use Rattle.rq_standard.proofs.BlockRows.{block_has_row}
 use Rattle.rq_base.specs.RefusedInput.{checked_configuration}
 use Rattle.rq_base.proofs.Accepted.{both_ok, ok_of, accepted_by}
-use Rattle.rq_bytes.specs.Refusals.{and_then}
 use Rattle.raptorq.specs.Appended.{AppendsObject}
 use Rattle.raptorq.specs.Encoder.{packets_length}
 use Rattle.raptorq.proofs.EncodedBlocks.{ids_before, ids_next}
 use Rattle.raptorq.proofs.Lists.{length-packet_bytes}
-use Rattle.raptorq_c.specs.declared.rows.Row.{Row}
-use Rattle.raptorq_c.specs.FurtherRows.{numbers_of, table_of}
+use Rattle.rq_rows.specs.FullTable.{full_rows}
+use Rattle.rq_rows.proofs.AllPass.{full_table}
 use Rattle.raptorq_c.specs.Headers.{checked_header}
 use Rattle.raptorq_c.specs.PacketBuffers.{IsEncoding}
 use Rattle.raptorq_c.specs.Sizes.{bytes_of_packets}
-use Rattle.raptorq_c.proofs.Tables.{table_in, table_checked}
 
 module _ (c : Configuration) where
   -- as many as the blocks' source symbols, and the repair symbols of each
@@ -64,12 +61,8 @@ module _ (c : Configuration) where
         ap length h.grown ∙ frames_long h.packets (each_long accepted h.packets h.encoded.each) ∙ ap (λ n. n * frame_size c) count
 
 -- so the call that says how many says this
-pub packets_room : (rows : List Row) (header object : List ℕ) (repair : ℕ) (bytes : List ℕ) → IsEncoding rows header object repair bytes → bytes_of_packets rows header repair ≡ ok_of (length bytes)
-packets_room rows header object repair bytes h =
+pub packets_room : (header object : List ℕ) (repair : ℕ) (bytes : List ℕ) → IsEncoding header object repair bytes → bytes_of_packets header repair ≡ ok_of (length bytes)
+packets_room header object repair bytes appended =
     let c = configuration_of_bytes header in
-    let found = table_in (λ t. AppendsObject t c object repair [] bytes) (table_of rows) h in
-    let table = found.0 in
-    let appended = found.2 in
-    let checked : checked_header rows header ≡ Ok tt =
-    ap (λ (r : Result (List TableRow) Error). and_then r (λ t. checked_configuration (greatest_size t) c)) found.1 ∙ (both_ok (checked_configuration (greatest_size table) c) _ tt appended.taken).1 in
-    rw (checked, appended.enough) (ap ok_of (sym (encoding_length c table (table_checked (map numbers_of rows) table found.1) object repair bytes appended)))
+    let checked : checked_header header ≡ Ok tt = (both_ok (checked_configuration (greatest_size full_rows) c) _ tt appended.taken).1 in
+    rw (checked, appended.enough) (ap ok_of (sym (encoding_length c full_rows full_table object repair bytes appended)))

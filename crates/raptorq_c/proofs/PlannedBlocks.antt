@@ -1,5 +1,5 @@
--- The encoder of a block by a plan alone is the one over the rows that the plan was made of.
-use Rattle.std.proofs.Common.{◌≡◌, ℕ, ◌/◌, ◌%◌, false, cond, eqb, ltb, List, length, map, Result, Ok, Err, IsOkAnd, sym, ap, ◌∙◌, subst}
+-- The encoder of a block by a plan alone is the block's.
+use Rattle.std.proofs.Common.{◌≡◌, ℕ, ◌/◌, ◌%◌, false, cond, eqb, ltb, List, length, map, Result, Ok, Err, sym, ap, ◌∙◌}
 use Rattle.std.specs.List.{range_with_len}
 use Rattle.std.specs.Prelude.{not}
 use Rattle.std.proofs.lemmas.Bool.{eqb-true, not-false}
@@ -16,10 +16,8 @@ use Rattle.rq_block.specs.BlockData.{block_by_plan, block_of}
 use Rattle.rq_block.specs.RefusedBlocks.{AreWholeSymbols}
 use Rattle.rq_block.specs.SourceBlockEncoder.{BlockEncoded}
 use Rattle.rq_block.specs.SourceBlockEncodingPlan.{Plan, plan_refusal}
-use Rattle.raptorq_c.specs.declared.rows.Row.{Row}
-use Rattle.raptorq_c.specs.FurtherRows.{table_of}
-use Rattle.raptorq_c.specs.Plans.{planned_refusal, IsBlockEncoderIn, IsPlanIn}
-use Rattle.raptorq_c.proofs.Tables.{table_in}
+use Rattle.rq_rows.specs.FullTable.{full_rows}
+use Rattle.raptorq_c.specs.Encoders.{planned_refusal, IsBlockEncoderIn, IsPlanIn}
 
 module _ (header bytes : List ℕ) (plan : Plan) (taken : planned_refusal (configuration_of_bytes header) (length bytes) plan ≡ Ok tt) where
   abbrev c : Configuration
@@ -53,12 +51,5 @@ module _ (header bytes : List ℕ) (plan : Plan) (taken : planned_refusal (confi
       let of : ℕ → TableRow → BlockEncoded = λ n r. record { number = number; row = r; size = c.symbol_size; source = map (symbol_of_block c n bytes) (range_with_len 0 n) } in
       ap (of plan.count) row ∙ ap (λ n. of n (row_of table n)) (sym as_many)
 
-  pub planned_over : (number : ℕ) (b : BlockEncoded) → b ≡ block_by_plan plan c number bytes → (rows : List Row) → IsPlanIn rows plan.count plan → IsBlockEncoderIn rows header number bytes b
-  planned_over number b is rows made =
-      let found = table_in (λ t. plan_refusal t plan.count ≡ Ok tt) (table_of rows) made.taken in
-      let over : (P : List TableRow → Type 0) → P found.0 → IsOkAnd (table_of rows) P = λ P. subst (λ (r : Result (List TableRow) Error). IsOkAnd r P) (sym found.1) in
-      let row = subst (λ (r : Result (List TableRow) Error). IsOkAnd r (λ t. plan.row ≡ row_of t plan.count)) found.1 made.row in
-      record {
-        taken = over (λ t. AreWholeSymbols (greatest_size t) c (length bytes)) (whole_symbols found.0 found.2);
-        encoder = over (λ t. b ≡ block_of t c number bytes) (is ∙ same_block found.0 number row);
-      }
+  pub planned_over : (number : ℕ) (b : BlockEncoded) → b ≡ block_by_plan plan c number bytes → IsPlanIn plan.count plan → IsBlockEncoderIn header number bytes b
+  planned_over number b is made = record { taken = whole_symbols full_rows made.taken; encoder = is ∙ same_block full_rows number made.row }

@@ -1,4 +1,4 @@
--- What the walks over `Owned` say of a struct of one pointer.
+-- What the walks over `Kept` say of a struct of one pointer.
 use Rattle.std.proofs.Common.{◌≡◌, List, [], ◌∷◌, ◌++◌, refl, ◌∙◌, lit<}
 use seplogic.Ra.Ura.{Ura}
 use mir.Syntax.{ty_ptr, ty_struct, tcons, tnil}

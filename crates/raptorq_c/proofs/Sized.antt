@@ -5,7 +5,6 @@ use Rattle.std.proofs.lemmas.List.FromFn.{length-map-range_with_len}
 use Rattle.rq_bytes.specs.declared.error.Error.{Error}
 use Rattle.rq_bytes.specs.declared.error.Error.TheVariants.{SymbolSizeZero, SourceBlocksZero, TooManySymbols, UnknownBlock}
 use Rattle.rq_bytes.specs.Refusals.{and_then}
-use Rattle.rq_standard.specs.declared.row.TableRow.{TableRow}
 use Rattle.rq_standard.specs.declared.systematic_indices.TheConstants.{MAX_SOURCE_SYMBOLS_PER_BLOCK}
 use Rattle.rq_standard.specs.Configuration.{Configuration, configuration_of_bytes, largest_block}
 use Rattle.rq_standard.specs.TableRows.{greatest_size}
@@ -13,8 +12,7 @@ use Rattle.rq_base.specs.RefusedInput.{checked_configuration}
 use Rattle.rq_base.proofs.Accepted.{ok_of, same_ok, passed}
 use Rattle.raptorq.specs.Encoder.{packets_length, packets_refusal}
 use Rattle.raptorq.specs.Offsets.{block_offsets, block_range, checked_offsets}
-use Rattle.raptorq_c.specs.declared.rows.Row.{Row}
-use Rattle.raptorq_c.specs.FurtherRows.{table_of}
+use Rattle.rq_rows.specs.FullTable.{full_rows}
 use Rattle.raptorq_c.specs.Sizes.{part_of_block, bytes_of_packets}
 
 -- what isn't refused are the places of all blocks
@@ -34,16 +32,13 @@ range_of_block header b d xs same is below =
 
 -- ---- how many bytes packets take
 
--- of a configuration that passes the tests over the table of these rows
-module _ (rows : List Row) (header : List ℕ) (table : List TableRow) (d : Configuration) (made : table_of rows ≡ ok_of table) (same : d ≡ configuration_of_bytes header) (checked : ok_of tt ≡ checked_configuration (greatest_size table) d) where
-  over_rows : and_then (table_of rows) (λ t. checked_configuration (greatest_size t) d) ≡ ok_of tt
-  over_rows = ap (λ (r : Result (List TableRow) Error). and_then r (λ t. checked_configuration (greatest_size t) d)) made ∙ sym checked
-
+-- of a configuration that passes the tests
+module _ (header : List ℕ) (d : Configuration) (same : d ≡ configuration_of_bytes header) (checked : ok_of tt ≡ checked_configuration (greatest_size full_rows) d) where
   abbrev counted : Configuration → ℕ → Result ℕ Error
-  counted k repair = and_then (and_then (table_of rows) (λ t. checked_configuration (greatest_size t) k)) (λ _. and_then (packets_refusal k repair) (λ _. ok_of (packets_length k repair)))
+  counted k repair = and_then (checked_configuration (greatest_size full_rows) k) (λ _. and_then (packets_refusal k repair) (λ _. ok_of (packets_length k repair)))
 
-  pub too_many : (repair : ℕ) (e : Error) → packets_refusal d repair ≡ Err e → bytes_of_packets rows header repair ≡ Err e
-  too_many repair e is = subst (λ k. counted k repair ≡ Err e) same (rw (over_rows, is) refl)
+  pub too_many : (repair : ℕ) (e : Error) → packets_refusal d repair ≡ Err e → bytes_of_packets header repair ≡ Err e
+  too_many repair e is = subst (λ k. counted k repair ≡ Err e) same (rw (sym checked, is) refl)
 
-  pub enough : (repair : ℕ) → packets_refusal d repair ≡ ok_of tt → bytes_of_packets rows header repair ≡ ok_of (packets_length d repair)
-  enough repair is = subst (λ k. counted k repair ≡ ok_of (packets_length d repair)) same (rw (over_rows, is) refl)
+  pub enough : (repair : ℕ) → packets_refusal d repair ≡ ok_of tt → bytes_of_packets header repair ≡ ok_of (packets_length d repair)
+  enough repair is = subst (λ k. counted k repair ≡ ok_of (packets_length d repair)) same (rw (sym checked, is) refl)

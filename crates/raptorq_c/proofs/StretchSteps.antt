@@ -1,42 +1,21 @@
--- Packets of a block, put behind bytes one after another, and what calls for them answer.
-use Rattle.std.proofs.Common.{◌≡◌, ◌≢◌, ℕ, ◌+◌, ◌-◌, ◌^◌, ◌<◌, ◌≤◌, List, [], ◌∷◌, ◌++◌, length, map, Some, None, option_map, Result, Ok, Err, refl, sym, ap, ◌∙◌, subst, arith, inl, inr, append_assoc}
+-- Packets of a block in a buffer, and what calls for them answer.
+use Rattle.std.proofs.Common.{◌≡◌, ◌≢◌, ℕ, ◌+◌, ◌-◌, ◌^◌, ◌<◌, ◌≤◌, List, length, map, Some, None, option_map, Result, Err, refl, sym, ap, ◌∙◌, subst, arith, inl, inr}
 use Rattle.std.specs.List.{range_with_len, slice_get}
-use Rattle.std.specs.Prelude.{OnOk, OnErr}
 use Rattle.std.proofs.lemmas.Bool.{lt-ltb, le-ltb, cases_lt}
 use Rattle.std.proofs.lemmas.List.{length-map}
 use Rattle.std.proofs.lemmas.List.FromFn.{length-map-range_with_len, get_or-map-range_with_len}
 use Rattle.std.proofs.lemmas.Option.{slice_get-map, slice_get-get_or, slice_get_cases, slice_get_within}
 use Rattle.rq_bytes.specs.declared.error.Error.{Error}
-use Rattle.rq_bytes.specs.declared.error.Error.TheVariants.{OutOfMemory, EsiTooLarge, UnknownBlock}
+use Rattle.rq_bytes.specs.declared.error.Error.TheVariants.{EsiTooLarge, UnknownBlock}
 use Rattle.rq_bytes.specs.Error.{code_of}
 use Rattle.rq_bytes.specs.Refusals.{and_then}
 use Rattle.rq_base.proofs.Accepted.{ok_of}
-use Rattle.rq_standard.proofs.FrameLaws.{frames_of-push}
-use Rattle.rq_standard.specs.Packet.{Packet, id_bytes, packet_bytes}
-use Rattle.rq_block.proofs.Encodes.{block_packets-none, block_packets-more}
-use Rattle.rq_block.specs.SourceBlockEncoder.{BlockEncoded, block_encoded_of, IsBlockPacket}
+use Rattle.rq_block.specs.SourceBlockEncoder.{BlockEncoded, block_encoded_of}
+use Rattle.rq_block.specs.WrittenPackets.{AreStretchBytes}
 use Rattle.rq_block.specs.declared.encoder.block.SourceBlockEncoder.{SourceBlockEncoder}
 use Rattle.raptorq.specs.Encoder.{Encoded}
-use Rattle.raptorq_c.specs.Handles.{IsPacketNumber}
-use Rattle.raptorq_c.specs.Numbers.{number_of}
-use Rattle.raptorq_c.specs.Stretches.{AreStretchBytes, FillsHeldStretch, FillsStretch, block_in, end_of_stretch}
-use Rattle.raptorq_c.specs.declared.call_end.CallEnd.{CallEnd}
+use Rattle.raptorq_c.specs.Encoders.{FillsStretch, block_in, end_of_stretch, stretch_length}
 use Rattle.raptorq_c.proofs.Ending.{code_positive, code_no_call}
-
--- ---- the bytes
-
-pub stretch_none : (b : BlockEncoded) (start : ℕ) (bytes : List ℕ) → bytes ≡ [] → AreStretchBytes b start (start - start) bytes
-stretch_none b start bytes none = record { packets = []; are = block_packets-none b start [] refl; spelled = none }
-
--- one packet more: its id, and then its symbol
-pub stretch_more : (b : BlockEncoded) (start esi : ℕ) (old mid new id symbol : List ℕ) (p : Packet) → start ≤ esi → AreStretchBytes b start (esi - start) old → p.id ≡ record { block = b.number; esi = esi } → IsBlockPacket b p
-    → id ≡ id_bytes p.id → symbol ≡ p.payload → mid ≡ old ++ id → new ≡ mid ++ symbol → AreStretchBytes b start (esi + 1 - start) new
-stretch_more b start esi old mid new id symbol p from so named is spelled payload first second = record {
-  packets = so.packets ++ p ∷ [];
-  are = block_packets-more b start esi so.packets (so.packets ++ p ∷ []) p from so.are named is refl;
-  spelled = second ∙ ap (λ xs. xs ++ symbol) first ∙ append_assoc old id symbol ∙ ap (λ xs. old ++ (xs ++ symbol)) spelled ∙ ap (λ xs. old ++ (id_bytes p.id ++ xs)) payload
-      ∙ ap (λ xs. xs ++ packet_bytes p) so.spelled ∙ sym (frames_of-push so.packets p);
-}
 
 -- ---- a block of an object
 
@@ -63,44 +42,35 @@ module _ (e : Encoded) (blocks : List SourceBlockEncoder) (i : ℕ) (are : map b
 
 -- ---- what calls answer
 
--- memory is refused
-pub stretch_unmade : (b : BlockEncoded) (first count : ℕ) (e : Error) (buffer : List ℕ) → e ≡ OutOfMemory → FillsStretch (ok_of b) first count (code_of e) buffer buffer
-stretch_unmade b first count e buffer memory = record {
-  number = inr (inl (ap code_of memory));
-  packets = λ zero. absurd (omega (arith, zero, code_positive e));
-  other_length = λ other. absurd (code_no_call e (omega (arith, other), omega (arith, other)));
-  kept = λ _. refl;
-}
-
--- its bytes are there
-pub stretch_made : (b : BlockEncoded) (first count : ℕ) (bytes before after : List ℕ) (ended : Result (Unit {0}) CallEnd) → AreStretchBytes b first count bytes
-    → OnOk ended (after ≡ bytes) → OnErr ended (number_of ended ≡ 24) → OnErr ended (length bytes ≢ length before) → OnErr ended (after ≡ before) → FillsStretch (ok_of b) first count (number_of ended) before after
-stretch_made b first count bytes before after (Ok x) are filled number other kept = record {
+-- the buffer has the length
+pub stretch_filled : (b : BlockEncoded) (first count : ℕ) (before after : List ℕ) → length before ≡ stretch_length b count → AreStretchBytes b first count after → FillsStretch (ok_of b) first count 0 before after
+stretch_filled b first count before after fits are = record {
+  refused = tt;
   number = inl refl;
-  packets = λ _. subst (AreStretchBytes b first count) (sym filled) are;
+  packets = λ _. (are, fits);
   other_length = λ is. absurd (cc is);
   kept = λ done. absurd (done refl);
 }
-stretch_made b first count bytes before after (Err s) are filled number other kept = record {
-  number = inr (inr number);
-  packets = λ zero. absurd (omega (arith, zero, number));
-  other_length = λ _. (bytes, are, other);
-  kept = λ _. kept;
+
+-- it has another one
+pub stretch_unfit : (b : BlockEncoded) (first count : ℕ) (buffer : List ℕ) → length buffer ≢ stretch_length b count → FillsStretch (ok_of b) first count 24 buffer buffer
+stretch_unfit b first count buffer other = record {
+  refused = tt;
+  number = inr refl;
+  packets = λ is. absurd (cc is);
+  other_length = λ _. other;
+  kept = λ _. refl;
 }
 
-packet_number_small : (wanted : Result BlockEncoded Error) (number : ℕ) → IsPacketNumber wanted number → number ≢ 26
-packet_number_small (Ok b) number (inl done) is = omega (arith, done, is)
-packet_number_small (Ok b) number (inr (inl memory)) is = omega (arith, memory, is)
-packet_number_small (Ok b) number (inr (inr other_length)) is = omega (arith, other_length, is)
-packet_number_small (Err e) number same is = code_no_call e (omega (arith, same, is), omega (arith, same, is))
-
--- an encoder is held
-pub stretch_held : {H : Type 0} (wanted : H → Result BlockEncoded Error) (h : H) (first count number : ℕ) (before after : List ℕ) → FillsStretch (wanted h) first count number before after → FillsHeldStretch wanted (Some h) first count number before after
-stretch_held wanted h first count number before after fills = record {
-  none = (λ is. absurd (packet_number_small (wanted h) number fills.number is), λ none. absurd (cc none));
-  fills = fills;
-  kept = fills.kept;
-}
+-- something is refused before
+pub stretch_refused : (wanted : Result BlockEncoded Error) (e : Error) (first count : ℕ) (buffer : List ℕ) → wanted ≡ Err e → FillsStretch wanted first count (code_of e) buffer buffer
+stretch_refused wanted e first count buffer is = subst (λ w. FillsStretch w first count (code_of e) buffer buffer) (sym is) (record {
+  refused = refl;
+  number = tt;
+  packets = λ zero. absurd (omega (arith, zero, code_positive e));
+  other_length = λ other. absurd (code_no_call e (omega (arith, other), omega (arith, other)));
+  kept = λ _. refl;
+})
 
 -- the ids are known, so that `end` is where they end
 pub stretch_ends : (first count end : ℕ) → end_of_stretch first count ≡ ok_of end → (end ≡ first + count) × (end ≤ 2 ^ 24)
@@ -109,12 +79,17 @@ stretch_ends first count end is = elim (cases_lt (2 ^ 24) (first + count)) [
   | inr few ↦ let same : ok_of (first + count) ≡ ok_of end = sym (rw (le-ltb (2 ^ 24) (first + count) few) refl) ∙ is in let e : first + count ≡ end = cc same in (sym e, omega (arith, few, e))
 ]
 
--- they are filled with the block that is wanted
-pub stretch_as_wanted : {H : Type 0} (block : H → Result BlockEncoded Error) (h : H) (b : BlockEncoded) (first count end number : ℕ) (before after : List ℕ) → end_of_stretch first count ≡ ok_of end → block h ≡ ok_of b
-    → FillsStretch (ok_of b) first (end - first) number before after → FillsHeldStretch (λ held. and_then (end_of_stretch first count) (λ _. block held)) (Some h) first count number before after
-stretch_as_wanted block h b first count end number before after ended found fills =
-    let ends = stretch_ends first count end ended in
-    let many : end - first ≡ count = omega (arith, ends.0) in
-    let wanted : and_then (end_of_stretch first count) (λ _. block h) ≡ ok_of b = ap (λ r. and_then r (λ _. block h)) ended ∙ found in
-    stretch_held (λ held. and_then (end_of_stretch first count) (λ _. block held)) h first count number before after
-    (subst (λ r. FillsStretch r first count number before after) (sym wanted) (subst (λ n. FillsStretch (ok_of b) first n number before after) many fills))
+-- the buffer is filled with packets of the block that is wanted
+pub stretch_as_wanted : (found : Result BlockEncoded Error) (b : BlockEncoded) (first count end number : ℕ) (before after : List ℕ) → end_of_stretch first count ≡ ok_of end → found ≡ ok_of b
+    → FillsStretch (ok_of b) first (end - first) number before after → FillsStretch (and_then (end_of_stretch first count) (λ _. found)) first count number before after
+stretch_as_wanted found b first count end number before after ended is fills =
+    let many : end - first ≡ count = omega (arith, (stretch_ends first count end ended).0) in
+    let wanted : and_then (end_of_stretch first count) (λ _. found) ≡ ok_of b = ap (λ r. and_then r (λ _. found)) ended ∙ is in
+    subst (λ r. FillsStretch r first count number before after) (sym wanted) (subst (λ n. FillsStretch (ok_of b) first n number before after) many fills)
+
+-- or its id is too large, or there is no such block
+pub stretch_too_large : (found : Result BlockEncoded Error) (e : Error) (first count : ℕ) (buffer : List ℕ) → end_of_stretch first count ≡ Err e → FillsStretch (and_then (end_of_stretch first count) (λ _. found)) first count (code_of e) buffer buffer
+stretch_too_large found e first count buffer is = stretch_refused _ e first count buffer (ap (λ r. and_then {Y = BlockEncoded} r (λ _. found)) is)
+
+pub stretch_unknown : (found : Result BlockEncoded Error) (e : Error) (first count end : ℕ) (buffer : List ℕ) → end_of_stretch first count ≡ ok_of end → found ≡ Err e → FillsStretch (and_then (end_of_stretch first count) (λ _. found)) first count (code_of e) buffer buffer
+stretch_unknown found e first count end buffer ended is = stretch_refused _ e first count buffer (ap (λ r. and_then {Y = BlockEncoded} r (λ _. found)) ended ∙ is)

@@ -3,7 +3,7 @@ use Rattle.std.specs.Prelude.{◌≡◌, ◌≢◌, ◌⊎◌, ℕ, Result, Ok, 
 use Rattle.rq_bytes.specs.declared.error.Error.{Error}
 use Rattle.rq_bytes.specs.Error.{code_of}
 use Rattle.raptorq_c.specs.declared.call_end.CallEnd.{CallEnd}
-use Rattle.raptorq_c.specs.declared.call_end.CallEnd.TheVariants.{Refused, WrongBuffer, Incomplete, NoCoder}
+use Rattle.raptorq_c.specs.declared.call_end.CallEnd.TheVariants.{Refused, WrongBuffer, Incomplete}
 
 -- 0 where a call is done, the number of what the codec refuses, or one of the library for C
 abbrev pub number_of : {Y : Type 0} → Result Y CallEnd → ℕ
@@ -11,7 +11,6 @@ number_of (Ok y) = 0
 number_of (Err (Refused e)) = code_of e
 number_of (Err WrongBuffer) = 24
 number_of (Err Incomplete) = 25
-number_of (Err NoCoder) = 26
 
 -- 0 where nothing is refused, else the refusal's number
 abbrev pub refusal_number : {Y : Type 0} → Result Y Error → ℕ
@@ -21,6 +20,12 @@ refusal_number (Err e) = code_of e
 -- that number, or 21, that of want of memory
 abbrev pub IsNumber : {Y : Type 0} → ℕ → Result Y Error → Type 0
 IsNumber number wanted = (number ≡ refusal_number wanted) ⊎ (number ≡ 21)
+
+-- the number of a refusal of which P
+pub record IsCodeWhere (P : Error → Type 0) (number : ℕ) : Type 0 where
+  pub error : Error
+  pub holds : P error
+  pub number_is : number ≡ code_of error
 
 -- what is wanted, as a buffer shows it, which isn't refused
 pub record IsWritten {Y B : Type 0} (shown : Y → B) (wanted : Result Y Error) (buffer : B) : Type 0 where

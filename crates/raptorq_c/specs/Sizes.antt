@@ -6,7 +6,6 @@ use Rattle.rq_bytes.specs.Refusals.{and_then}
 use Rattle.rq_standard.specs.Configuration.{configuration_of_bytes}
 use Rattle.raptorq.specs.Encoder.{packets_length, packets_refusal}
 use Rattle.raptorq.specs.Offsets.{block_range, checked_offsets}
-use Rattle.raptorq_c.specs.declared.rows.Row.{Row}
 use Rattle.raptorq_c.specs.declared.sizes.Range.{Range}
 use Rattle.raptorq_c.specs.Headers.{checked_header}
 
@@ -20,7 +19,7 @@ part_of_block header b =
     and_then (checked_offsets c) (λ _. if nat_lt b c.source_blocks then Ok (block_range c b) else Err UnknownBlock)
 
 -- how many bytes the packets of an object take
-abbrev pub bytes_of_packets : List Row → List ℕ → ℕ → Result ℕ Error
-bytes_of_packets rows header repair =
+abbrev pub bytes_of_packets : List ℕ → ℕ → Result ℕ Error
+bytes_of_packets header repair =
     let c = configuration_of_bytes header in
-    and_then (checked_header rows header) (λ _. and_then (packets_refusal c repair) (λ _. Ok (packets_length c repair)))
+    and_then (checked_header header) (λ _. and_then (packets_refusal c repair) (λ _. Ok (packets_length c repair)))

@@ -1,14 +1,16 @@
-//! The encoder of one block that C keeps, made by a plan.
-ghost use Rattle.std.specs.Prelude.{◌≡◌, ◌⊎◌, ◌↔◌, None, IfSome, IsSomeAnd, IfOk, IfErr, OnOk};
+//! Encoders of blocks that C keeps, by plans.
+ghost use Rattle.std.specs.Prelude.{◌≡◌, ◌≢◌, ◌<◌, length, None, IsSome, IsSomeAnd, IfOk, IfErr, OnOk, OnErr};
+ghost use Rattle.rq_bytes.specs.Refusals.{Answers};
+ghost use Rattle.rq_standard.specs.Configuration.{configuration_of_bytes, IsAligned};
 ghost use Rattle.rq_block.specs.SourceBlockEncodingPlan.{plan_of};
-ghost use Rattle.raptorq_c.specs.Handles.{block_encoder_in, coder_of, plan_in, plan_of_handle};
-ghost use Rattle.raptorq_c.specs.Numbers.{number_of};
-ghost use Rattle.raptorq_c.specs.Plans.{FitsBlock, IsBlockEncoderIn, OpensBlockEncoder, RefusesByPlan, StopsByPlan};
+ghost use Rattle.raptorq_c.specs.Coders.{block_encoder_at, block_encoder_in, kept_block_encoder, kept_coder, plan_in, kept_plan};
+ghost use Rattle.raptorq_c.specs.Encoders.{planned_refusal, stretch_of_block, FillsStretch, IsPlannedEncoder};
+ghost use Rattle.raptorq_c.specs.Numbers.{number_of, IsNumber};
 
-use crate::call_end::{CallEnd, number};
-use crate::handle::Handle;
-use crate::owned::Coder;
-use crate::rows::{Row, table_with};
+use crate::call_end::{CallEnd, number, refusal};
+use crate::kept::{Coder, Kept};
+use crate::slot::Slot;
+use crate::stretches::{Ids, fill_stretch};
 use raptorq::base::CONFIGURATION_LENGTH;
 use raptorq::error::Error;
 use raptorq::{ObjectTransmissionInformation, SourceBlockEncoder, SourceBlockEncodingPlan};
@@ -16,85 +18,144 @@ use std::alloc::Global;
 use std::ops::Deref;
 use std::sync::Arc;
 
-/// A block that is to be encoded.
+// A block that is to be encoded.
 #[derive(Clone, Copy)]
-pub(crate) struct Block<'a> {
-    pub(crate) configuration: &'a [u8; CONFIGURATION_LENGTH],
-    pub(crate) number: u8,
-    pub(crate) bytes: &'a [u8],
+struct Block<'a> {
+    configuration: &'a [u8; CONFIGURATION_LENGTH],
+    number: u8,
+    bytes: &'a [u8],
 }
 
-// The encoder of a block by a plan.
-fn block_encoder(
+// Tests that a block of so many bytes is as many whole symbols as a plan is for.
+fn check_planned(
+    config: &ObjectTransmissionInformation,
+    bytes: usize,
+    plan: &SourceBlockEncodingPlan,
+) -> Result<(), Error>
+    ensures refused { result ≡ planned_refusal config.now bytes (plan_of plan.now) }
+    ensures positive { OnOk result (0 < config.now.symbol_size) }
+    ensures aligned { OnOk result (IsAligned config.now) }
+{
+    config.check_symbols()?;
+    let size = usize::from(config.symbol_size());
+    if bytes % size != 0 {
+        return Err(Error::WrongDataLength);
+    }
+    if bytes / size != usize::from(plan.source_symbol_count()) {
+        return Err(Error::PlanMismatch);
+    }
+    Ok(())
+}
+
+// The encoder of a block, by a plan for as many symbols.
+fn planned_encoder(
     alloc: Global,
-    rows: &[Row],
     block: Block<'_>,
     plan: &SourceBlockEncodingPlan,
-) -> Result<Box<Coder>, Error>
-    ensures refused { IfErr result (λ e. (e ≡ Error.OutOfMemory)
-        ⊎ RefusesByPlan rows.now block.entry.configuration.now block.entry.bytes.now (plan_of plan.now) e) }
-    ensures fits { OnOk result (FitsBlock rows.now block.entry.configuration.now block.entry.bytes.now (plan_of plan.now)) }
-    ensures encoder { IfOk result (λ b. IsSomeAnd (block_encoder_in b.value)
-        (IsBlockEncoderIn rows.now block.entry.configuration.now block.entry.number block.entry.bytes.now)) }
+) -> Result<Coder, Error>
+    ensures refused { Answers (λ _. tt) result
+        (planned_refusal (configuration_of_bytes block.entry.configuration.now) (length block.entry.bytes.now) (plan_of plan.now)) }
+    ensures encoder { IfOk result (λ made. IsSomeAnd (block_encoder_in made)
+        (IsPlannedEncoder block.entry.configuration.now block.entry.number block.entry.bytes.now (plan_of plan.now))) }
 {
-    let table = table_with(alloc, rows)?;
     let config = ObjectTransmissionInformation::deserialize(block.configuration);
-    let encoder = SourceBlockEncoder::with_encoding_plan(
-        alloc,
-        block.number,
-        &config,
-        block.bytes,
-        &table,
-        plan,
-    )?;
-    Ok(Coder::BlockEncoder(Arc::new(alloc, encoder)?).boxed(alloc)?)
+    check_planned(&config, block.bytes.len(), plan)?;
+    let encoder = SourceBlockEncoder::of_block(alloc, block.number, &config, block.bytes, plan)?;
+    Ok(Coder::BlockEncoder(Arc::new(alloc, encoder)?))
 }
 
-// The encoder of a block by the plan that a coder is, if it is one.
-fn block_encoder_by(
-    alloc: Global,
-    rows: &[Row],
-    block: Block<'_>,
-    coder: &Coder,
-) -> Result<Box<Coder>, CallEnd>
-    ensures none { (number_of result ≡ 26) ↔ (plan_in coder.now ≡ None) }
-    ensures refused { IfSome (plan_in coder.now) (StopsByPlan rows.now block.entry.configuration.now block.entry.bytes.now (number_of result)) }
-    ensures fits { OnOk result (IsSomeAnd (plan_in coder.now) (FitsBlock rows.now block.entry.configuration.now block.entry.bytes.now)) }
-    ensures encoder { IfOk result (λ b. IsSomeAnd (block_encoder_in b.value)
-        (IsBlockEncoderIn rows.now block.entry.configuration.now block.entry.number block.entry.bytes.now)) }
+// The encoder of a block, by the plan that a coder is.
+fn planned_by(alloc: Global, block: Block<'_>, coder: &Coder) -> Result<Coder, Error>
+    requires { IsSome (plan_in coder.now) }
+    ensures refused { IsSomeAnd (plan_in coder.now) (λ p. Answers (λ _. tt) result
+        (planned_refusal (configuration_of_bytes block.entry.configuration.now) (length block.entry.bytes.now) p)) }
+    ensures encoder { IfOk result (λ made. IsSomeAnd (plan_in coder.now) (λ p. IsSomeAnd (block_encoder_in made)
+        (IsPlannedEncoder block.entry.configuration.now block.entry.number block.entry.bytes.now p))) }
 {
     let Coder::Plan(plan) = coder else {
-        return Err(CallEnd::NoCoder);
+        unreachable!()
     };
-    Ok(block_encoder(alloc, rows, block, plan.deref())?)
+    planned_encoder(alloc, block, plan.deref())
 }
 
-/// Makes the encoder of a source block by the plan that a handle holds, which the other handle then
-/// holds. What that one held before is freed. The plan stays where it is.
+// Makes the encoder of a block by a plan, behind a null pointer.
+fn open(alloc: Global, encoder: &mut Slot, plan: &mut Kept, block: Block<'_>) -> Result<(), Error>
+    requires null { encoder.old.value ≡ None }
+    requires plan { IsSome (kept_plan plan.old) }
+    ensures refused { IsSomeAnd (kept_plan plan.old) (λ p. Answers (λ _. tt) result
+        (planned_refusal (configuration_of_bytes block.entry.configuration.now) (length block.entry.bytes.now) p)) }
+    ensures encoder { OnOk result (IsSomeAnd (kept_plan plan.old) (λ p. IsSomeAnd (block_encoder_at encoder.new)
+        (IsPlannedEncoder block.entry.configuration.now block.entry.number block.entry.bytes.now p))) }
+    ensures null { OnErr result (encoder.new.value ≡ None) }
+    ensures same { kept_coder plan.new ≡ kept_coder plan.old }
+{
+    let coder = plan.take(alloc);
+    let made = planned_by(alloc, block, coder.as_ref());
+    plan.put(coder);
+    encoder.keep(alloc, made?)
+}
+
+/// Makes the encoder of a source block by a plan, and writes a pointer to it over a null one. The plan
+/// stays where it is.
 ///
-/// Answers 26 where the first handle holds no plan. Refuses a row, and then what
-/// `SourceBlockEncoder::with_encoding_plan` refuses. Want of memory may come before any of that. Where it
-/// refuses, the other handle holds what it held.
+/// Refuses a symbol size of 0, an alignment of 0 and one that doesn't divide the symbol size, bytes that
+/// aren't whole symbols, and then another number of them than the plan is for. Want of memory may come
+/// before any of these. Where it refuses, the pointer stays null.
 #[unsafe(no_mangle)]
-pub extern "C" fn reamertan_open_block_encoder(
+pub extern "C" fn reamertan_block_encoder_open(
     alloc: Global,
-    rows: &[Row],
+    encoder: &mut Slot,
+    plan: &mut Kept,
     configuration: &[u8; CONFIGURATION_LENGTH],
     block: u8,
     bytes: &[u8],
-    plan: &mut Handle,
-    handle: &mut Handle,
 ) -> u8
-    ensures opens { OpensBlockEncoder rows.now configuration.now block bytes.now (plan_of_handle plan.old) result handle.old handle.new }
-    ensures same { coder_of plan.new ≡ coder_of plan.old }
+    requires null { encoder.old.value ≡ None }
+    requires plan { IsSome (kept_plan plan.old) }
+    ensures number { IsSomeAnd (kept_plan plan.old) (λ p. IsNumber result (planned_refusal (configuration_of_bytes configuration.now) (length bytes.now) p)) }
+    ensures encoder { result ≡ 0 → IsSomeAnd (kept_plan plan.old) (λ p. IsSomeAnd (block_encoder_at encoder.new) (IsPlannedEncoder configuration.now block bytes.now p)) }
+    ensures null { result ≢ 0 → encoder.new.value ≡ None }
+    ensures same { kept_coder plan.new ≡ kept_coder plan.old }
 {
-    number(handle.replace_by(alloc, plan, |coder| {
-        // For the proof: nothing is known of a closure that takes in a struct of references.
-        let block = Block {
-            configuration,
-            number: block,
-            bytes,
-        };
-        block_encoder_by(alloc, rows, block, coder)
-    }))
+    let block = Block {
+        configuration,
+        number: block,
+        bytes,
+    };
+    refusal(open(alloc, encoder, plan, block))
+}
+
+// Fills a buffer with packets of the block whose encoder a coder is.
+fn write(coder: &Coder, ids: Ids, packets: &mut [u8]) -> Result<(), CallEnd>
+    requires { IsSome (block_encoder_in coder.now) }
+    ensures { IsSomeAnd (block_encoder_in coder.now) (λ b. FillsStretch (stretch_of_block ids.first ids.count b) ids.first ids.count
+        (number_of result) packets.old packets.new) }
+{
+    let Coder::BlockEncoder(encoder) = coder else {
+        unreachable!()
+    };
+    let end = ids.end()?;
+    fill_stretch(encoder.deref(), ids.first, end, packets)
+}
+
+/// Fills a buffer with `count` packets of the block, whose encoding symbol ids go from `first` on: each
+/// its payload id of 4 bytes and its symbol, one behind another. Takes no memory.
+///
+/// Refuses ids of more than 24 bits, and then a buffer that hasn't the packets' length.
+#[unsafe(no_mangle)]
+pub extern "C" fn reamertan_block_encoder_write(
+    alloc: Global,
+    encoder: &mut Kept,
+    first: u32,
+    count: u32,
+    packets: &mut [u8],
+) -> u8
+    requires { IsSome (kept_block_encoder encoder.old) }
+    ensures fills { IsSomeAnd (kept_block_encoder encoder.old) (λ b. FillsStretch (stretch_of_block first count b) first count result packets.old packets.new) }
+    ensures same { kept_coder encoder.new ≡ kept_coder encoder.old }
+{
+    let coder = encoder.take(alloc);
+    let ended = write(coder.as_ref(), Ids { first, count }, packets);
+    encoder.put(coder);
+    number(ended)
 }

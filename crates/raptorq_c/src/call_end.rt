@@ -2,7 +2,7 @@
 ghost use Rattle.std.specs.Prelude.{◌≡◌};
 ghost use Rattle.rq_bytes.specs.declared.error.Error.TheVariants.{OutOfMemory};
 ghost use Rattle.raptorq_c.specs.declared.call_end.CallEnd.TheVariants.{Refused};
-ghost use Rattle.raptorq_c.specs.Numbers.{number_of};
+ghost use Rattle.raptorq_c.specs.Numbers.{number_of, refusal_number};
 
 use raptorq::error::Error;
 use std::alloc::AllocError;
@@ -15,10 +15,8 @@ pub enum CallEnd {
     Refused(Error),
     /// The caller's buffer has another length than what is to be written.
     WrongBuffer,
-    /// The packets don't determine the object.
+    /// The packets don't determine what is asked for.
     Incomplete,
-    /// The handle holds no coder, or one of another kind.
-    NoCoder,
 }
 
 impl From<Error> for CallEnd {
@@ -46,6 +44,15 @@ pub(crate) fn number(ended: Result<(), CallEnd>) -> u8
         Err(CallEnd::Refused(refusal)) => refusal.code(),
         Err(CallEnd::WrongBuffer) => 24,
         Err(CallEnd::Incomplete) => 25,
-        Err(CallEnd::NoCoder) => 26,
+    }
+}
+
+/// The same of a call that ends for a refusal alone.
+pub(crate) fn refusal(ended: Result<(), Error>) -> u8
+    ensures { result ≡ refusal_number ended }
+{
+    match ended {
+        Ok(()) => 0,
+        Err(refusal) => refusal.code(),
     }
 }

@@ -4,10 +4,10 @@ ghost use Rattle.rq_bytes.specs.Refusals.{Answers};
 ghost use Rattle.rq_standard.specs.Configuration.{header_bytes, configuration_of_bytes};
 ghost use Rattle.rq_base.specs.RefusedInput.{new_configuration};
 ghost use Rattle.raptorq_c.specs.Numbers.{number_of, refusal_number, Fills, IsNumber};
-ghost use Rattle.raptorq_c.specs.Headers.{parameters_of, checked_header, derived_configuration};
+ghost use Rattle.raptorq_c.specs.Headers.{parameters_of, checked_header, cut_configuration, derived_configuration};
 
 use crate::call_end::{CallEnd, number};
-use crate::rows::{Row, table_with};
+use crate::tables::table;
 use raptorq::ObjectTransmissionInformation;
 use raptorq::base::CONFIGURATION_LENGTH;
 use raptorq::error::Error;
@@ -32,14 +32,13 @@ pub struct Parameters {
 // The configuration of an object's length that a packet size and a decoder's memory ask for.
 fn derived(
     alloc: Global,
-    rows: &[Row],
     object_length: u64,
     packet_size: u16,
     decoder_memory: u64,
 ) -> Result<ObjectTransmissionInformation, Error>
-    ensures { Answers (λ c. c) result (derived_configuration rows.now object_length packet_size decoder_memory) }
+    ensures { Answers (λ c. c) result (derived_configuration object_length packet_size decoder_memory) }
 {
-    let table = table_with(alloc, rows)?;
+    let table = table(alloc)?;
     ObjectTransmissionInformation::generate_encoding_parameters(
         &table,
         object_length,
@@ -51,22 +50,70 @@ fn derived(
 /// The configuration of an object of this length, in bytes, for packets of at most `packet_size`
 /// bytes of payload, and decoders each of whose sub-blocks fits `decoder_memory` bytes. The numbers
 /// are those of `ObjectTransmissionInformation::generate_encoding_parameters`, and 10485760 is its
-/// default memory. Refuses a row, and then what that refuses.
+/// default memory. Refuses what that refuses.
 #[unsafe(no_mangle)]
 pub extern "C" fn reamertan_derive_configuration(
     alloc: Global,
-    rows: &[Row],
     object_length: u64,
     packet_size: u16,
     decoder_memory: u64,
     configuration: &mut [u8; CONFIGURATION_LENGTH],
 ) -> u8
-    ensures { Fills header_bytes (derived_configuration rows.now object_length packet_size decoder_memory)
+    ensures { Fills header_bytes (derived_configuration object_length packet_size decoder_memory)
         result configuration.old configuration.new }
 {
-    match derived(alloc, rows, object_length, packet_size, decoder_memory) {
+    match derived(alloc, object_length, packet_size, decoder_memory) {
         Ok(derived) => {
             *configuration = derived.serialize();
+            0
+        }
+        Err(refusal) => refusal.code(),
+    }
+}
+
+// The configuration of an object in symbols of a size, in as few blocks as have at most so many of them.
+fn cut(
+    object_length: u64,
+    symbol_size: u16,
+    block_symbols: u16,
+) -> Result<ObjectTransmissionInformation, Error>
+    ensures { result ≡ cut_configuration object_length symbol_size block_symbols }
+{
+    if symbol_size == 0 {
+        return Err(Error::SymbolSizeZero);
+    }
+    if object_length == 0 {
+        return Err(Error::TransferLengthZero);
+    }
+    if block_symbols == 0 {
+        return Err(Error::TooManyBlocks);
+    }
+    let symbols = object_length.div_ceil(u64::from(symbol_size));
+    let blocks = symbols.div_ceil(u64::from(block_symbols));
+    if blocks > 255 {
+        return Err(Error::TooManyBlocks);
+    }
+    ObjectTransmissionInformation::new(object_length, symbol_size, blocks as u8, 1, 1)
+}
+
+/// The configuration of an object of this length, in bytes, in symbols of `symbol_size` bytes, cut into
+/// as few source blocks as have at most `block_symbols` symbols, with one sub-block and an alignment of 1.
+///
+/// Refuses a symbol size of 0, an object of 0 bytes, more than 255 blocks, and then what
+/// `ObjectTransmissionInformation::new` refuses. Takes no memory.
+#[unsafe(no_mangle)]
+pub extern "C" fn reamertan_cut(
+    object_length: u64,
+    symbol_size: u16,
+    block_symbols: u16,
+    configuration: &mut [u8; CONFIGURATION_LENGTH],
+) -> u8
+    ensures number { result ≡ refusal_number (cut_configuration object_length symbol_size block_symbols) }
+    ensures fills { Fills header_bytes (cut_configuration object_length symbol_size block_symbols) result configuration.old configuration.new }
+{
+    match cut(object_length, symbol_size, block_symbols) {
+        Ok(cut) => {
+            *configuration = cut.serialize();
             0
         }
         Err(refusal) => refusal.code(),
@@ -124,27 +171,22 @@ pub extern "C" fn reamertan_read_configuration(
 }
 
 // Tests that coders take a configuration.
-fn check(
-    alloc: Global,
-    rows: &[Row],
-    configuration: &[u8; CONFIGURATION_LENGTH],
-) -> Result<(), CallEnd>
-    ensures { IsNumber (number_of result) (checked_header rows.now configuration.now) }
+fn check(alloc: Global, configuration: &[u8; CONFIGURATION_LENGTH]) -> Result<(), CallEnd>
+    ensures { IsNumber (number_of result) (checked_header configuration.now) }
 {
-    let table = table_with(alloc, rows)?;
+    let table = table(alloc)?;
     ObjectTransmissionInformation::deserialize(configuration).check(&table)?;
     Ok(())
 }
 
 /// Whether encoders and decoders take the configuration that twelve bytes spell:
-/// `ObjectTransmissionInformation::check`. Refuses a row, and then what that refuses.
+/// `ObjectTransmissionInformation::check`. Refuses what that refuses.
 #[unsafe(no_mangle)]
 pub extern "C" fn reamertan_check_configuration(
     alloc: Global,
-    rows: &[Row],
     configuration: &[u8; CONFIGURATION_LENGTH],
 ) -> u8
-    ensures { IsNumber result (checked_header rows.now configuration.now) }
+    ensures { IsNumber result (checked_header configuration.now) }
 {
-    number(check(alloc, rows, configuration))
+    number(check(alloc, configuration))
 }

@@ -1,133 +1,203 @@
-//! A decoder that C keeps: packets one at a time, and the object once they determine it.
-ghost use Rattle.std.specs.Prelude.{◌≡◌, Some, None, IsSomeAnd, IfOk};
+//! Decoders of objects that C keeps: packets in, and the object once they determine it.
+ghost use Rattle.std.specs.Prelude.{◌≡◌, ◌≢◌, None, IsSome, IsSomeAnd, OnOk, OnErr, is_some, slice_index};
 ghost use Rattle.std.specs.Result.{result_unwrap_or};
 ghost use Rattle.rq_bytes.specs.Refusals.{Answers};
-ghost use Rattle.raptorq_c.specs.Handles.{coder_of, decoder_in, decoder_of, state_in, state_of_handle, missing_of_held, FillsWithAnswer, FillsWithBlock, IsAdded, IsNewDecoder, OpensDecoder, TakesBytes, TellsComplete, WritesMissing};
-ghost use Rattle.raptorq_c.specs.Numbers.{number_of, refusal_number};
+ghost use Rattle.rq_standard.specs.DecoderState.{result_of};
+ghost use Rattle.raptorq.specs.Decoder.{state_of};
+ghost use Rattle.raptorq_c.specs.Coders.{kept_coder, decoder_at, kept_decoder, Changes};
+ghost use Rattle.raptorq_c.specs.Decoders.{gets_block, has_block as has_block_of, FillsWithBlock, FillsWithResult, IsNewDecoder, WritesMissing};
+ghost use Rattle.raptorq_c.specs.Frames.{AreAdded, IsAdded};
+ghost use Rattle.rq_standard.specs.Streams.{frame_size};
 ghost use Rattle.raptorq_c.specs.Headers.{checked_header};
+ghost use Rattle.raptorq_c.specs.Numbers.{number_of, refusal_number, IsNumber};
 
 use crate::buffers::fill_answer;
-use crate::call_end::{CallEnd, number};
-use crate::handle::Handle;
-use crate::owned::Coder;
-use crate::rows::{Row, table_with};
+use crate::call_end::{CallEnd, number, refusal};
+use crate::frames::{Receiver, add_whole};
+use crate::kept::{Coder, Kept};
+use crate::slot::Slot;
+use crate::tables::table;
 use raptorq::base::CONFIGURATION_LENGTH;
 use raptorq::error::Error;
-use raptorq::{Decoder, EncodingPacket, ObjectTransmissionInformation};
+use raptorq::{Decoder, ObjectTransmissionInformation};
 use std::alloc::Global;
 
-// The decoder of an object in this configuration.
-fn decoder(
-    alloc: Global,
-    rows: &[Row],
-    configuration: &[u8; CONFIGURATION_LENGTH],
-) -> Result<Box<Coder>, Error>
-    ensures refused { Answers (λ _. tt) result (checked_header rows.now configuration.now) }
-    ensures decoder { IfOk result (λ b. IsSomeAnd (decoder_in b.value) (IsNewDecoder rows.now configuration.now)) }
-{
-    let table = table_with(alloc, rows)?;
-    let config = ObjectTransmissionInformation::deserialize(configuration);
-    let decoder = Decoder::new(alloc, &table, config)?;
-    Ok(Coder::Decoder(decoder).boxed(alloc)?)
-}
-
-// Puts a new decoder into the handle, once it is made.
+// Makes the decoder of an object in this configuration, behind a null pointer.
 fn open(
     alloc: Global,
-    rows: &[Row],
+    decoder: &mut Slot,
     configuration: &[u8; CONFIGURATION_LENGTH],
-    handle: &mut Handle,
-) -> Result<(), CallEnd>
-    ensures { OpensDecoder rows.now configuration.now (number_of result) handle.old handle.new }
+) -> Result<(), Error>
+    requires { decoder.old.value ≡ None }
+    ensures refused { Answers (λ _. tt) result (checked_header configuration.now) }
+    ensures decoder { OnOk result (IsSomeAnd (decoder_at decoder.new) (IsNewDecoder configuration.now)) }
+    ensures null { OnErr result (decoder.new.value ≡ None) }
 {
-    handle.replace(alloc, decoder(alloc, rows, configuration)?);
-    Ok(())
+    let table = table(alloc)?;
+    let config = ObjectTransmissionInformation::deserialize(configuration);
+    let made = Decoder::new(alloc, &table, config)?;
+    decoder.keep(alloc, Coder::Decoder(made))
 }
 
-/// Makes a decoder of an object in this configuration, which the handle then holds. What it held before
-/// is freed.
+/// Makes the decoder of an object in this configuration, and writes a pointer to it over a null one.
 ///
-/// Refuses a row, and then what `Decoder::new` refuses. Want of memory may come before any of that. Where
-/// it refuses, the handle holds what it held.
+/// Refuses what `Decoder::new` refuses. Want of memory may come before any of that. Where it refuses, the
+/// pointer stays null.
 #[unsafe(no_mangle)]
-pub extern "C" fn reamertan_open_decoder(
+pub extern "C" fn reamertan_decoder_open(
     alloc: Global,
-    rows: &[Row],
+    decoder: &mut Slot,
     configuration: &[u8; CONFIGURATION_LENGTH],
-    handle: &mut Handle,
 ) -> u8
-    ensures { OpensDecoder rows.now configuration.now result handle.old handle.new }
+    requires null { decoder.old.value ≡ None }
+    ensures number { IsNumber result (checked_header configuration.now) }
+    ensures decoder { result ≡ 0 → IsSomeAnd (decoder_at decoder.new) (IsNewDecoder configuration.now) }
+    ensures null { result ≢ 0 → decoder.new.value ≡ None }
 {
-    number(open(alloc, rows, configuration, handle))
+    refusal(open(alloc, decoder, configuration))
 }
 
-/// Takes the packet that bytes spell.
-pub(crate) fn add_bytes(alloc: Global, decoder: &mut Decoder, packet: &[u8]) -> Result<(), Error>
-    ensures { IsAdded decoder.old packet.now (refusal_number result) decoder.new }
+// Whether an object's block is answered.
+fn has_block(decoder: &Decoder, block: u8) -> bool
+    ensures { result ≡ has_block_of (state_of decoder.now) block }
 {
-    decoder.add_new_packet(EncodingPacket::deserialize(alloc, packet)?)
+    decoder.block_bytes(block).is_some()
 }
 
-// Takes a packet, where the coder is a decoder.
-fn add(alloc: Global, coder: &mut Coder, packet: &[u8]) -> Result<(), CallEnd>
-    ensures takes { TakesBytes packet.now (number_of result) (decoder_in coder.old) (decoder_in coder.new) }
-    ensures other { decoder_in coder.old ≡ None → coder.new ≡ coder.old }
+// What a packet does, and whether its block is answered by it.
+#[derive(Drop)]
+struct Added {
+    number: u8,
+    completes: bool,
+}
+
+// Takes the packet that bytes spell.
+fn add_telling(alloc: Global, decoder: &mut Decoder, packet: &[u8]) -> Added
+    ensures added { IsAdded decoder.old packet.now result.number decoder.new }
+    ensures told { result.completes ≡ gets_block (state_of decoder.old) (state_of decoder.new) (slice_index packet.now 0) }
 {
-    match coder {
-        Coder::Decoder(decoder) => Ok(add_bytes(alloc, decoder, packet)?),
-        _ => Err(CallEnd::NoCoder),
+    let block = packet.first().copied().unwrap_or(0);
+    let had = has_block(decoder, block);
+    let number = refusal(decoder.add_bytes(alloc, packet));
+    Added {
+        number,
+        completes: !had && has_block(decoder, block),
     }
 }
 
-/// Takes a packet, a payload id of 4 bytes and a symbol.
+/// Takes a packet, a payload id of 4 bytes and a symbol, and writes whether its block is complete by it.
 ///
-/// Answers 26 where the handle holds no decoder. Refuses bytes that are shorter than a payload id, and
-/// then what `Decoder::add_new_packet` refuses, a contradiction (22) last: the packet is then recorded.
-/// Want of memory may come before what that call refuses. The packet may then be recorded, unless it
-/// is of a block that the object hasn't, or of another size.
+/// Refuses bytes that are shorter than a payload id, and then what `Decoder::add_new_packet` refuses, a
+/// contradiction (22) last: the packet is then recorded. Want of memory may come before what that call
+/// refuses. The packet may then be recorded, unless it is of a block that the object hasn't, or of
+/// another size.
 #[unsafe(no_mangle)]
-pub extern "C" fn reamertan_add_packet(alloc: Global, handle: &mut Handle, packet: &[u8]) -> u8
-    ensures takes { TakesBytes packet.now result (decoder_of handle.old) (decoder_of handle.new) }
-    ensures other { decoder_of handle.old ≡ None → coder_of handle.new ≡ coder_of handle.old }
-{
-    number(handle.change(alloc, |coder| add(alloc, coder, packet)))
-}
-
-// Fills a buffer with the object, where the coder is a decoder.
-fn write(coder: &Coder, object: &mut [u8]) -> Result<(), CallEnd>
-    ensures { FillsWithAnswer (state_in coder.now) (number_of result) object.old object.new }
-{
-    let Coder::Decoder(decoder) = coder else {
-        return Err(CallEnd::NoCoder);
-    };
-    let answer = decoder.get_result()?;
-    fill_answer(object, answer.as_deref())
-}
-
-/// Fills a buffer with the object, where its packets determine it.
-///
-/// Answers 26 where the handle holds no decoder, 25 where the packets don't determine the object or
-/// contradict each other, and then 24 where the buffer hasn't the object's length. Want of memory
-/// may come before 24.
-#[unsafe(no_mangle)]
-pub extern "C" fn reamertan_write_object(
+pub extern "C" fn reamertan_decoder_add_packet(
     alloc: Global,
-    handle: &mut Handle,
-    object: &mut [u8],
+    decoder: &mut Kept,
+    packet: &[u8],
+    completes: &mut bool,
 ) -> u8
-    ensures fills { FillsWithAnswer (state_of_handle handle.old) result object.old object.new }
-    ensures same { coder_of handle.new ≡ coder_of handle.old }
+    requires { IsSome (kept_decoder decoder.old) }
+    ensures added { Changes (kept_decoder decoder.old) (kept_decoder decoder.new) (λ old new. IsAdded old packet.now result new) }
+    ensures told { Changes (kept_decoder decoder.old) (kept_decoder decoder.new) (λ old new. completes.new ≡ gets_block (state_of old) (state_of new) (slice_index packet.now 0)) }
 {
-    number(handle.fill(alloc, object, |coder, object| write(coder, object)))
+    let mut coder = decoder.take(alloc);
+    let Coder::Decoder(inner) = coder.as_mut() else {
+        unreachable!()
+    };
+    let added = add_telling(alloc, inner, packet);
+    decoder.put(coder);
+    *completes = added.completes;
+    added.number
 }
 
-// Fills a buffer with the object's bytes in a block, where the coder is a decoder.
-fn write_part(coder: &Coder, block: u8, bytes: &mut [u8]) -> Result<(), CallEnd>
-    ensures { FillsWithBlock (state_in coder.now) block (number_of result) bytes.old bytes.new }
+/// Takes packets that lie one behind another, each a payload id of 4 bytes and a symbol, in their order.
+///
+/// Refuses `WrongPayloadSize`, before any packet is taken, where the bytes are no whole number of packets,
+/// and then as `reamertan_decoder_add_packet` refuses the first packet that it refuses. Those before it
+/// are taken, and those behind it aren't.
+#[unsafe(no_mangle)]
+pub extern "C" fn reamertan_decoder_add_packets(
+    alloc: Global,
+    decoder: &mut Kept,
+    packets: &[u8],
+) -> u8
+    requires { IsSome (kept_decoder decoder.old) }
+    ensures { Changes (kept_decoder decoder.old) (kept_decoder decoder.new) (λ old new. AreAdded IsAdded (frame_size (state_of old).configuration) old packets.now result new) }
 {
-    let Coder::Decoder(decoder) = coder else {
-        return Err(CallEnd::NoCoder);
+    let mut coder = decoder.take(alloc);
+    let Coder::Decoder(inner) = coder.as_mut() else {
+        unreachable!()
     };
+    let size = inner.get_config().frame_size();
+    let ended = add_whole(alloc, inner, size, packets);
+    decoder.put(coder);
+    refusal(ended)
+}
+
+/// Whether the packets that were taken determine the object.
+#[unsafe(no_mangle)]
+pub extern "C" fn reamertan_decoder_is_complete(alloc: Global, decoder: &mut Kept) -> bool
+    requires { IsSome (kept_decoder decoder.old) }
+    ensures complete { IsSomeAnd (kept_decoder decoder.old) (λ d. result ≡ is_some (result_of (state_of d))) }
+    ensures same { kept_coder decoder.new ≡ kept_coder decoder.old }
+{
+    let coder = decoder.take(alloc);
+    let Coder::Decoder(inner) = coder.as_ref() else {
+        unreachable!()
+    };
+    let complete = inner.is_complete();
+    decoder.put(coder);
+    complete
+}
+
+// How many packets more a block needs at least.
+fn missing_count(decoder: &Decoder, block: u8) -> Result<u32, Error>
+    // What a call does that writes it over a 0.
+    ensures { WritesMissing decoder.now block (refusal_number result) 0 (result_unwrap_or result 0) }
+{
+    match decoder.missing_packets(block)? {
+        Some(count) => Ok(count),
+        None => Err(Error::Contradiction),
+    }
+}
+
+/// Writes how many packets more source block `block` needs at least, of ids that weren't taken yet:
+/// what `Decoder::missing_packets` answers.
+///
+/// Refuses a number that no source block has, and a block whose packets were found to contradict each
+/// other (22).
+#[unsafe(no_mangle)]
+pub extern "C" fn reamertan_decoder_missing(
+    alloc: Global,
+    decoder: &mut Kept,
+    block: u8,
+    packets: &mut u32,
+) -> u8
+    requires { IsSome (kept_decoder decoder.old) }
+    ensures writes { IsSomeAnd (kept_decoder decoder.old) (λ d. WritesMissing d block result packets.old packets.new) }
+    ensures same { kept_coder decoder.new ≡ kept_coder decoder.old }
+{
+    let coder = decoder.take(alloc);
+    let Coder::Decoder(inner) = coder.as_ref() else {
+        unreachable!()
+    };
+    let counted = missing_count(inner, block);
+    decoder.put(coder);
+    match counted {
+        Ok(count) => {
+            *packets = count;
+            0
+        }
+        Err(refusal) => refusal.code(),
+    }
+}
+
+// Fills a buffer with the object's bytes in a block.
+fn write_part(decoder: &Decoder, block: u8, bytes: &mut [u8]) -> Result<(), CallEnd>
+    ensures { FillsWithBlock (state_of decoder.now) block (number_of result) bytes.old bytes.new }
+{
     if block >= decoder.get_config().source_blocks() {
         return Err(CallEnd::Refused(Error::UnknownBlock));
     }
@@ -137,85 +207,61 @@ fn write_part(coder: &Coder, block: u8, bytes: &mut [u8]) -> Result<(), CallEnd>
 /// Fills a buffer with the object's bytes in source block `block`, where its packets determine the
 /// block: what `Decoder::block_bytes` lends. They end where the object does.
 ///
-/// Answers 26 where the handle holds no decoder, 14 where the object has no such block, 25 where the
-/// packets don't determine the block or contradict each other, and then 24 where the buffer hasn't
-/// their length.
+/// Refuses a number that no source block has, then packets that don't determine the block or contradict
+/// each other (25), and then a buffer that hasn't the bytes' length (24).
 #[unsafe(no_mangle)]
-pub extern "C" fn reamertan_write_block(
+pub extern "C" fn reamertan_decoder_write_block(
     alloc: Global,
-    handle: &mut Handle,
+    decoder: &mut Kept,
     block: u8,
     bytes: &mut [u8],
 ) -> u8
-    ensures fills { FillsWithBlock (state_of_handle handle.old) block result bytes.old bytes.new }
-    ensures same { coder_of handle.new ≡ coder_of handle.old }
+    requires { IsSome (kept_decoder decoder.old) }
+    ensures fills { IsSomeAnd (kept_decoder decoder.old) (λ d. FillsWithBlock (state_of d) block result bytes.old bytes.new) }
+    ensures same { kept_coder decoder.new ≡ kept_coder decoder.old }
 {
-    number(handle.fill(alloc, bytes, |coder, bytes| write_part(coder, block, bytes)))
+    let coder = decoder.take(alloc);
+    let Coder::Decoder(inner) = coder.as_ref() else {
+        unreachable!()
+    };
+    let ended = write_part(inner, block, bytes);
+    decoder.put(coder);
+    number(ended)
 }
 
-// How many packets more a block needs at least, where the coder is a decoder.
-fn missing_count(coder: &Coder, block: u8) -> Result<u32, CallEnd>
-    // What a call does that writes it over a 0.
-    ensures writes { WritesMissing (state_in coder.now) block (number_of result) 0 (result_unwrap_or result 0) }
-    ensures value { IfOk result (λ count. missing_of_held block (decoder_in coder.now) ≡ Some (Some count)) }
-    ensures contradicted { number_of result ≡ 22 → missing_of_held block (decoder_in coder.now) ≡ Some None }
+// Fills a buffer with the object.
+fn write_all(decoder: &Decoder, object: &mut [u8]) -> Result<(), CallEnd>
+    ensures { FillsWithResult (state_of decoder.now) (number_of result) object.old object.new }
 {
-    let Coder::Decoder(decoder) = coder else {
-        return Err(CallEnd::NoCoder);
-    };
-    let Some(count) = decoder.missing_packets(block)? else {
-        return Err(CallEnd::Refused(Error::Contradiction));
-    };
-    Ok(count)
+    if !decoder.is_complete() {
+        return Err(CallEnd::Incomplete);
+    }
+    if object.len() as u64 != decoder.get_config().transfer_length() {
+        return Err(CallEnd::WrongBuffer);
+    }
+    decoder.write_result(object);
+    Ok(())
 }
 
-/// Writes how many packets more source block `block` needs at least, of ids that weren't taken yet:
-/// what `Decoder::missing_packets` answers.
+/// Fills a buffer with the object, where its packets determine it. Takes no memory.
 ///
-/// Answers 26 where the handle holds no decoder, 14 where the object has no such block, and 22 where
-/// the packets of the block were found to contradict each other.
+/// Refuses packets that don't determine the object or contradict each other (25), and then a buffer that
+/// hasn't the object's length (24).
 #[unsafe(no_mangle)]
-pub extern "C" fn reamertan_missing_packets(
+pub extern "C" fn reamertan_decoder_write_object(
     alloc: Global,
-    handle: &mut Handle,
-    block: u8,
-    missing: &mut u32,
+    decoder: &mut Kept,
+    object: &mut [u8],
 ) -> u8
-    ensures writes { WritesMissing (state_of_handle handle.old) block result missing.old missing.new }
-    ensures value { result ≡ 0 → missing_of_held block (decoder_of handle.old) ≡ Some (Some missing.new) }
-    ensures contradicted { result ≡ 22 → missing_of_held block (decoder_of handle.old) ≡ Some None }
-    ensures same { coder_of handle.new ≡ coder_of handle.old }
+    requires { IsSome (kept_decoder decoder.old) }
+    ensures fills { IsSomeAnd (kept_decoder decoder.old) (λ d. FillsWithResult (state_of d) result object.old object.new) }
+    ensures same { kept_coder decoder.new ≡ kept_coder decoder.old }
 {
-    match handle.ask(alloc, |coder| missing_count(coder, block)) {
-        Ok(count) => {
-            *missing = count;
-            0
-        }
-        Err(end) => number(Err(end)),
-    }
-}
-
-// Tells whether the object is there, where the coder is a decoder.
-fn tell_complete(coder: &Coder) -> Result<(), CallEnd>
-    ensures { TellsComplete (state_in coder.now) (number_of result) }
-{
-    let Coder::Decoder(decoder) = coder else {
-        return Err(CallEnd::NoCoder);
+    let coder = decoder.take(alloc);
+    let Coder::Decoder(inner) = coder.as_ref() else {
+        unreachable!()
     };
-    if decoder.is_complete() {
-        return Ok(());
-    }
-    Err(CallEnd::Incomplete)
-}
-
-/// Tells whether the object is complete, so that its bytes can be written: what `Decoder::is_complete`
-/// answers.
-///
-/// Answers 26 where the handle holds no decoder, and 25 where the object isn't complete.
-#[unsafe(no_mangle)]
-pub extern "C" fn reamertan_is_complete(alloc: Global, handle: &mut Handle) -> u8
-    ensures tells { TellsComplete (state_of_handle handle.old) result }
-    ensures same { coder_of handle.new ≡ coder_of handle.old }
-{
-    number(handle.ask(alloc, |coder| tell_complete(coder)))
+    let ended = write_all(inner, object);
+    decoder.put(coder);
+    number(ended)
 }

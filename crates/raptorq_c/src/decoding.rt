@@ -9,7 +9,7 @@ ghost use Rattle.raptorq_c.specs.Numbers.{number_of};
 
 use crate::buffers::fill_answer;
 use crate::call_end::{CallEnd, number};
-use crate::rows::{Row, table_with};
+use crate::tables::table;
 use raptorq::base::CONFIGURATION_LENGTH;
 use raptorq::decoder::decode_all;
 use raptorq::encoder::SPARSE_MATRIX_THRESHOLD;
@@ -36,14 +36,13 @@ fn steps(alloc: Global, size: usize, bytes: &[u8]) -> Result<Vec<(u32, EncodingP
 // Fills a buffer of the caller's with the object of packets, where they determine it.
 fn decode(
     alloc: Global,
-    rows: &[Row],
     configuration: &[u8; CONFIGURATION_LENGTH],
     packets: &[u8],
     object: &mut [u8],
 ) -> Result<(), CallEnd>
-    ensures { FillsWithObject rows.now configuration.now packets.now (number_of result) object.old object.new }
+    ensures { FillsWithObject configuration.now packets.now (number_of result) object.old object.new }
 {
-    let table = table_with(alloc, rows)?;
+    let table = table(alloc)?;
     let config = ObjectTransmissionInformation::deserialize(configuration);
     let steps = steps(alloc, config.frame_size(), packets)?;
     let answer = decode_all(alloc, &table, config, steps)?;
@@ -53,18 +52,17 @@ fn decode(
 /// Fills a buffer with the object of packets, in any order, each any number of times, where they
 /// determine it. The packets are cut at the length of a payload id and a symbol.
 ///
-/// Refuses a row, then a last packet that is shorter than a payload id, then what `decode_all` refuses,
+/// Refuses a last packet that is shorter than a payload id, then what `decode_all` refuses,
 /// packets that contradict each other among it (22), then packets that don't determine the object, and
 /// then a buffer that hasn't the object's length. Want of memory may come before any of them.
 #[unsafe(no_mangle)]
 pub extern "C" fn reamertan_decode(
     alloc: Global,
-    rows: &[Row],
     configuration: &[u8; CONFIGURATION_LENGTH],
     packets: &[u8],
     object: &mut [u8],
 ) -> u8
-    ensures { FillsWithObject rows.now configuration.now packets.now result object.old object.new }
+    ensures { FillsWithObject configuration.now packets.now result object.old object.new }
 {
-    number(decode(alloc, rows, configuration, packets, object))
+    number(decode(alloc, configuration, packets, object))
 }

@@ -1,117 +1,95 @@
-//! An encoder that C keeps: any packet of its object.
-ghost use Rattle.std.specs.Prelude.{◌≡◌, ◌⊎◌, Ok, IsSomeAnd, IfOk, IfErr, OnOk};
-ghost use Rattle.rq_bytes.specs.Refusals.{IsRefusal};
-ghost use Rattle.raptorq.specs.Encoder.{encoded_of};
-ghost use Rattle.raptorq_c.specs.Handles.{coder_of, encoder_in, encoder_of, wanted_id, FillsWithPacket, IsEncoderIn, IsPacketAt, OpensEncoder, RefusesEncoderOver};
-ghost use Rattle.raptorq_c.specs.Numbers.{number_of};
+//! Encoders of objects that C keeps.
+ghost use Rattle.std.specs.Prelude.{◌≡◌, ◌≢◌, ◌⊎◌, length, None, IsSome, IsSomeAnd, IfErr, OnOk, OnErr};
+ghost use Rattle.rq_rows.specs.FullTable.{full_rows};
+ghost use Rattle.rq_standard.specs.Configuration.{configuration_of_bytes};
+ghost use Rattle.raptorq.specs.Refused.{RefusesEncoder};
+ghost use Rattle.raptorq_c.specs.Coders.{kept_coder, encoder_at, encoder_in, kept_encoder};
+ghost use Rattle.raptorq_c.specs.Encoders.{IsEncoderIn, stretch_of_object, FillsStretch};
+ghost use Rattle.raptorq_c.specs.Numbers.{number_of, IsCodeWhere};
 
-use crate::buffers::fill;
-use crate::call_end::{CallEnd, number};
-use crate::handle::Handle;
-use crate::owned::Coder;
-use crate::rows::{Row, table_with};
+use crate::call_end::{CallEnd, number, refusal};
+use crate::kept::{Coder, Kept};
+use crate::slot::Slot;
+use crate::stretches::{Ids, block_encoder, fill_stretch};
+use crate::tables::table;
 use raptorq::base::CONFIGURATION_LENGTH;
 use raptorq::error::Error;
-use raptorq::{Encoder, ObjectTransmissionInformation, PayloadId};
+use raptorq::{Encoder, ObjectTransmissionInformation};
 use std::alloc::Global;
 use std::ops::Deref;
 use std::sync::Arc;
 
-// The encoder of an object in this configuration.
-fn encoder(
-    alloc: Global,
-    rows: &[Row],
-    configuration: &[u8; CONFIGURATION_LENGTH],
-    object: &[u8],
-) -> Result<Box<Coder>, Error>
-    ensures refused { IfErr result (λ e. (e ≡ Error.OutOfMemory) ⊎ RefusesEncoderOver rows.now configuration.now object.now e) }
-    ensures encoder { IfOk result (λ b. IsSomeAnd (encoder_in b.value) (IsEncoderIn rows.now configuration.now object.now)) }
-{
-    let table = table_with(alloc, rows)?;
-    let config = ObjectTransmissionInformation::deserialize(configuration);
-    let encoder = Encoder::new(alloc, &table, object, config)?;
-    Ok(Coder::Encoder(Arc::new(alloc, encoder)?).boxed(alloc)?)
-}
-
-// Puts a new encoder into the handle, once it is made.
+// Makes the encoder of an object in this configuration, behind a null pointer.
 fn open(
     alloc: Global,
-    rows: &[Row],
+    encoder: &mut Slot,
     configuration: &[u8; CONFIGURATION_LENGTH],
     object: &[u8],
-    handle: &mut Handle,
-) -> Result<(), CallEnd>
-    ensures { OpensEncoder rows.now configuration.now object.now (number_of result) handle.old handle.new }
+) -> Result<(), Error>
+    requires { encoder.old.value ≡ None }
+    ensures refused { IfErr result (λ e. (e ≡ Error.OutOfMemory) ⊎ RefusesEncoder full_rows (configuration_of_bytes configuration.now) (length object.now) e) }
+    ensures encoder { OnOk result (IsSomeAnd (encoder_at encoder.new) (IsEncoderIn configuration.now object.now)) }
+    ensures null { OnErr result (encoder.new.value ≡ None) }
 {
-    handle.replace(alloc, encoder(alloc, rows, configuration, object)?);
-    Ok(())
+    let table = table(alloc)?;
+    let config = ObjectTransmissionInformation::deserialize(configuration);
+    let made = Encoder::new(alloc, &table, object, config)?;
+    encoder.keep(alloc, Coder::Encoder(Arc::new(alloc, made)?))
 }
 
-/// Makes an encoder of an object in this configuration, which the handle then holds. What it held
-/// before is freed.
+/// Makes the encoder of an object in this configuration, and writes a pointer to it over a null one.
 ///
-/// Refuses a row, and then what `Encoder::new` refuses. Want of memory may come before any of that. Where
-/// it refuses, the handle holds what it held.
+/// Refuses what `Encoder::new` refuses. Want of memory may come before any of that. Where it refuses, the
+/// pointer stays null.
 #[unsafe(no_mangle)]
-pub extern "C" fn reamertan_open_encoder(
+pub extern "C" fn reamertan_encoder_open(
     alloc: Global,
-    rows: &[Row],
+    encoder: &mut Slot,
     configuration: &[u8; CONFIGURATION_LENGTH],
     object: &[u8],
-    handle: &mut Handle,
 ) -> u8
-    ensures { OpensEncoder rows.now configuration.now object.now result handle.old handle.new }
+    requires null { encoder.old.value ≡ None }
+    ensures refused { result ≢ 0 → (result ≡ 21) ⊎ IsCodeWhere (RefusesEncoder full_rows (configuration_of_bytes configuration.now) (length object.now)) result }
+    ensures encoder { result ≡ 0 → IsSomeAnd (encoder_at encoder.new) (IsEncoderIn configuration.now object.now) }
+    ensures null { result ≢ 0 → encoder.new.value ≡ None }
 {
-    number(open(alloc, rows, configuration, object, handle))
+    refusal(open(alloc, encoder, configuration, object))
 }
 
-// The bytes of the packet of these numbers.
-fn packet_bytes(alloc: Global, encoder: &Encoder, block: u8, esi: u32) -> Result<Vec<u8>, Error>
-    ensures refused { IfErr result (λ e. IsRefusal e (wanted_id (encoded_of encoder.now).configuration block esi)) }
-    ensures taken { OnOk result (wanted_id (encoded_of encoder.now).configuration block esi ≡ Ok (record { block = block; esi = esi })) }
-    ensures packet { IfOk result (λ v. IsPacketAt (encoded_of encoder.now) block esi v.items) }
-{
-    let packet = encoder.packet(PayloadId::new(block, esi)?)?;
-    packet.serialize(alloc)
-}
-
-// Fills a buffer with a packet, where the coder is an encoder.
-fn write(
-    alloc: Global,
-    coder: &Coder,
-    block: u8,
-    esi: u32,
-    packet: &mut [u8],
-) -> Result<(), CallEnd>
-    ensures { FillsWithPacket (encoder_in coder.now) block esi (number_of result) packet.old packet.new }
+// Fills a buffer with packets of a block, where the coder is an object's encoder.
+fn write(coder: &Coder, block: u8, ids: Ids, packets: &mut [u8]) -> Result<(), CallEnd>
+    requires { IsSome (encoder_in coder.now) }
+    ensures { IsSomeAnd (encoder_in coder.now) (λ e. FillsStretch (stretch_of_object block ids.first ids.count e) ids.first ids.count
+        (number_of result) packets.old packets.new) }
 {
     let Coder::Encoder(encoder) = coder else {
-        return Err(CallEnd::NoCoder);
+        unreachable!()
     };
-    let bytes = packet_bytes(alloc, encoder.deref(), block, esi)?;
-    fill(packet, bytes.as_slice())
+    let end = ids.end()?;
+    let found = block_encoder(encoder.deref(), block)?;
+    fill_stretch(found, ids.first, end, packets)
 }
 
-/// Fills a buffer with the packet of a source block's number and an encoding symbol id: the payload id
-/// of 4 bytes and a symbol.
+/// Fills a buffer with `count` packets of a source block, whose encoding symbol ids go from `first`
+/// on: each its payload id of 4 bytes and its symbol, one behind another. Takes no memory.
 ///
-/// Answers 26 where the handle holds no encoder of an object. Refuses an id of more than 24 bits, then a number that
-/// no source block has, and then a buffer that hasn't the packet's length. Want of memory may come
-/// before the last.
+/// Refuses ids of more than 24 bits, then a number that no source block has, and then a buffer that
+/// hasn't the packets' length.
 #[unsafe(no_mangle)]
-pub extern "C" fn reamertan_write_packet(
+pub extern "C" fn reamertan_encoder_write(
     alloc: Global,
-    handle: &mut Handle,
+    encoder: &mut Kept,
     block: u8,
-    esi: u32,
-    packet: &mut [u8],
+    first: u32,
+    count: u32,
+    packets: &mut [u8],
 ) -> u8
-    ensures fills { FillsWithPacket (encoder_of handle.old) block esi result packet.old packet.new }
-    ensures same { coder_of handle.new ≡ coder_of handle.old }
+    requires { IsSome (kept_encoder encoder.old) }
+    ensures fills { IsSomeAnd (kept_encoder encoder.old) (λ e. FillsStretch (stretch_of_object block first count e) first count result packets.old packets.new) }
+    ensures same { kept_coder encoder.new ≡ kept_coder encoder.old }
 {
-    number(handle.fill(
-        alloc,
-        packet,
-        |coder, packet| write(alloc, coder, block, esi, packet),
-    ))
+    let coder = encoder.take(alloc);
+    let ended = write(coder.as_ref(), block, Ids { first, count }, packets);
+    encoder.put(coder);
+    number(ended)
 }

@@ -1,54 +1,42 @@
 //! Plans that C keeps: what solves the equations of every block of one size.
-ghost use Rattle.std.specs.Prelude.{◌≡◌, ◌⊎◌, IsSomeAnd, IfOk, IfErr};
-ghost use Rattle.raptorq_c.specs.Handles.{plan_in};
-ghost use Rattle.raptorq_c.specs.Numbers.{number_of};
-ghost use Rattle.raptorq_c.specs.Plans.{IsPlanIn, OpensPlan, RefusesPlanOver};
+ghost use Rattle.std.specs.Prelude.{◌≡◌, ◌≢◌, ◌⊎◌, None, IsSomeAnd, IfErr, OnOk, OnErr};
+ghost use Rattle.rq_block.specs.SourceBlockEncodingPlan.{RefusesPlan};
+ghost use Rattle.rq_rows.specs.FullTable.{full_rows};
+ghost use Rattle.raptorq_c.specs.Coders.{plan_at};
+ghost use Rattle.raptorq_c.specs.Encoders.{IsPlanIn};
+ghost use Rattle.raptorq_c.specs.Numbers.{IsCodeWhere};
 
-use crate::call_end::{CallEnd, number};
-use crate::handle::Handle;
-use crate::owned::Coder;
-use crate::rows::{Row, table_with};
+use crate::call_end::refusal;
+use crate::kept::Coder;
+use crate::slot::Slot;
+use crate::tables::table;
 use raptorq::SourceBlockEncodingPlan;
 use raptorq::error::Error;
 use std::alloc::Global;
 use std::sync::Arc;
 
-// The plan of blocks of so many source symbols.
-fn plan(alloc: Global, rows: &[Row], source_symbols: u16) -> Result<Box<Coder>, Error>
-    ensures refused { IfErr result (λ e. (e ≡ Error.OutOfMemory) ⊎ RefusesPlanOver rows.now source_symbols e) }
-    ensures plan { IfOk result (λ b. IsSomeAnd (plan_in b.value) (IsPlanIn rows.now source_symbols)) }
+// Makes the plan of blocks of so many source symbols, behind a null pointer.
+fn open(alloc: Global, plan: &mut Slot, source_symbols: u16) -> Result<(), Error>
+    requires { plan.old.value ≡ None }
+    ensures refused { IfErr result (λ e. (e ≡ Error.OutOfMemory) ⊎ RefusesPlan full_rows source_symbols e) }
+    ensures plan { OnOk result (IsSomeAnd (plan_at plan.new) (IsPlanIn source_symbols)) }
+    ensures null { OnErr result (plan.new.value ≡ None) }
 {
-    let table = table_with(alloc, rows)?;
-    let plan = SourceBlockEncodingPlan::generate(alloc, &table, source_symbols)?;
-    Ok(Coder::Plan(Arc::new(alloc, plan)?).boxed(alloc)?)
+    let table = table(alloc)?;
+    let made = SourceBlockEncodingPlan::generate(alloc, &table, source_symbols)?;
+    plan.keep(alloc, Coder::Plan(Arc::new(alloc, made)?))
 }
 
-// Puts a new plan into the handle, once it is made.
-fn open(
-    alloc: Global,
-    rows: &[Row],
-    source_symbols: u16,
-    handle: &mut Handle,
-) -> Result<(), CallEnd>
-    ensures { OpensPlan rows.now source_symbols (number_of result) handle.old handle.new }
-{
-    handle.replace(alloc, plan(alloc, rows, source_symbols)?);
-    Ok(())
-}
-
-/// Makes the plan of blocks of so many source symbols, which the handle then holds. What it held
-/// before is freed.
+/// Makes the plan of blocks of so many source symbols, and writes a pointer to it over a null one.
 ///
-/// Refuses a row, and then what `SourceBlockEncodingPlan::generate` refuses. Want of memory may come
-/// before any of that. Where it refuses, the handle holds what it held.
+/// Refuses what `SourceBlockEncodingPlan::generate` refuses. Want of memory may come before any of that.
+/// Where it refuses, the pointer stays null.
 #[unsafe(no_mangle)]
-pub extern "C" fn reamertan_open_plan(
-    alloc: Global,
-    rows: &[Row],
-    source_symbols: u16,
-    handle: &mut Handle,
-) -> u8
-    ensures { OpensPlan rows.now source_symbols result handle.old handle.new }
+pub extern "C" fn reamertan_plan_open(alloc: Global, plan: &mut Slot, source_symbols: u16) -> u8
+    requires null { plan.old.value ≡ None }
+    ensures refused { result ≢ 0 → (result ≡ 21) ⊎ IsCodeWhere (RefusesPlan full_rows source_symbols) result }
+    ensures plan { result ≡ 0 → IsSomeAnd (plan_at plan.new) (IsPlanIn source_symbols) }
+    ensures null { result ≢ 0 → plan.new.value ≡ None }
 {
-    number(open(alloc, rows, source_symbols, handle))
+    refusal(open(alloc, plan, source_symbols))
 }

@@ -3,7 +3,7 @@ ghost use Rattle.raptorq_c.specs.Numbers.{number_of, Fills};
 ghost use Rattle.raptorq_c.specs.Sizes.{part_of_block, bytes_of_packets, range_between};
 
 use crate::call_end::{CallEnd, number};
-use crate::rows::{Row, table_with};
+use crate::tables::table;
 use raptorq::base::CONFIGURATION_LENGTH;
 use raptorq::error::Error;
 use raptorq::{ObjectTransmissionInformation, calculate_block_offsets, encoder};
@@ -61,14 +61,13 @@ pub extern "C" fn reamertan_block_range(
 // Writes how many bytes the packets of an object take.
 fn packets_length(
     alloc: Global,
-    rows: &[Row],
     configuration: &[u8; CONFIGURATION_LENGTH],
     repair: u32,
     length: &mut u64,
 ) -> Result<(), CallEnd>
-    ensures { Fills (λ bytes. bytes) (bytes_of_packets rows.now configuration.now repair) (number_of result) length.old length.new }
+    ensures { Fills (λ bytes. bytes) (bytes_of_packets configuration.now repair) (number_of result) length.old length.new }
 {
-    let table = table_with(alloc, rows)?;
+    let table = table(alloc)?;
     let config = ObjectTransmissionInformation::deserialize(configuration);
     config.check(&table)?;
     *length = encoder::packets_length(&config, repair)?;
@@ -78,17 +77,16 @@ fn packets_length(
 /// How many bytes the packets of an object take, those of its source symbols and of `repair` repair
 /// symbols a block: what `reamertan_encode` fills.
 ///
-/// Refuses a row, then what `ObjectTransmissionInformation::check` refuses, and then what
+/// Refuses what `ObjectTransmissionInformation::check` refuses, and then what
 /// `Encoder::get_encoded_packets` refuses. Want of memory may come before any of them.
 #[unsafe(no_mangle)]
 pub extern "C" fn reamertan_packets_length(
     alloc: Global,
-    rows: &[Row],
     configuration: &[u8; CONFIGURATION_LENGTH],
     repair: u32,
     length: &mut u64,
 ) -> u8
-    ensures { Fills (λ bytes. bytes) (bytes_of_packets rows.now configuration.now repair) result length.old length.new }
+    ensures { Fills (λ bytes. bytes) (bytes_of_packets configuration.now repair) result length.old length.new }
 {
-    number(packets_length(alloc, rows, configuration, repair, length))
+    number(packets_length(alloc, configuration, repair, length))
 }

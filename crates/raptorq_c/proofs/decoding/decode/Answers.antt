@@ -1,4 +1,4 @@
-use Rattle.std.proofs.Common.{◌≡◌, ◌⊎◌, ℕ, List, Option, Ok, Err, map, option_map, vec_items, refl, sym, ap, ◌∙◌, subst, inr}
+use Rattle.std.proofs.Common.{◌≡◌, ◌⊎◌, ℕ, List, Option, Ok, Err, map, option_map, vec_items, refl, sym, ap, ◌∙◌, subst, inl, inr}
 use Rattle.std.proofs.lemmas.Result.{err_from_is_err_and}
 use Rattle.rq_bytes.specs.declared.error.Error.{Error}
 use Rattle.rq_bytes.specs.declared.error.Error.TheVariants.{OutOfMemory}
@@ -9,14 +9,13 @@ use Rattle.rq_standard.specs.Headline.{AnswersExactly, AnswersWhereAnyCan}
 use Rattle.rq_standard.specs.Packet.{Packet, packet_of_bytes}
 use Rattle.rq_standard.specs.Streams.{frame_size, frames_in}
 use Rattle.rq_standard.specs.Following.{IsAnswerAfter}
+use Rattle.rq_rows.specs.FullTable.{full_rows}
 use Rattle.raptorq.specs.Runs.{packets_of, IsRunRefusal, AnswersRun}
-use Rattle.raptorq_c.specs.declared.rows.Row.{Row}
-use Rattle.raptorq_c.specs.FurtherRows.{HoldsOver, table_of}
 use Rattle.raptorq_c.specs.ObjectBuffers.{Answered, AnswersAnyPackets, AnswersPackets, AnswersWhereOthersCan, FillsWithObject, IsDecoded, frames_refusal, packets_in}
 use Rattle.raptorq_c.specs.Numbers.{number_of}
 use Rattle.raptorq_c.proofs.Ending.{is_stopped}
-use Rattle.raptorq_c.proofs.HandleAnswers.{answered_by, unanswered, refused_row, refused_frames, refused_run, filled_run}
-use Rattle.raptorq_c.proofs.Tables.{holds_over}
+use Rattle.raptorq_c.proofs.Answering.{answered_by, unanswered, refused_frames, refused_run, filled_run}
+use Rattle.raptorq_c.proofs.Overs.{over}
 use Rattle.raptorq_c.proofs.decoding.decode.Goals as goal
 use Rattle.raptorq_c.proofs.decoding.decode.Goals.{After-frame_size, In_ok-steps, In_ok-answer}
 
@@ -43,62 +42,57 @@ module _ (c : In_ok-answer) where
   -- what holds of what was read and cut off holds of what was handed in, and of what is answered of it
   filled : (P : List TableRow → Configuration → List Packet → Option (List ℕ) → Type 0) → P c.in_ok-table.table c.deserialize-config.result (packets_of c.in_ok-steps.steps.items) (option_map vec_items c.in_ok-answer.answer) → (number : ℕ) (after : List ℕ)
       → Answered number c.args.object.now after (λ r. r ≡ option_map vec_items c.in_ok-answer.answer)
-      → Answered number c.args.object.now after (λ answer. HoldsOver c.args.rows.now (λ t. P t (configuration_of_bytes c.args.configuration.now) (packets_in (configuration_of_bytes c.args.configuration.now) c.args.packets.now) answer))
+      → Answered number c.args.object.now after (P full_rows (configuration_of_bytes c.args.configuration.now) (packets_in (configuration_of_bytes c.args.configuration.now) c.args.packets.now))
   filled P holds number after answered =
-      let rows = c.args.rows.now in
       let k = configuration_of_bytes c.args.configuration.now in
       let answer = option_map vec_items c.in_ok-answer.answer in
-      let held = holds_over (λ t d. P t d (packets_of c.in_ok-steps.steps.items) answer) (table_of rows) _ _ k c.in_ok-table.ensures c.deserialize-config.ensures holds in
-      answered_by (λ a. HoldsOver rows (λ t. P t k (packets_in k c.args.packets.now) a)) answer number c.args.object.now after (subst (λ ps. HoldsOver rows (λ t. P t k ps answer)) (came read) held) answered
+      let held = over (λ t d. P t d (packets_of c.in_ok-steps.steps.items) answer) _ _ k c.in_ok-table.ensures.rows c.deserialize-config.ensures holds in
+      answered_by (P full_rows k (packets_in k c.args.packets.now)) answer number c.args.object.now after (subst (λ ps. P full_rows k ps answer) (came read) held) answered
 
 -- the buffer stays where something is refused
-refused_with : (rows : List Row) (header bytes buffer : List ℕ) (e : Error) → IsDecoded (code_of e) rows header bytes → FillsWithObject rows header bytes (code_of e) buffer buffer
-refused_with rows header bytes buffer e refused = record {
+refused_with : (header bytes buffer : List ℕ) (e : Error) → IsDecoded (code_of e) header bytes → FillsWithObject header bytes (code_of e) buffer buffer
+refused_with header bytes buffer e refused = record {
   refused = refused;
-  answered = unanswered e buffer buffer (AnswersAnyPackets rows header bytes);
-  headline = unanswered e buffer buffer (AnswersPackets rows header bytes);
-  only_object = unanswered e buffer buffer (AnswersWhereOthersCan rows header bytes);
+  answered = unanswered e buffer buffer (AnswersAnyPackets header bytes);
+  headline = unanswered e buffer buffer (AnswersPackets header bytes);
+  only_object = unanswered e buffer buffer (AnswersWhereOthersCan header bytes);
   kept = λ _. refl;
 }
 
 pub returns-in_err-table : goal.returns-in_err-table
 returns-in_err-table c =
-    let e = c.in_err-table.field-0.0 in
-    let refused = refused_row c.args.rows.now c.args.configuration.now c.args.packets.now e c.in_err-table.ensures in
     let p = err_from_is_err_and c.from_residual.result c.from_residual.ensures.1 in
-    rw (p.1, p.2) (refused_with c.args.rows.now c.args.configuration.now c.args.packets.now c.args.object.now e refused)
+    rw (p.1, p.2) (refused_with c.args.configuration.now c.args.packets.now c.args.object.now c.in_err-table.field-0.0 (inl (ap code_of c.in_err-table.ensures.memory)))
 
 pub returns-in_err-steps : goal.returns-in_err-steps
 returns-in_err-steps c =
     let e = c.in_err-steps.field-0.0 in
     let sized = long (goal.at.returns-in_err-steps c).After-frame_size in
-    let refused = refused_frames c.args.rows.now _ c.args.configuration.now c.args.packets.now c.in_ok-table.ensures e (subst (λ n. (e ≡ OutOfMemory) ⊎ (frames_refusal (frames_in n c.args.packets.now) ≡ Err e)) sized c.in_err-steps.ensures.refused) in
+    let refused = refused_frames c.args.configuration.now c.args.packets.now e (subst (λ n. (e ≡ OutOfMemory) ⊎ (frames_refusal (frames_in n c.args.packets.now) ≡ Err e)) sized c.in_err-steps.ensures.refused) in
     let p = err_from_is_err_and c.from_residual-in_err-steps.result c.from_residual-in_err-steps.ensures.1 in
-    rw (p.1, p.2) (refused_with c.args.rows.now c.args.configuration.now c.args.packets.now c.args.object.now e refused)
+    rw (p.1, p.2) (refused_with c.args.configuration.now c.args.packets.now c.args.object.now e refused)
 
 pub returns-in_err-answer : goal.returns-in_err-answer
 returns-in_err-answer c =
     let read = (goal.at.returns-in_err-answer c).In_ok-steps in
-    let table = c.in_ok-table.table in
     let k = configuration_of_bytes c.args.configuration.now in
     let e = c.in_err-answer.field-0.0 in
-    let run = subst (λ d. AnswersRun {X = Unit {0}} table d (packets_of c.in_ok-steps.steps.items) (Err e)) c.deserialize-config.ensures c.in_err-answer.ensures.in_order in
-    let refused = refused_run c.args.rows.now table c.args.configuration.now c.args.packets.now c.in_ok-table.ensures e (spelled read) (subst (λ ps. AnswersRun {X = Unit {0}} table k ps (Err e)) (came read) run) in
+    let run = over (λ t d. AnswersRun {X = Unit {0}} t d (packets_of c.in_ok-steps.steps.items) (Err e)) _ _ k c.in_ok-table.ensures.rows c.deserialize-config.ensures c.in_err-answer.ensures.in_order in
+    let refused = refused_run c.args.configuration.now c.args.packets.now e (spelled read) (subst (λ ps. AnswersRun {X = Unit {0}} full_rows k ps (Err e)) (came read) run) in
     let p = err_from_is_err_and c.from_residual-in_err-answer.result c.from_residual-in_err-answer.ensures.1 in
-    rw (p.1, p.2) (refused_with c.args.rows.now c.args.configuration.now c.args.packets.now c.args.object.now e refused)
+    rw (p.1, p.2) (refused_with c.args.configuration.now c.args.packets.now c.args.object.now e refused)
 
 pub returns : goal.returns
 returns c =
     let at = (goal.at.returns c).In_ok-answer in
     let read = (goal.at.returns c).In_ok-steps in
-    let table = c.in_ok-table.table in
     let k = configuration_of_bytes c.args.configuration.now in
     let number = number_of c.fill_answer.result in
     let after = c.fill_answer.new.buffer in
     let answered = subst (λ answer. Answered number c.args.object.now after (λ r. r ≡ answer)) c.as_deref.ensures.value c.fill_answer.ensures.answered in
-    let passed = subst (λ d. IsRunRefusal table d (packets_of c.in_ok-steps.steps.items) (Ok tt)) c.deserialize-config.ensures c.in_ok-answer.ensures.in_order in
+    let passed = over (λ t d. IsRunRefusal t d (packets_of c.in_ok-steps.steps.items) (Ok tt)) _ _ k c.in_ok-table.ensures.rows c.deserialize-config.ensures c.in_ok-answer.ensures.in_order in
     record {
-      refused = filled_run c.args.rows.now table c.args.configuration.now c.args.packets.now c.in_ok-table.ensures number (spelled read) (subst (λ ps. IsRunRefusal table k ps (Ok tt)) (came read) passed) (inr c.fill_answer.ensures.number);
+      refused = filled_run c.args.configuration.now c.args.packets.now number (spelled read) (subst (λ ps. IsRunRefusal full_rows k ps (Ok tt)) (came read) passed) (inr c.fill_answer.ensures.number);
       answered = filled at IsAnswerAfter c.in_ok-answer.ensures.answer number after answered;
       headline = filled at AnswersExactly c.in_ok-answer.ensures.headline number after answered;
       only_object = filled at AnswersWhereAnyCan c.in_ok-answer.ensures.only_object number after answered;

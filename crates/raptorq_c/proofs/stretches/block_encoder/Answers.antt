@@ -5,7 +5,7 @@ use Rattle.rq_bytes.specs.declared.error.Error.TheVariants.{UnknownBlock}
 use Rattle.rq_block.specs.SourceBlockEncoder.{block_encoded_of}
 use Rattle.rq_block.specs.declared.encoder.block.SourceBlockEncoder.{SourceBlockEncoder}
 use Rattle.raptorq.specs.Encoder.{encoded_of}
-use Rattle.raptorq_c.specs.Stretches.{block_in}
+use Rattle.raptorq_c.specs.Encoders.{block_in}
 use Rattle.raptorq_c.proofs.StretchSteps.{block_found, block_missing}
 use Rattle.raptorq_c.proofs.stretches.block_encoder.Goals as goal
 

@@ -1,0 +1,20 @@
+use Rattle.std.proofs.Common.{◌+◌, Some, ap, ◌∙◌, sym, subst}
+use Rattle.raptorq.specs.InTurn.{block_of}
+use Rattle.raptorq_c.specs.Coders.{block_decoder_in}
+use Rattle.raptorq_c.specs.declared.kept.Coder.{Coder}
+use Rattle.raptorq_c.specs.Frames.{AreAdded, IsAddedHere}
+use Rattle.raptorq_c.specs.Numbers.{refusal_number}
+use Rattle.raptorq_c.proofs.FrameSteps.{added_seen}
+use Rattle.raptorq_c.proofs.Held.{changed_kept}
+use Rattle.raptorq_c.proofs.block_decoders.reamertan_block_decoder_add_packets.Goals as goal
+
+pub returns : goal.returns
+returns c =
+    let inner = c.in-BlockDecoder.inner in
+    let new = c.add_whole-ended.new.receiver in
+    let bytes = c.args.packets.now in
+    let held = c.take-coder.ensures.taken ∙ ap (λ (k : Coder). Some k) (sym c.as_mut.ensures.value ∙ c.in-BlockDecoder.is) in
+    let added = added_seen block_of IsAddedHere (4 + c.symbol_size-size.result) inner bytes (refusal_number c.add_whole-ended.result) new c.add_whole-ended.ensures in
+    let sized = subst (λ n. AreAdded IsAddedHere (4 + n) (block_of inner) bytes (refusal_number c.add_whole-ended.result) (block_of new)) c.symbol_size-size.ensures.value added in
+    changed_kept block_decoder_in _ _ held _ _ (λ old now. AreAdded IsAddedHere (4 + old.received.configuration.symbol_size) old bytes c.refusal.result now) c.put.ensures
+    (subst (λ n. AreAdded IsAddedHere (4 + (block_of inner).received.configuration.symbol_size) (block_of inner) bytes n (block_of new)) (sym c.refusal.ensures) sized)
