@@ -18,7 +18,6 @@
 #include <time.h>
 
 #include "reamertan.h"
-#include "reamertan_rows.h"
 
 enum { COUNTS = 7, SIZES = 2, WORKS = 3, ROUNDS_MOST = 99, LARGE = 10120 };
 
@@ -29,10 +28,12 @@ static const uint16_t counts[COUNTS] = {10, 101, 248, 497, 1002, 10120, 56403}, 
 struct block {
     uint16_t symbols, size;
     uint32_t repair;
-    size_t length, packet, row_count;
+    size_t length, packet;
     uint8_t configuration[REAMERTAN_CONFIGURATION_BYTES];
     uint8_t *bytes, *packets, *back;
-    struct reamertan_handle plan, coder;
+    reamertan_plan *plan;
+    reamertan_block_encoder *encoder;
+    reamertan_decoder *decoder;
 };
 
 static void done(uint8_t answer) {
@@ -48,13 +49,14 @@ static void *take(size_t bytes) {
 }
 
 static void make_plan(struct block *block) {
-    done(reamertan_open_plan(reamertan_rows, block->row_count, block->symbols, &block->plan));
+    reamertan_plan_close(&block->plan);
+    done(reamertan_plan_open(&block->plan, block->symbols));
 }
 
 static void encode(struct block *block) {
-    done(reamertan_open_block_encoder(reamertan_rows, block->row_count, block->configuration, 0, block->bytes, block->length, &block->plan,
-                                      &block->coder));
-    done(reamertan_write_block_packets(&block->coder, 0, block->symbols + block->repair, block->packets,
+    reamertan_block_encoder_close(&block->encoder);
+    done(reamertan_block_encoder_open(&block->encoder, block->plan, block->configuration, 0, block->bytes, block->length));
+    done(reamertan_block_encoder_write(block->encoder, 0, block->symbols + block->repair, block->packets,
                                        (block->symbols + block->repair) * block->packet));
 }
 
@@ -63,24 +65,29 @@ static void make_plan_and_encode(struct block *block) {
     encode(block);
 }
 
+static void add(struct block *block, uint32_t at) {
+    bool completes = false;
+    done(reamertan_decoder_add_packet(block->decoder, block->packets + at * block->packet, block->packet, &completes));
+}
+
 // Every (K / repair)-th source packet is lost, as many as there are repair packets.
 static void decode(struct block *block) {
     uint32_t step = block->symbols / block->repair, all = block->symbols + block->repair;
-    done(reamertan_open_decoder(reamertan_rows, block->row_count, block->configuration, &block->coder));
+    reamertan_decoder_close(&block->decoder);
+    done(reamertan_decoder_open(&block->decoder, block->configuration));
     for (uint32_t at = 0; at < all; at++) {
         bool is_lost = at < block->symbols && at % step == 0 && at / step < block->repair;
-        if (!is_lost) done(reamertan_add_packet(&block->coder, block->packets + at * block->packet, block->packet));
+        if (!is_lost) add(block, at);
     }
     // K packets that don't determine the block: two more do.
-    if (reamertan_is_complete(&block->coder) == REAMERTAN_INCOMPLETE)
-        for (uint32_t at = 0; at < 2; at++) done(reamertan_add_packet(&block->coder, block->packets + at * step * block->packet, block->packet));
-    done(reamertan_write_object(&block->coder, block->back, block->length));
+    if (!reamertan_decoder_is_complete(block->decoder))
+        for (uint32_t at = 0; at < 2; at++) add(block, at * step);
+    done(reamertan_decoder_write_object(block->decoder, block->back, block->length));
 }
 
 static struct block make_block(uint16_t symbols, uint16_t size) {
     struct block made = {.symbols = symbols, .size = size, .repair = symbols / 10, .packet = REAMERTAN_PAYLOAD_ID_BYTES + (size_t)size};
     made.length = (size_t)symbols * size;
-    made.row_count = symbols > 497 ? REAMERTAN_ROW_COUNT : 0;
     made.bytes = take(made.length);
     made.back = take(made.length);
     made.packets = take((symbols + made.repair) * made.packet);
@@ -91,8 +98,9 @@ static struct block make_block(uint16_t symbols, uint16_t size) {
 }
 
 static void free_block(struct block *block) {
-    reamertan_close(&block->plan);
-    reamertan_close(&block->coder);
+    reamertan_plan_close(&block->plan);
+    reamertan_block_encoder_close(&block->encoder);
+    reamertan_decoder_close(&block->decoder);
     free(block->bytes);
     free(block->back);
     free(block->packets);

@@ -75,6 +75,24 @@ in_c() {
     say "hello in C, shared and static, with gcc and clang, and with musl"
 }
 
+# The example of two threads, by CMake: PREFIX DOCUMENTS.
+by_cmake() {
+    mkdir -p asks
+    cat >asks/CMakeLists.txt <<'TEXT'
+cmake_minimum_required(VERSION 3.16)
+project(asks C)
+find_package(Threads REQUIRED)
+find_package(reamertan REQUIRED)
+add_executable(threads threads.c)
+target_link_libraries(threads reamertan::reamertan Threads::Threads)
+TEXT
+    cp "$2/examples/threads.c" asks/
+    { cmake -S asks -B asks/made "-DCMAKE_PREFIX_PATH=$1" && cmake --build asks/made; } >printed 2>&1 || { cat printed >&2 && failed "CMake builds no program"; }
+    ./asks/made/threads >/dev/null
+    rm -r asks
+    say "two threads over one encoder, by CMake"
+}
+
 # The emulator of an architecture, which Debian's suites name otherwise.
 emulator() {
     command -v "qemu-$1-static" || command -v "qemu-$1"
@@ -108,6 +126,8 @@ by_apt() {
     cell_demo reamertan-rqcast
     zcat /usr/share/man/man1/reamertan-rq.1.gz | grep -q '^reamertan.-rq ' || failed "the man page has another name"
     zcat /usr/share/man/man1/reamertan-rqcast.1.gz | grep -q '^reamertan.-rqcast ' || failed "the man page has another name"
+    zcat /usr/share/man/man3/reamertan.3.gz | grep -q reamertan_encoder_share || failed "the library has no man page"
+    by_cmake /usr /usr/share/doc/libreamertan-dev
     say "installed by apt, a stream without each tenth frame was received, and cells with a hole"
     in_c /usr/lib/x86_64-linux-gnu
     on_processors /usr/bin/reamertan-rq /usr/bin/reamertan-rqcast
@@ -134,6 +154,7 @@ unpacked() {
     loss_demo /opt/reamertan/bin/rq
     cell_demo /opt/reamertan/bin/rqcast
     PKG_CONFIG_PATH=/opt/reamertan/lib/pkgconfig LD_LIBRARY_PATH=/opt/reamertan/lib first_in_c
+    by_cmake /opt/reamertan /opt/reamertan/share/doc/reamertan
     PKG_CONFIG_PATH=/opt/reamertan/lib/pkgconfig in_c /opt/reamertan/lib -Wl,-rpath,/opt/reamertan/lib
     rm -r /opt/reamertan
     say "unpacked, and removed"

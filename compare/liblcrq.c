@@ -8,7 +8,6 @@
 #include <string.h>
 
 #include "reamertan.h"
-#include "reamertan_rows.h"
 
 enum { LEAST = 10, GREATEST = 1002, SIZE_MOST = 256, REPAIR = 20, RANDOM = 20, IDS = GREATEST + REPAIR + RANDOM, SURPLUS = 2 };
 
@@ -66,15 +65,14 @@ static void encode_there(struct trial *trial, rq_t *rq) {
 }
 
 static void encode_here(struct trial *trial) {
-    struct reamertan_handle encoder = REAMERTAN_HANDLE_INIT;
+    reamertan_encoder *encoder = NULL;
     uint8_t packet[REAMERTAN_PAYLOAD_ID_BYTES + SIZE_MOST];
-    if (reamertan_open_encoder(reamertan_rows, REAMERTAN_ROW_COUNT, trial->configuration, trial->object, trial->length, &encoder))
-        fail(trial, "no encoder here");
+    if (reamertan_encoder_open(&encoder, trial->configuration, trial->object, trial->length)) fail(trial, "no encoder here");
     for (uint32_t at = 0; at < trial->ids; at++) {
-        if (reamertan_write_packet(&encoder, 0, trial->id[at], packet, REAMERTAN_PAYLOAD_ID_BYTES + trial->size)) fail(trial, "no packet here");
+        if (reamertan_encoder_write(encoder, 0, trial->id[at], 1, packet, REAMERTAN_PAYLOAD_ID_BYTES + trial->size)) fail(trial, "no packet here");
         memcpy(trial->here + (size_t)at * trial->size, packet + REAMERTAN_PAYLOAD_ID_BYTES, trial->size);
     }
-    reamertan_close(&encoder);
+    reamertan_encoder_close(&encoder);
 }
 
 static void exchange(uint8_t *symbols, uint32_t a, uint32_t b, uint32_t size) {
@@ -95,20 +93,21 @@ static void shuffle(struct trial *trial) {
     }
 }
 
-static void add(struct trial *trial, uint32_t at, struct reamertan_handle *decoder) {
+static void add(struct trial *trial, uint32_t at, reamertan_decoder *decoder) {
+    bool completes = false;
     uint8_t packet[REAMERTAN_PAYLOAD_ID_BYTES + SIZE_MOST] = {0};
     for (int octet = 1; octet < 4; octet++) packet[octet] = (uint8_t)(trial->id[at] >> 8 * (3 - octet));
     memcpy(packet + REAMERTAN_PAYLOAD_ID_BYTES, trial->there + (size_t)at * trial->size, trial->size);
-    if (reamertan_add_packet(decoder, packet, REAMERTAN_PAYLOAD_ID_BYTES + trial->size)) fail(trial, "a packet is refused here");
+    if (reamertan_decoder_add_packet(decoder, packet, REAMERTAN_PAYLOAD_ID_BYTES + trial->size, &completes)) fail(trial, "a packet is refused here");
 }
 
 // Whether symbols of liblcrq are enough here: then the object has to come back.
 static bool decode_here(struct trial *trial, uint32_t count) {
-    struct reamertan_handle decoder = REAMERTAN_HANDLE_INIT;
-    if (reamertan_open_decoder(reamertan_rows, REAMERTAN_ROW_COUNT, trial->configuration, &decoder)) fail(trial, "no decoder here");
-    for (uint32_t at = 0; at < count; at++) add(trial, at, &decoder);
-    uint8_t answer = reamertan_write_object(&decoder, trial->back, trial->length);
-    reamertan_close(&decoder);
+    reamertan_decoder *decoder = NULL;
+    if (reamertan_decoder_open(&decoder, trial->configuration)) fail(trial, "no decoder here");
+    for (uint32_t at = 0; at < count; at++) add(trial, at, decoder);
+    uint8_t answer = reamertan_decoder_write_object(decoder, trial->back, trial->length);
+    reamertan_decoder_close(&decoder);
     if (answer == REAMERTAN_DONE && memcmp(trial->back, trial->object, trial->length) != 0) fail(trial, "another object comes back here");
     return answer == REAMERTAN_DONE;
 }

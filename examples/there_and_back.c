@@ -5,6 +5,9 @@
 
 #include "reamertan.h"
 
+#define SYMBOL_SIZE 1280
+#define PACKET_BYTES (REAMERTAN_PAYLOAD_ID_BYTES + SYMBOL_SIZE)
+
 static void must(int is_good, const char *what, int answer)
 {
     if (!is_good) {
@@ -30,29 +33,26 @@ int main(int count, char **words)
     must(count == 3, "there_and_back FILE STREAM", 0);
     size_t length, came;
     uint8_t header[REAMERTAN_CONFIGURATION_BYTES], *object = contents(words[1], &length);
-    int answer = reamertan_derive_configuration(NULL, 0, length, 1280, REAMERTAN_DEFAULT_DECODER_MEMORY, header);
+    int answer = reamertan_cut(length, SYMBOL_SIZE, REAMERTAN_FAST_BLOCK, header);
     must(answer == REAMERTAN_DONE, "configuration", answer);
-    struct reamertan_parameters cut;
-    reamertan_read_configuration(header, &cut);
     uint32_t repair = 60; /* of each block, which has at most 497 source symbols */
     uint64_t bytes;
-    answer = reamertan_packets_length(NULL, 0, header, repair, &bytes);
+    answer = reamertan_packets_length(header, repair, &bytes);
     must(answer == REAMERTAN_DONE, "packets", answer);
     uint8_t *packets = malloc(bytes);
     must(packets != NULL, "malloc", REAMERTAN_OUT_OF_MEMORY);
-    answer = reamertan_encode(NULL, 0, header, object, length, repair, packets, bytes);
+    answer = reamertan_encode(header, object, length, repair, packets, bytes);
     must(answer == REAMERTAN_DONE, "encode", answer);
 
     FILE *file = fopen(words[2], "wb");
     must(file && fwrite(header, sizeof header, 1, file) == 1, words[2], 0);
-    size_t size = REAMERTAN_PAYLOAD_ID_BYTES + cut.symbol_size;
-    for (size_t i = 0; i < bytes / size; i++)
-        must(i % 10 == 3 || fwrite(packets + size * i, size, 1, file) == 1, words[2], 0);
+    for (size_t i = 0; i < bytes / PACKET_BYTES; i++)
+        must(i % 10 == 3 || fwrite(packets + PACKET_BYTES * i, PACKET_BYTES, 1, file) == 1, words[2], 0);
     must(fclose(file) == 0, words[2], 0);
 
     uint8_t *stream = contents(words[2], &came), *back = malloc(length);
     must(back && came >= sizeof header, words[2], 0);
-    answer = reamertan_decode(NULL, 0, stream, stream + sizeof header, came - sizeof header, back, length);
+    answer = reamertan_decode(stream, stream + sizeof header, came - sizeof header, back, length);
     must(answer == REAMERTAN_DONE, "decode", answer);
     must(memcmp(object, back, length) == 0, "another file came back", answer);
     puts("the file is the same");

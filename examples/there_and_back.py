@@ -1,26 +1,23 @@
 #!/usr/bin/env python3
-"""Makes packets of a file, loses each tenth, and gets the file back, by ctypes alone. Rows and texts are the library's."""
+"""Makes packets of a file, loses each tenth, and gets the file back, by ctypes alone. Texts are the library's."""
 import argparse
 import pathlib
 import sys
-from ctypes import CDLL, POINTER, byref, c_char_p, c_size_t, c_uint8, c_uint16, c_uint32, c_uint64, c_void_p, create_string_buffer
+from ctypes import CDLL, POINTER, byref, c_char_p, c_size_t, c_uint8, c_uint16, c_uint32, c_uint64, create_string_buffer
 
-SIZE, PACKET = 1280, 4 + 1280
-ROWS = c_void_p, c_size_t
+SIZE, PACKET, BLOCK = 1280, 4 + 1280, 497
 # What calls take that answer a number. Where one is too great for its type, ctypes hands on the low bits.
 CALLS = {
-    "reamertan_derive_configuration": (*ROWS, c_uint64, c_uint16, c_uint64, c_char_p),
-    "reamertan_block_range": (c_char_p, c_uint8, POINTER(c_uint64 * 2)),
-    "reamertan_packets_length": (*ROWS, c_char_p, c_uint32, POINTER(c_uint64)),
-    "reamertan_encode": (*ROWS, c_char_p, c_char_p, c_size_t, c_uint32, c_char_p, c_size_t),
-    "reamertan_decode": (*ROWS, c_char_p, c_char_p, c_size_t, c_char_p, c_size_t),
+    "reamertan_cut": (c_uint64, c_uint16, c_uint16, c_char_p),
+    "reamertan_packets_length": (c_char_p, c_uint32, POINTER(c_uint64)),
+    "reamertan_encode": (c_char_p, c_char_p, c_size_t, c_uint32, c_char_p, c_size_t),
+    "reamertan_decode": (c_char_p, c_char_p, c_size_t, c_char_p, c_size_t),
 }
 
 
 def load(path):
     library = CDLL(path)
     library.reamertan_processor.restype = library.reamertan_answer_text.restype = c_char_p
-    library.reamertan_further_rows.restype = c_void_p
 
     def check(answer, call, _):
         if answer != 0:
@@ -33,16 +30,13 @@ def load(path):
 
 
 def there_and_back(library, sent):
-    count, block, length, header = c_size_t(), (c_uint64 * 2)(), c_uint64(), create_string_buffer(12)
-    rows = library.reamertan_further_rows(byref(count)), count
-    library.reamertan_derive_configuration(*rows, len(sent), SIZE, 10 << 20, header)
-    library.reamertan_block_range(header, 0, block)
-    repair = (block[1] - block[0]) // SIZE // 8 + 10
-    library.reamertan_packets_length(*rows, header, repair, byref(length))
+    length, header, repair = c_uint64(), create_string_buffer(12), BLOCK // 8 + 10
+    library.reamertan_cut(len(sent), SIZE, BLOCK, header)
+    library.reamertan_packets_length(header, repair, byref(length))
     packets, back = create_string_buffer(length.value), create_string_buffer(len(sent))
-    library.reamertan_encode(*rows, header, sent, len(sent), repair, packets, len(packets))
+    library.reamertan_encode(header, sent, len(sent), repair, packets, len(packets))
     came = b"".join(packets[at : at + PACKET] for at in range(0, len(packets), PACKET) if at // PACKET % 10 != 3)
-    library.reamertan_decode(*rows, header, came, len(came), back, len(back))
+    library.reamertan_decode(header, came, len(came), back, len(back))
     return back.raw
 
 

@@ -1,7 +1,7 @@
 #!/usr/bin/env bash
 # Makes the Debian packages. `release` sources this, behind staging.sh.
 
-: "${top:?the folder of the repository}" "${work:?a scratch folder}" "${version:?of the header}" "${soname:?of the library}"
+: "${top:?the folder of the repository}" "${work:?a scratch folder}" "${version:?of the header}" "${soname:?of the library}" "${interface:?of both}"
 # The objects, and where packages are put, which are named later.
 built=${built-} out=${out-}
 readonly MAINTAINED_BY=${MAINTAINER:-Reamertan <reamertan@example.org>}
@@ -96,7 +96,8 @@ make_library_deb() {
     ln -s "libreamertan.so.$version" "$staged/$X86_LIBRARIES/$soname"
     echo "libreamertan ${soname##*.so.} $LIBRARY (>= $version)" >"$staged/DEBIAN/shlibs"
     echo "$soname $LIBRARY #MINVER#" >"$staged/DEBIAN/symbols"
-    nm -D --defined-only "$work/x86/libreamertan.so" | sed "s/.* \(.*\)/ \1@Base $version/" | sort >>"$staged/DEBIAN/symbols"
+    nm -D --defined-only "$work/x86/libreamertan.so" | sed "s/.* //; s/@.*//; s/.*/ &@REAMERTAN_$interface $version/" | sort \
+        >>"$staged/DEBIAN/symbols"
     echo "activate-noawait ldconfig" >"$staged/DEBIAN/triggers"
     finish libs "$(needed_glibc "$work/x86/libreamertan.so")" "$SUMMARY" \
         "This is the shared library. It holds builds for x86-64-v2 and x86-64-v3, and runs the greatest that the machine has." \
@@ -105,15 +106,21 @@ make_library_deb() {
 
 # What programs in C are compiled with: ARCHITECTURE FOLDER ARCHIVE DEPENDS.
 make_dev_deb() {
+    # shellcheck disable=SC2034 # where `stage_development` finds what was made
+    local example made=$work
     begin libreamertan-dev "$1"
     stage 644 "$3" "$2/libreamertan.a"
-    stage 644 "$top/include/reamertan.h" usr/include/reamertan.h
-    stage 644 "$top/include/reamertan_rows.h" usr/include/reamertan_rows.h
     write_pkgconfig /usr "${2#usr/}" >"$work/reamertan.pc"
-    stage 644 "$work/reamertan.pc" "$2/pkgconfig/reamertan.pc"
+    stage_development usr/include "$2"
+    sed "s/@VERSION@/$version/; s/^\.BR rq/.BR reamertan\\\\-rq/" "$top/docs/reamertan.3" |
+        sed 's|share/doc/reamertan/LINKED|/usr/share/doc/libreamertan-dev/copyright|; s|share/doc/reamertan|/usr/share/doc/libreamertan-dev|' |
+        gzip -9n >"$work/reamertan.3.gz"
+    stage 644 "$work/reamertan.3.gz" usr/share/man/man3/reamertan.3.gz
+    for example in "$top"/examples/*.c; do stage 644 "$example" "usr/share/doc/libreamertan-dev/examples/${example##*/}"; done
     [ -z "$4" ] || ln -s "$soname" "$staged/$2/libreamertan.so"
     finish libdevel "$4" "$SUMMARY - for compiling" \
-        "These are the headers, the static library and the file for pkg-config. For arm64 there is no shared library." "Multi-Arch: same"
+        "These are the header, the static library, the files for pkg-config and CMake, a man page and examples. For arm64 there is no shared library." \
+        "Multi-Arch: same"
 }
 
 # python3-rq has a /usr/bin/rq: here each program has the name of this package before its own.

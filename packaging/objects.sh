@@ -119,10 +119,11 @@ make_archive() {
     "${archiver[@]}" rcsD "$2/libreamertan.a" "$2/reamertan.o"
 }
 
-# Makes the shared library of what `make_archive` joined: MADE SONAME.
+# Makes the shared library of what `make_archive` joined: MADE SONAME. Its calls have the version of the interface.
 make_shared() {
+    echo "REAMERTAN_${2##*.so.} { global: reamertan_*; local: *; };" >"$1/reamertan.map"
     "${compiler[@]}" -shared "${compiler_flags[@]}" -o "$1/libreamertan.so" -Wl,-soname,"$2" -Wl,-z,defs,-z,relro,-z,now \
-        "$1/reamertan.o" "${linker_flags[@]}"
+        -Wl,--version-script,"$1/reamertan.map" "$1/reamertan.o" "${linker_flags[@]}"
 }
 
 # Links a program, with all its builds: BUILT MADE NAME.

@@ -40,6 +40,43 @@ Libs: -L\${libdir} -lreamertan
 TEXT
 }
 
+# The files for `find_package(reamertan)` of CMake: LIBDIR, which is below PREFIX. Where they stand says where PREFIX is.
+write_cmake() {
+    cat <<TEXT
+# reamertan::reamertan is the shared library where there is one, and else the static one; reamertan::static is that.
+get_filename_component(_reamertan_libdir "\${CMAKE_CURRENT_LIST_DIR}/../.." REALPATH)
+get_filename_component(_reamertan_include "\${_reamertan_libdir}/$(sed 's|[^/][^/]*|..|g' <<<"$1")/include" ABSOLUTE)
+if(NOT TARGET reamertan::reamertan)
+  add_library(reamertan::static STATIC IMPORTED)
+  set_target_properties(reamertan::static PROPERTIES
+    IMPORTED_LOCATION "\${_reamertan_libdir}/libreamertan.a"
+    INTERFACE_INCLUDE_DIRECTORIES "\${_reamertan_include}")
+  if(EXISTS "\${_reamertan_libdir}/$soname")
+    add_library(reamertan::reamertan SHARED IMPORTED)
+    set_target_properties(reamertan::reamertan PROPERTIES
+      IMPORTED_LOCATION "\${_reamertan_libdir}/$soname"
+      INTERFACE_INCLUDE_DIRECTORIES "\${_reamertan_include}")
+  else()
+    add_library(reamertan::reamertan INTERFACE IMPORTED)
+    set_target_properties(reamertan::reamertan PROPERTIES INTERFACE_LINK_LIBRARIES reamertan::static)
+  endif()
+endif()
+TEXT
+}
+
+# Which versions that `find_package` is asked for this one is: those of its interface that aren't later.
+write_cmake_version() {
+    cat <<TEXT
+set(PACKAGE_VERSION $version)
+if(PACKAGE_FIND_VERSION VERSION_GREATER_EQUAL $interface AND PACKAGE_FIND_VERSION VERSION_LESS_EQUAL PACKAGE_VERSION)
+  set(PACKAGE_VERSION_COMPATIBLE TRUE)
+endif()
+if(PACKAGE_FIND_VERSION VERSION_EQUAL PACKAGE_VERSION)
+  set(PACKAGE_VERSION_EXACT TRUE)
+endif()
+TEXT
+}
+
 # The scripts of examples/ over the programs.
 readonly SCRIPTS=(carousel diode many relay shards)
 
@@ -86,6 +123,16 @@ stage_documents() {
     done
 }
 
+# What programs in C are compiled with, but the library: FOLDER of the header, LIBDIR.
+stage_development() {
+    stage 644 "$top/include/reamertan.h" "$1/reamertan.h"
+    stage 644 "$made/reamertan.pc" "$2/pkgconfig/reamertan.pc"
+    write_cmake "${2#usr/}" >"$made/reamertan-config.cmake"
+    write_cmake_version >"$made/reamertan-config-version.cmake"
+    stage 644 "$made/reamertan-config.cmake" "$2/cmake/reamertan/reamertan-config.cmake"
+    stage 644 "$made/reamertan-config-version.cmake" "$2/cmake/reamertan/reamertan-config-version.cmake"
+}
+
 # What is there for x86-64 alone: LIBDIR.
 stage_programs() {
     local program script
@@ -102,11 +149,13 @@ stage_programs() {
 
 # Puts all files into the tree `staged`, of what was made in `made`: BUILT PREFIX LIBDIR.
 stage_all() {
+    local example
     write_pkgconfig "$2" "$3" >"$made/reamertan.pc"
-    stage 644 "$made/reamertan.pc" "$3/pkgconfig/reamertan.pc"
+    stage_development include "$3"
     stage 644 "$made/libreamertan.a" "$3/libreamertan.a"
-    stage 644 "$top/include/reamertan.h" include/reamertan.h
-    stage 644 "$top/include/reamertan_rows.h" include/reamertan_rows.h
+    sed "s/@VERSION@/$version/" "$top/docs/reamertan.3" >"$made/reamertan.3"
+    stage 644 "$made/reamertan.3" share/man/man3/reamertan.3
+    for example in "$top"/examples/*.c; do stage 644 "$example" "share/doc/reamertan/examples/${example##*/}"; done
     stage_documents "$1"
     [ "${processors[0]}" = aarch64 ] || stage_programs "$3"
 }

@@ -1,6 +1,6 @@
-/* Random objects there and back, with losses, by buffers, by handles, and by two threads that share the encoder of the
- * object and those of its blocks, made by plans: as many as the first word says, from the seed that the second word
- * is. Ends with 0 where each that was answered was the object, and all ways did the same. */
+/* Random objects there and back, with losses, by buffers, packet by packet, block by block, and by two threads that
+ * share the encoder of the object and those of its blocks, made by plans: as many as the first word says, from the seed
+ * that the second word is. Ends with 0 where each that was answered was the object, and all ways did the same. */
 #include <pthread.h>
 #include <stdio.h>
 #include <stdlib.h>
@@ -8,14 +8,14 @@
 
 #include "reamertan.h"
 
-/* Source symbols of a block, over the rows that are built in, and blocks of an object. */
-#define MOST_SYMBOLS 497
+/* Source symbols of a block of the objects that are drawn, and blocks of an object. */
+#define MOST_SYMBOLS 2000
 #define MOST_BLOCKS 255
 
 static uint64_t state;
 
 /* Of blocks of so many symbols. */
-static struct reamertan_handle plans[MOST_SYMBOLS + 1];
+static reamertan_plan *plans[MOST_SYMBOLS + 1];
 
 /* A number below a bound: the high bits of a linear congruence. */
 static uint32_t below(uint32_t bound)
@@ -48,38 +48,95 @@ struct came {
     int answer;
 };
 
-/* Whether handles make the same packets, and answer those that came in the same way: the first half one by one, and the
- * others in one call, by a copy of the decoder. */
-static int by_handles(const struct object *object, const struct came *came)
+/* Whether an encoder makes the same packets one by one. */
+static int sends_one_by_one(const struct object *object)
 {
-    struct reamertan_handle handle = REAMERTAN_HANDLE_INIT, copy = REAMERTAN_HANDLE_INIT;
-    size_t size = object->size, length = object->length;
-    uint8_t *made = bytes_of(size), *again = bytes_of(length);
-    int good = reamertan_open_encoder(NULL, 0, object->configuration, object->bytes, length, &handle) == REAMERTAN_DONE;
+    reamertan_encoder *encoder = NULL;
+    uint8_t *made = bytes_of(object->size);
+    int good = reamertan_encoder_open(&encoder, object->configuration, object->bytes, object->length) == REAMERTAN_DONE;
     for (size_t i = 0; i < object->count; i++) {
-        const uint8_t *id = object->packets + size * i;
+        const uint8_t *id = object->packets + object->size * i;
         uint32_t esi = (uint32_t)id[1] << 16 | (uint32_t)id[2] << 8 | id[3];
-        good &= reamertan_write_packet(&handle, id[0], esi, made, size) == REAMERTAN_DONE
-                && memcmp(made, id, size) == 0;
+        good &= reamertan_encoder_write(encoder, id[0], esi, 1, made, object->size) == REAMERTAN_DONE
+                && memcmp(made, id, object->size) == 0;
     }
-    good &= reamertan_open_decoder(NULL, 0, object->configuration, &handle) == REAMERTAN_DONE;
-    size_t half = came->count / 2;
-    for (size_t i = 0; i < half; i++)
-        good &= reamertan_add_packet(&handle, came->packets + size * i, size) == REAMERTAN_DONE;
-    good &= reamertan_copy_decoder(&handle, &copy) == REAMERTAN_DONE;
-    reamertan_close(&handle);
-    good &= reamertan_add_packets(&copy, came->packets + size * half, size * (came->count - half)) == REAMERTAN_DONE;
-    good &= reamertan_write_object(&copy, again, length) == came->answer;
-    good &= came->answer != REAMERTAN_DONE || memcmp(again, came->back, length) == 0;
-    reamertan_close(&copy);
-    free(made), free(again);
+    reamertan_encoder_close(&encoder);
+    free(made);
     return good;
 }
 
-/* A thread, with its handles on the encoders of an object and of its blocks. It writes half of each block's packets, by
- * both encoders. */
+/* Whether a decoder answers packets that came as buffers do: the first half one by one, and the others in one call, by
+ * a copy of the decoder. */
+static int receives_one_by_one(const struct object *object, const struct came *came)
+{
+    reamertan_decoder *decoder = NULL, *copy = NULL;
+    size_t size = object->size, length = object->length, half = came->count / 2, rest = came->count - half;
+    uint8_t *again = bytes_of(length);
+    bool completes = false;
+    int good = reamertan_decoder_open(&decoder, object->configuration) == REAMERTAN_DONE;
+    for (size_t i = 0; i < half; i++)
+        good &= reamertan_decoder_add_packet(decoder, came->packets + size * i, size, &completes) == REAMERTAN_DONE;
+    good &= reamertan_decoder_copy(decoder, &copy) == REAMERTAN_DONE;
+    reamertan_decoder_close(&decoder);
+    good &= reamertan_decoder_add_packets(copy, came->packets + size * half, size * rest) == REAMERTAN_DONE;
+    good &= reamertan_decoder_is_complete(copy) == (came->answer == REAMERTAN_DONE);
+    good &= reamertan_decoder_write_object(copy, again, length) == came->answer;
+    good &= came->answer != REAMERTAN_DONE || memcmp(again, came->back, length) == 0;
+    reamertan_decoder_close(&copy);
+    free(again);
+    return good;
+}
+
+/* Whether both decoders have the block that the object has. */
+static int has_same_block(const struct object *object, reamertan_decoder *whole, reamertan_block_decoder *alone,
+                          uint8_t block, struct reamertan_range range)
+{
+    size_t all = range.end - range.start, left = object->length - range.start, length = all < left ? all : left;
+    uint8_t *by_object = bytes_of(length), *by_block = bytes_of(all);
+    uint32_t missing = 1;
+    int good = reamertan_decoder_write_block(whole, block, by_object, length) == REAMERTAN_DONE
+               && reamertan_block_decoder_write(alone, by_block, all) == REAMERTAN_DONE
+               && reamertan_block_decoder_missing(alone, &missing) == REAMERTAN_DONE && missing == 0
+               && memcmp(by_object, object->bytes + range.start, length) == 0
+               && memcmp(by_object, by_block, length) == 0;
+    free(by_object), free(by_block);
+    return good;
+}
+
+/* Whether one decoder of an object and decoders of its blocks are told the same, packet by packet: a block is complete
+ * in both by the packet that completes it, and has the same bytes. */
+static int receives_by_blocks(const struct object *object, const struct came *came)
+{
+    reamertan_decoder *whole = NULL;
+    reamertan_block_decoder *blocks[MOST_BLOCKS] = {NULL};
+    int good = reamertan_decoder_open(&whole, object->configuration) == REAMERTAN_DONE;
+    for (size_t i = 0; i < came->count; i++) {
+        const uint8_t *packet = came->packets + object->size * i;
+        reamertan_block_decoder **block = &blocks[packet[0]];
+        struct reamertan_range range;
+        bool completes = false;
+        good &= reamertan_block_range(object->configuration, packet[0], &range) == REAMERTAN_DONE;
+        if (!*block)
+            good &= reamertan_block_decoder_open(block, object->configuration, packet[0], range.end - range.start)
+                    == REAMERTAN_DONE;
+        bool was_complete = reamertan_block_decoder_is_complete(*block);
+        good &= reamertan_decoder_add_packet(whole, packet, object->size, &completes) == REAMERTAN_DONE;
+        good &= reamertan_block_decoder_add_packets(*block, packet, object->size) == REAMERTAN_DONE;
+        good &= completes == (!was_complete && reamertan_block_decoder_is_complete(*block));
+        if (completes)
+            good &= has_same_block(object, whole, *block, packet[0], range);
+    }
+    for (unsigned block = 0; block < MOST_BLOCKS; block++)
+        reamertan_block_decoder_close(&blocks[block]);
+    reamertan_decoder_close(&whole);
+    return good;
+}
+
+/* A thread, with its pointers to the encoders of an object and of its blocks. It writes half of each block's packets,
+ * by both encoders. */
 struct writer {
-    struct reamertan_handle object, blocks[MOST_BLOCKS];
+    reamertan_encoder *object;
+    reamertan_block_encoder *blocks[MOST_BLOCKS];
     uint8_t *by_object, *by_block;
     size_t size;
     uint32_t counts[MOST_BLOCKS]; /* of each block's packets */
@@ -95,43 +152,35 @@ static void *write_half(void *given)
         uint32_t first = writer->half ? writer->counts[block] / 2 : 0;
         uint32_t count = writer->half ? writer->counts[block] - first : writer->counts[block] / 2;
         size_t at = start + first * writer->size, length = count * writer->size;
-        writer->good &= reamertan_write_packets(&writer->object, (uint8_t)block, first, count, writer->by_object + at,
+        writer->good &= reamertan_encoder_write(writer->object, (uint8_t)block, first, count, writer->by_object + at,
                                                 length) == REAMERTAN_DONE;
-        writer->good &= reamertan_write_block_packets(&writer->blocks[block], first, count, writer->by_block + at,
+        writer->good &= reamertan_block_encoder_write(writer->blocks[block], first, count, writer->by_block + at,
                                                       length) == REAMERTAN_DONE;
-        reamertan_close(&writer->blocks[block]);
+        reamertan_block_encoder_close(&writer->blocks[block]);
         start += writer->counts[block] * writer->size;
     }
-    reamertan_close(&writer->object);
+    reamertan_encoder_close(&writer->object);
     return NULL;
 }
 
-/* Gives a handle to both writers, and closes it. */
-static int hand_out(struct reamertan_handle *handle, struct reamertan_handle *first, struct reamertan_handle *second)
-{
-    int good = reamertan_share(handle, first) == REAMERTAN_DONE && reamertan_share(handle, second) == REAMERTAN_DONE;
-    reamertan_close(handle);
-    return good;
-}
-
-/* A further handle on the plan of blocks of so many symbols. It is kept, but each second one that is opened is closed,
+/* A further pointer to the plan of blocks of so many symbols. It is kept, but each second one that is opened is closed,
  * before its encoders have made a packet. */
-static int find_plan(size_t symbols, struct reamertan_handle *plan)
+static int find_plan(size_t symbols, reamertan_plan **plan)
 {
     static unsigned opened;
-    if (reamertan_share(&plans[symbols], plan) == REAMERTAN_DONE)
-        return 1;
-    int good = reamertan_open_plan(NULL, 0, (uint16_t)symbols, &plans[symbols]) == REAMERTAN_DONE
-               && reamertan_share(&plans[symbols], plan) == REAMERTAN_DONE;
+    if (plans[symbols])
+        return reamertan_plan_share(plans[symbols], plan) == REAMERTAN_DONE;
+    int good = reamertan_plan_open(&plans[symbols], (uint16_t)symbols) == REAMERTAN_DONE
+               && reamertan_plan_share(plans[symbols], plan) == REAMERTAN_DONE;
     if (opened++ % 2 == 0)
-        reamertan_close(&plans[symbols]);
+        reamertan_plan_close(&plans[symbols]);
     return good;
 }
 
-/* Opens the encoder of a block in both writers, by a plan which is then closed; of each second block by that alone. */
+/* Opens the encoder of a block in both writers, by a plan which is then closed. */
 static int open_block(const struct object *object, uint8_t block, struct writer writers[2])
 {
-    struct reamertan_handle plan = REAMERTAN_HANDLE_INIT, encoder = REAMERTAN_HANDLE_INIT;
+    reamertan_plan *plan = NULL;
     struct reamertan_range range;
     int good = reamertan_block_range(object->configuration, block, &range) == REAMERTAN_DONE;
     size_t length = range.end - range.start, symbols = length / (object->size - REAMERTAN_PAYLOAD_ID_BYTES);
@@ -140,23 +189,21 @@ static int open_block(const struct object *object, uint8_t block, struct writer 
     if (range.start < end)
         memcpy(bytes, object->bytes + range.start, end - range.start);
     good &= find_plan(symbols, &plan);
-    uint8_t answer = block % 2 == 0
-        ? reamertan_open_block_encoder(NULL, 0, object->configuration, block, bytes, length, &plan, &encoder)
-        : reamertan_open_planned_encoder(object->configuration, block, bytes, length, &plan, &encoder);
-    good &= answer == REAMERTAN_DONE;
-    reamertan_close(&plan);
+    good &= reamertan_block_encoder_open(&writers[0].blocks[block], plan, object->configuration, block, bytes, length)
+            == REAMERTAN_DONE;
+    reamertan_plan_close(&plan);
     free(bytes);
     writers[0].counts[block] = writers[1].counts[block] = (uint32_t)symbols + object->repair;
-    return good & hand_out(&encoder, &writers[0].blocks[block], &writers[1].blocks[block]);
+    good &= reamertan_block_encoder_share(writers[0].blocks[block], &writers[1].blocks[block]) == REAMERTAN_DONE;
+    return good;
 }
 
 /* Opens all encoders of an object in both writers. */
 static int open_writers(const struct object *object, struct writer writers[2])
 {
-    struct reamertan_handle encoder = REAMERTAN_HANDLE_INIT;
-    int good = reamertan_open_encoder(NULL, 0, object->configuration, object->bytes, object->length, &encoder)
-               == REAMERTAN_DONE;
-    good &= hand_out(&encoder, &writers[0].object, &writers[1].object);
+    int good = reamertan_encoder_open(&writers[0].object, object->configuration, object->bytes, object->length)
+                   == REAMERTAN_DONE
+               && reamertan_encoder_share(writers[0].object, &writers[1].object) == REAMERTAN_DONE;
     for (unsigned block = 0; block < writers[0].block_count; block++)
         good &= open_block(object, (uint8_t)block, writers);
     return good;
@@ -185,17 +232,18 @@ static int by_threads(const struct object *object)
 }
 
 /* Draws a configuration and a number of repair packets a block until they are taken: less memory than some packets need
- * is refused. Answers how many bytes the packets take. */
+ * is refused. One object in a hundred is larger, so that blocks have up to 2000 symbols. Answers how many bytes the
+ * packets take. */
 static uint64_t draw(struct object *object)
 {
     for (;;) {
         uint64_t bytes;
-        object->length = 1 + below(2000);
+        object->length = 1 + below(below(100) == 0 ? 16000 : 2000);
         uint16_t size = (uint16_t)(8 + below(120));
         uint64_t memory = 1u << (8 + below(16));
         object->repair = below(8);
-        if (reamertan_derive_configuration(NULL, 0, object->length, size, memory, object->configuration) == REAMERTAN_DONE
-            && reamertan_packets_length(NULL, 0, object->configuration, object->repair, &bytes) == REAMERTAN_DONE)
+        if (reamertan_derive_configuration(object->length, size, memory, object->configuration) == REAMERTAN_DONE
+            && reamertan_packets_length(object->configuration, object->repair, &bytes) == REAMERTAN_DONE)
             return bytes;
     }
 }
@@ -212,7 +260,7 @@ static int make_object(struct object *object)
     object->packets = bytes_of(bytes);
     for (size_t i = 0; i < object->length; i++)
         object->bytes[i] = (uint8_t)below(256);
-    return reamertan_encode(NULL, 0, object->configuration, object->bytes, object->length, object->repair,
+    return reamertan_encode(object->configuration, object->bytes, object->length, object->repair,
                             object->packets, bytes) == REAMERTAN_DONE;
 }
 
@@ -234,12 +282,13 @@ static int round_trip(int *answered)
     int good = make_object(&object);
     send(&object, &came);
     came.back = bytes_of(object.length);
-    came.answer = reamertan_decode(NULL, 0, object.configuration, came.packets, came.count * object.size, came.back,
+    came.answer = reamertan_decode(object.configuration, came.packets, came.count * object.size, came.back,
                                    object.length);
     *answered += came.answer == REAMERTAN_DONE;
     good &= came.answer == REAMERTAN_DONE ? memcmp(object.bytes, came.back, object.length) == 0
                                           : came.answer == REAMERTAN_INCOMPLETE;
-    good &= by_handles(&object, &came) & by_threads(&object);
+    good &= sends_one_by_one(&object) & receives_one_by_one(&object, &came) & receives_by_blocks(&object, &came)
+            & by_threads(&object);
     free(object.bytes), free(object.packets), free(came.packets), free(came.back);
     return good;
 }
@@ -254,7 +303,7 @@ int main(int count, char **words)
             return 1;
         }
     for (size_t symbols = 0; symbols <= MOST_SYMBOLS; symbols++)
-        reamertan_close(&plans[symbols]);
+        reamertan_plan_close(&plans[symbols]);
     printf("%d round trips, %d answered\n", trips, answered);
     return 0;
 }

@@ -44,9 +44,9 @@ case $1 in
     version) echo "a stand-in" ;;
     run) cat >/dev/null && echo 'int main(void) { return 0; }' | cc -fPIC -c -x c - -o "out/$(basename "$PWD").o" ;;
     lib)
-        sed -n 's/^[a-z].*\(reamertan_[a-z_]*\)(.*/\1/p' ../../include/reamertan.h | grep -vE '_(answer_text|further_rows|processor)$' |
-            sed "s/.*/unsigned &(void) { return $ANSWERED; }/; s/\(is_complete.*return\) [0-9]*\(.*\)/\1 0\2/" >out/calls.c
-        [ "$2" != --cpu ] || sed -i "s/\(is_complete.*return\) 0/\1 ${3##*-v}/" out/calls.c
+        sed -n 's/^[a-z].*\(reamertan_[a-z_]*\)(.*/\1/p' ../../include/reamertan.h | grep -vE '_(answer_text|processor)$' |
+            sed "s/.*/unsigned &(void) { return $ANSWERED; }/; s/\(_plan_share.*return\) [0-9]*\(.*\)/\1 0\2/" >out/calls.c
+        [ "$2" != --cpu ] || sed -i "s/\(_plan_share.*return\) 0/\1 ${3##*-v}/" out/calls.c
         "$cc" -fPIC -c out/calls.c -o out/calls.o && ar rcs out/libraptorq_c.a out/calls.o
         ;;
 esac

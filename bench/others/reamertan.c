@@ -3,12 +3,13 @@
 
 #include "pieces.h"
 #include "reamertan.h"
-#include "reamertan_rows.h"
 
 const size_t HEADER = REAMERTAN_PAYLOAD_ID_BYTES;
 
 static uint8_t configuration[REAMERTAN_CONFIGURATION_BYTES];
-static struct reamertan_handle plan = REAMERTAN_HANDLE_INIT, coder = REAMERTAN_HANDLE_INIT;
+static reamertan_plan *plan;
+static reamertan_block_encoder *encoder;
+static reamertan_decoder *decoder;
 
 static void done(uint8_t answer) {
     must(answer == REAMERTAN_DONE, reamertan_answer_text(answer));
@@ -16,10 +17,6 @@ static void done(uint8_t answer) {
 
 static size_t packet_size(const struct work *work) {
     return HEADER + work->size;
-}
-
-static size_t rows(const struct work *work) {
-    return work->source > 497 ? REAMERTAN_ROW_COUNT : 0;
 }
 
 void label(const struct work *work, uint32_t block, uint32_t piece, uint8_t *header) {
@@ -32,24 +29,23 @@ void begin(const struct work *work, bool encodes) {
     struct reamertan_parameters parameters = {(uint64_t)work->source * work->size * work->blocks, (uint16_t)work->size, 1, (uint8_t)work->blocks, 1};
     must(work->blocks < 256 && work->size < 65536 && work->source < 65536, "that is no object");
     done(reamertan_write_configuration(&parameters, configuration));
-    if (encodes) done(reamertan_open_plan(reamertan_rows, rows(work), (uint16_t)work->source, &plan));
-    else done(reamertan_open_decoder(reamertan_rows, rows(work), configuration, &coder));
+    if (encodes) done(reamertan_plan_open(&plan, (uint16_t)work->source));
+    else done(reamertan_decoder_open(&decoder, configuration));
 }
 
 void encode(const struct work *work, uint32_t block, const uint8_t *source, uint8_t *repair) {
     uint32_t count = work->pieces - work->source;
-    done(reamertan_open_block_encoder(reamertan_rows, rows(work), configuration, (uint8_t)block, source, (size_t)work->source * work->size,
-                                      &plan, &coder));
-    done(reamertan_write_block_packets(&coder, work->source, count, repair, count * packet_size(work)));
+    reamertan_block_encoder_close(&encoder);
+    done(reamertan_block_encoder_open(&encoder, plan, configuration, (uint8_t)block, source, (size_t)work->source * work->size));
+    done(reamertan_block_encoder_write(encoder, work->source, count, repair, count * packet_size(work)));
 }
 
 // Packets are handed in until their block is complete.
 bool decode(const struct work *work, uint32_t block, const uint8_t *pieces, const bool *lost, uint8_t *source) {
-    uint32_t missing = 1;
-    for (uint32_t piece = 0; piece < work->pieces && missing > 0; piece++) {
-        if (lost[piece]) continue;
-        done(reamertan_add_packet(&coder, pieces + piece * packet_size(work), packet_size(work)));
-        if (piece + 1 >= work->source) done(reamertan_missing_packets(&coder, (uint8_t)block, &missing));
-    }
-    return missing == 0 && reamertan_write_block(&coder, (uint8_t)block, source, (size_t)work->source * work->size) == REAMERTAN_DONE;
+    bool completes = false;
+    for (uint32_t piece = 0; piece < work->pieces && !completes; piece++)
+        if (!lost[piece])
+            done(reamertan_decoder_add_packet(decoder, pieces + piece * packet_size(work), packet_size(work), &completes));
+    return completes &&
+           reamertan_decoder_write_block(decoder, (uint8_t)block, source, (size_t)work->source * work->size) == REAMERTAN_DONE;
 }

@@ -5,9 +5,6 @@
 
 #include "choices.h"
 #include "reamertan.h"
-#include "reamertan_rows.h"
-
-enum { BUILT_IN = 497 };
 
 static void check(uint8_t answer) {
     if (answer == REAMERTAN_DONE) return;
@@ -15,28 +12,28 @@ static void check(uint8_t answer) {
     exit(1);
 }
 
-static void open_decoder(uint32_t symbols, struct reamertan_handle *decoder) {
-    struct reamertan_parameters parameters = {.transfer_length = symbols, .symbol_size = 1, .sub_blocks = 1, .source_blocks = 1, .alignment = 1};
+static void open_decoder(uint32_t symbols, reamertan_decoder **decoder) {
     uint8_t configuration[REAMERTAN_CONFIGURATION_BYTES];
-    check(reamertan_write_configuration(&parameters, configuration));
-    check(reamertan_open_decoder(reamertan_rows, symbols > BUILT_IN ? REAMERTAN_ROW_COUNT : 0, configuration, decoder));
+    check(reamertan_cut(symbols, 1, (uint16_t)symbols, configuration));
+    check(reamertan_decoder_open(decoder, configuration));
 }
 
 // Ids alone decide, so that each symbol is a zero octet.
-static void add_shard(struct reamertan_handle *decoder, uint32_t first, uint32_t packets) {
+static void add_shard(reamertan_decoder *decoder, uint32_t first, uint32_t packets) {
+    bool completes = false;
     for (uint32_t id = first; id < first + packets; id++) {
         const uint8_t packet[] = {0, (uint8_t)(id >> 16), (uint8_t)(id >> 8), (uint8_t)id, 0};
-        check(reamertan_add_packet(decoder, packet, sizeof packet));
+        check(reamertan_decoder_add_packet(decoder, packet, sizeof packet, &completes));
     }
 }
 
 static bool determines(const struct choices *choices) {
-    struct reamertan_handle decoder = REAMERTAN_HANDLE_INIT;
+    reamertan_decoder *decoder = NULL;
     open_decoder(choices->layout.symbols, &decoder);
     for (uint32_t at = 0; at < choices->layout.wanted; at++)
-        add_shard(&decoder, choices->layout.packets * choices->chosen[at], choices->layout.packets);
-    bool complete = reamertan_is_complete(&decoder) == REAMERTAN_DONE;
-    reamertan_close(&decoder);
+        add_shard(decoder, choices->layout.packets * choices->chosen[at], choices->layout.packets);
+    bool complete = reamertan_decoder_is_complete(decoder);
+    reamertan_decoder_close(&decoder);
     return complete;
 }
 

@@ -3,9 +3,8 @@
 #include <stdlib.h>
 
 #include "reamertan.h"
-#include "reamertan_rows.h"
 
-enum { IDS_MOST = 1 << 16, BUILT_IN = 497 };
+enum { IDS_MOST = 1 << 16 };
 
 static void check(uint8_t answer) {
     if (answer == REAMERTAN_DONE) return;
@@ -13,28 +12,27 @@ static void check(uint8_t answer) {
     exit(1);
 }
 
-static void open_decoder(uint32_t symbols, struct reamertan_handle *decoder) {
-    struct reamertan_parameters parameters = {.transfer_length = symbols, .symbol_size = 1, .sub_blocks = 1, .source_blocks = 1, .alignment = 1};
+static void open_decoder(uint32_t symbols, reamertan_decoder **decoder) {
     uint8_t configuration[REAMERTAN_CONFIGURATION_BYTES];
-    check(reamertan_write_configuration(&parameters, configuration));
-    check(reamertan_open_decoder(reamertan_rows, symbols > BUILT_IN ? REAMERTAN_ROW_COUNT : 0, configuration, decoder));
+    check(reamertan_cut(symbols, 1, (uint16_t)symbols, configuration));
+    check(reamertan_decoder_open(decoder, configuration));
 }
 
 // Ids alone decide, so that each symbol is a zero octet.
-static void add(struct reamertan_handle *decoder, uint32_t id) {
+static void add(reamertan_decoder *decoder, uint32_t id, bool *completes) {
     const uint8_t packet[] = {0, (uint8_t)(id >> 16), (uint8_t)(id >> 8), (uint8_t)id, 0};
-    check(reamertan_add_packet(decoder, packet, sizeof packet));
+    check(reamertan_decoder_add_packet(decoder, packet, sizeof packet, completes));
 }
 
 // How many ids it took beyond K', or 3 where K' + 2 don't do.
 static uint32_t needed(const uint32_t *ids, uint32_t symbols) {
-    struct reamertan_handle decoder = REAMERTAN_HANDLE_INIT;
-    open_decoder(symbols, &decoder);
+    reamertan_decoder *decoder = NULL;
     uint32_t taken = 0;
-    while (taken < symbols + 2 && reamertan_is_complete(&decoder) != REAMERTAN_DONE) add(&decoder, ids[taken++]);
-    uint32_t more = reamertan_is_complete(&decoder) == REAMERTAN_DONE ? taken - symbols : 3;
-    reamertan_close(&decoder);
-    return more;
+    bool completes = false;
+    open_decoder(symbols, &decoder);
+    while (taken < symbols + 2 && !completes) add(decoder, ids[taken++], &completes);
+    reamertan_decoder_close(&decoder);
+    return completes ? taken - symbols : 3;
 }
 
 int main(void) {

@@ -19,7 +19,7 @@ True
 all: **a damaged packet gives other bytes**. So put a checksum around each, and drop damaged ones.
 """
 from ._answers import Answer, Error
-from ._coders import Decoder, Encoder, SourceBlockEncoder, SourceBlockEncodingPlan
+from ._coders import Decoder, Encoder, SourceBlockDecoder, SourceBlockEncoder, SourceBlockEncodingPlan
 from ._configuration import ObjectTransmissionInformation, processor, version
 
 __all__ = [
@@ -28,6 +28,7 @@ __all__ = [
     "Encoder",
     "Error",
     "ObjectTransmissionInformation",
+    "SourceBlockDecoder",
     "SourceBlockEncoder",
     "SourceBlockEncodingPlan",
     "processor",

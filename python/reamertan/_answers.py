@@ -26,12 +26,10 @@ class Answer(enum.IntEnum):
     TRANSFER_LENGTH_ZERO = 16
     MEMORY_REQUIREMENT_TOO_SMALL = 17
     TOO_MANY_BLOCKS = 18
-    ROW_REFUSED = 19
     OUT_OF_MEMORY = 21
     CONTRADICTION = 22
     WRONG_BUFFER = 24
     INCOMPLETE = 25
-    NO_CODER = 26
 
 
 class Error(ValueError):

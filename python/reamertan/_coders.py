@@ -1,24 +1,23 @@
-"""Coders of objects and of blocks. Each keeps a handle of the library."""
+"""Coders of objects and of blocks. Each keeps a pointer of the library, and nothing that the library has."""
 from __future__ import annotations
 
 import itertools
 import os
 import struct
 import threading
-from ctypes import byref, c_uint32, c_uint64
+from ctypes import addressof, byref, c_bool, c_uint32, c_uint64, c_void_p
 from typing import Any, Callable, TypeVar
 
-from ._answers import Answer, Error
-from ._calls import Handle
+from ._answers import Answer
 from ._configuration import PAYLOAD_ID_BYTES, ObjectTransmissionInformation
-from ._library import ROWS, calls, exact, fresh, must, number
+from ._library import calls, exact, fresh, must, number
 
 ENCODING_SYMBOL_IDS = 1 << 24
 # How many bytes of packets a call makes at a time, unless one packet has more: so few that their memory is used again.
 BATCH = 1 << 16
 
 # What is asked for each packet, without a look-up.
-_add_packet, _is_complete, _INCOMPLETE = calls.add_packet, calls.is_complete, int(Answer.INCOMPLETE)
+_add_packet, _is_complete = calls.decoder_add_packet, calls.decoder_is_complete
 
 _Any = TypeVar("_Any", bound="Coder")
 # How often this process was forked off, and by which thread at last. Coders from before are looked at when they are next used.
@@ -35,29 +34,53 @@ os.register_at_fork(after_in_child=_count_fork)
 
 
 class Coder:
-    """What coders share: a handle, and a lock, since one call at a time uses a handle.
+    """What coders share: a pointer, which is null where the coder is closed, and a lock, since one call at a time uses a pointer.
 
     The lock lets its own thread in again, as a signal's handler may come between two calls. In a forked child, a coder that another
     thread was using is lost, since that thread isn't there to end its call.
     """
 
-    __slots__ = ("_forks", "_handle", "_lock")
+    __slots__ = ("_at", "_forks", "_lock")
+    _at: c_void_p
     _forks: int
-    _handle: Any
     _lock: Any
+    # The library's calls of its kind.
+    _open: Any
+    _close: Any
 
     def __new__(cls: type[_Any], *words: Any, **named: Any) -> _Any:
         made = super().__new__(cls)
-        made._lock, made._handle, made._forks = threading.RLock(), byref(Handle()), _forks
+        made._lock, made._at, made._forks = threading.RLock(), c_void_p(), _forks
         return made
 
-    def _ask(self, call: Callable[..., Any], *words: Any) -> int:
-        """What a call with the handle answers."""
+    def _begin(self, *words: Any) -> None:
+        """Opens the coder, in the place of what it was."""
+        at = c_void_p()
+        try:
+            must(self._open(byref(at), *words))
+            at = self._exchange(at)
+        finally:
+            self._close(byref(at))
+
+    def _exchange(self, at: c_void_p) -> c_void_p:
+        """Holds another pointer, and answers the one that was held."""
+        if self._forks != _forks:
+            self._meet()
+        if self._lock._is_owned():
+            # A handler came between two lines of a call, which is to find the same coder.
+            raise RuntimeError("the coder is in use")
+        with self._lock:
+            self._at, at = at, self._at
+        return at
+
+    def _ask(self, call: Callable[..., Any], *words: Any) -> Any:
+        """What a call of the coder answers."""
         if self._forks != _forks:
             self._meet()
         with self._lock:
-            answer: int = call(self._handle, *words)
-        return answer
+            if not self._at:
+                raise ValueError("the coder is closed")
+            return call(self._at, *words)
 
     def _meet(self) -> None:
         """Looks at a coder that comes from another process."""
@@ -72,8 +95,8 @@ class Coder:
             self._lock.release()
 
     def close(self) -> None:
-        """Frees what the coder holds. Calls are refused from then on (`Answer.NO_CODER`)."""
-        self._ask(calls.close)
+        """Frees what the coder holds. Calls raise a `ValueError` from then on."""
+        self._close(byref(self._exchange(c_void_p())))
 
     def __enter__(self: _Any) -> _Any:
         return self
@@ -82,9 +105,9 @@ class Coder:
         self.close()
 
     # Nobody else has the coder any more: where its lock is held, that is by a thread of another process, whose number a new one may have.
-    def __del__(self, close: Callable[[Any], None] = calls.close) -> None:
+    def __del__(self, byref: Callable[[Any], Any] = byref) -> None:
         if not self._lock._is_owned() and self._lock.acquire(blocking=False):
-            close(self._handle)
+            self._close(byref(self._at))
 
     def __reduce__(self) -> tuple[object, ...]:
         raise TypeError("a coder can't be copied")
@@ -125,12 +148,13 @@ class Encoder(Coder):
     """
 
     __slots__ = ("_config",)
+    _open, _close = calls.encoder_open, calls.encoder_close
     _config: ObjectTransmissionInformation
 
     def __init__(self, data: bytes, config: ObjectTransmissionInformation) -> None:
         """The encoder of an object by this configuration. Neither is needed any more."""
-        data, config_bytes = exact(data), configured(config)
-        must(self._ask(lambda handle: calls.open_encoder(*ROWS, config_bytes, data, len(data), handle)))
+        data = exact(data)
+        self._begin(configured(config), data, len(data))
         self._config = config
 
     @staticmethod
@@ -147,7 +171,7 @@ class Encoder(Coder):
         """Block by block the packets of all source symbols, and of so many repair symbols."""
         repair = number(repair_packets_per_block, 32, "the number of repair packets")
         # Refuses ids that are too great before any packet is made.
-        must(calls.packets_length(*ROWS, configured(self._config), repair, byref(c_uint64())))
+        must(calls.packets_length(configured(self._config), repair, byref(c_uint64())))
         packets: list[bytes] = []
         for block in range(self._config.source_blocks):
             packets += self.packets(block, 0, self._config.source_symbols(block) + repair)
@@ -161,7 +185,7 @@ class Encoder(Coder):
         """So many packets of a source block, of the encoding symbol ids from `first` on."""
         block = number(block, 8, "a source block")
         size = PAYLOAD_ID_BYTES + self._config.symbol_size
-        return batches(lambda *words: self._ask(calls.write_packets, block, *words), size, first, count)
+        return batches(lambda *words: self._ask(calls.encoder_write, block, *words), size, first, count)
 
 
 class SourceBlockEncodingPlan(Coder):
@@ -171,12 +195,13 @@ class SourceBlockEncodingPlan(Coder):
     """
 
     __slots__ = ()
+    _open, _close = calls.plan_open, calls.plan_close
 
     @staticmethod
     def generate(symbol_count: int) -> SourceBlockEncodingPlan:
         """The plan for blocks of so many source symbols."""
         made = SourceBlockEncodingPlan()
-        must(calls.open_plan(*ROWS, number(symbol_count, 16, "the number of source symbols"), made._handle))
+        made._begin(number(symbol_count, 16, "the number of source symbols"))
         return made
 
 
@@ -191,6 +216,7 @@ class SourceBlockEncoder(Coder):
     """
 
     __slots__ = ("_size",)
+    _open, _close = calls.block_encoder_open, calls.block_encoder_close
     _size: int
 
     @staticmethod
@@ -203,12 +229,12 @@ class SourceBlockEncoder(Coder):
         data, words = exact(data), (configured(config), number(source_block_id, 8, "a source block"))
         made = SourceBlockEncoder()
         made._size = PAYLOAD_ID_BYTES + config.symbol_size
-        must(plan._ask(lambda handle: calls.open_planned_encoder(*words, data, len(data), handle, made._handle)))
+        plan._ask(lambda at: made._begin(at, *words, data, len(data)))
         return made
 
     def packets(self, first: int, count: int) -> list[bytes]:
         """So many packets of the block, of the encoding symbol ids from `first` on."""
-        return batches(lambda *words: self._ask(calls.write_block_packets, *words), self._size, first, count)
+        return batches(lambda *words: self._ask(calls.block_encoder_write, *words), self._size, first, count)
 
 
 class Decoder(Coder):
@@ -221,19 +247,21 @@ class Decoder(Coder):
     True
     """
 
-    __slots__ = ("_config", "_handed", "_is_late", "_least")
+    __slots__ = ("_config", "_handed", "_is_late", "_least", "_unread_at")
+    _open, _close = calls.decoder_open, calls.decoder_close
     _config: ObjectTransmissionInformation
     _handed: itertools.count[int]
     _is_late: bool
     _least: int
+    # Where `decode` has a call write whether a block is complete.
+    _unread_at: Any
 
     def __init__(self, config: ObjectTransmissionInformation) -> None:
         """The decoder of an object that was cut by this configuration."""
-        config_bytes = configured(config)
-        must(self._ask(lambda handle: calls.open_decoder(*ROWS, config_bytes, handle)))
+        self._begin(configured(config))
         # Fewer packets than there are source symbols determine no object. A count is taken in one step, whoever interrupts.
         self._handed, self._least = itertools.count(1), -(-config.transfer_length // config.symbol_size)
-        self._config, self._is_late = config, False
+        self._config, self._is_late, self._unread_at = config, False, byref(c_bool())
 
     @staticmethod
     def with_defaults(transfer_length: int, maximum_transmission_unit: int) -> Decoder:
@@ -255,13 +283,27 @@ class Decoder(Coder):
         if self._forks != _forks:
             self._meet()
         with self._lock:
+            at = self._at
+            if not at:
+                raise ValueError("the coder is closed")
             # Who counts enough of them says so to all: a handler may add packets between this count and this call.
             if next(self._handed) >= self._least:
                 self._is_late = True
-            answer = _add_packet(self._handle, packet, len(packet)) or self._is_late and _is_complete(self._handle)
-        if answer is False:
-            return None
-        return self.get_result() if self._is_there(answer) else None
+            answer = _add_packet(at, packet, len(packet), self._unread_at)
+            if not answer and not (self._is_late and _is_complete(at)):
+                return None
+        must(answer)
+        return self.get_result()
+
+    def add_packet(self, packet: bytes) -> bool:
+        """Takes a packet, and tells whether its source block is complete by it: then `block_bytes` has it. `packet[0]` is its number.
+
+        Raises an `Error` where `decode` does.
+        """
+        packet, completes = exact(packet), c_bool()
+        self._is_late = True
+        must(self._ask(_add_packet, packet, len(packet), addressof(completes)))
+        return completes.value
 
     def add_packets(self, packets: bytes) -> None:
         """Takes packets that lie one behind another, in one call. `get_result` has the object once they determine it.
@@ -270,43 +312,82 @@ class Decoder(Coder):
         taken, and those behind it aren't.
         """
         packets = exact(packets)
-        # Counted before they are taken, and where one is refused too many: then `decode` asks sooner.
-        for _ in range(len(packets) // (PAYLOAD_ID_BYTES + self._config.symbol_size)):
-            if next(self._handed) >= self._least:
-                self._is_late = True
-        must(self._ask(calls.add_packets, packets, len(packets)))
+        # `decode` doesn't count them.
+        self._is_late = True
+        must(self._ask(calls.decoder_add_packets, packets, len(packets)))
 
     def is_complete(self) -> bool:
         """Whether the packets that were taken determine the object."""
-        return self._is_there(self._ask(calls.is_complete))
+        return bool(self._ask(_is_complete))
 
     def get_result(self) -> bytes | None:
         """The object, where the packets that were taken determine it."""
         if not self.is_complete():
             return None
         data = fresh(self._config.transfer_length)
-        must(self._ask(calls.write_object, data, len(data)))
+        must(self._ask(calls.decoder_write_object, data, len(data)))
         return data
 
     def missing_packets(self, block: int) -> int:
         """How many packets more a source block needs at least, and 0 once it is complete."""
         missing = c_uint32()
-        must(self._ask(calls.missing_packets, number(block, 8, "a source block"), byref(missing)))
+        must(self._ask(calls.decoder_missing, number(block, 8, "a source block"), byref(missing)))
         return missing.value
 
     def block_bytes(self, block: int) -> bytes | None:
         """The object's bytes in a source block, where the packets that were taken determine the block."""
         block = number(block, 8, "a source block")
-        # A block's bytes end where the object does. One that isn't there has none, and is refused by the call.
-        is_there = block < self._config.source_blocks
-        place = self._config.block_range(block) if is_there else range(0)
+        # A block's bytes end where the object does.
+        place = self._config.block_range(block)
         data = fresh(max(0, min(place.stop, self._config.transfer_length) - place.start))
-        return data if self._is_there(self._ask(calls.write_block, block, data, len(data))) else None
-
-    @staticmethod
-    def _is_there(answer: int) -> bool:
-        """Whether what was asked for is there. Raises what else an answer means."""
-        if answer == _INCOMPLETE:
-            return False
+        answer = self._ask(calls.decoder_write_block, block, data, len(data))
+        if answer == Answer.INCOMPLETE:
+            return None
         must(answer)
-        return True
+        return data
+
+
+class SourceBlockDecoder(Coder):
+    """The decoder of one source block, which holds nothing of the others: of an object that is larger than memory.
+
+    >>> config = ObjectTransmissionInformation(1000, 100, 2, 1, 1)
+    >>> decoder = SourceBlockDecoder(1, config)
+    >>> decoder.add_packets(b"".join(Encoder(b"reamertan " * 100, config).packets(1, 3, 5)))
+    >>> decoder.get_result() == b"reamertan " * 50
+    True
+    """
+
+    __slots__ = ("_length",)
+    _open, _close = calls.block_decoder_open, calls.block_decoder_close
+    _length: int
+
+    def __init__(self, source_block_id: int, config: ObjectTransmissionInformation) -> None:
+        """The decoder of a block of an object that was cut by this configuration."""
+        config_bytes, block = configured(config), number(source_block_id, 8, "a source block")
+        length = len(config.block_range(block))
+        self._begin(config_bytes, block, length)
+        self._length = length
+
+    def add_packets(self, packets: bytes) -> None:
+        """Takes packets of the block that lie one behind another, or one alone, as `Decoder.add_packets` does."""
+        packets = exact(packets)
+        must(self._ask(calls.block_decoder_add_packets, packets, len(packets)))
+
+    def is_complete(self) -> bool:
+        """Whether the packets that were taken determine the block."""
+        return bool(self._ask(calls.block_decoder_is_complete))
+
+    def get_result(self) -> bytes | None:
+        """The block, where the packets that were taken determine it: its place is `block_range` of the configuration. Where the object ends
+        before it, zeros follow."""
+        if not self.is_complete():
+            return None
+        data = fresh(self._length)
+        must(self._ask(calls.block_decoder_write, data, len(data)))
+        return data
+
+    def missing_packets(self) -> int:
+        """How many packets more the block needs at least, and 0 once it is complete."""
+        missing = c_uint32()
+        must(self._ask(calls.block_decoder_missing, byref(missing)))
+        return missing.value

@@ -5,11 +5,13 @@ from ctypes import byref
 
 from . import _library
 from ._calls import Parameters, Range
-from ._library import ROWS, calls, exact, fresh, must, number
+from ._library import calls, exact, fresh, must, number
 
 CONFIGURATION_BYTES = 12
 PAYLOAD_ID_BYTES = 4
 DEFAULT_DECODER_MEMORY = 10485760
+# Source blocks of at most so many symbols are coded fastest.
+FAST_BLOCK = 497
 
 
 class ObjectTransmissionInformation:
@@ -54,12 +56,31 @@ class ObjectTransmissionInformation:
     def with_defaults(
         transfer_length: int, max_packet_size: int, decoder_memory: int = DEFAULT_DECODER_MEMORY
     ) -> ObjectTransmissionInformation:
-        """The configuration of an object in packets of at most so many bytes of payload (RFC 6330, 4.3)."""
+        """The configuration of an object in packets of at most so many bytes of payload (RFC 6330, 4.3).
+
+        It is the Rust crate's and PyPI's. Of large objects it has large blocks: `cut` makes smaller ones, which are faster.
+        """
         length = number(transfer_length, 64, "the transfer length")
         size = number(max_packet_size, 16, "the packet size")
         memory = number(decoder_memory, 64, "the decoder's memory")
         written = fresh(CONFIGURATION_BYTES)
-        must(calls.derive_configuration(*ROWS, length, size, memory, written))
+        must(calls.derive_configuration(length, size, memory, written))
+        return ObjectTransmissionInformation.deserialize(written)
+
+    @staticmethod
+    def cut(transfer_length: int, symbol_size: int, block_symbols: int = FAST_BLOCK) -> ObjectTransmissionInformation:
+        """The configuration of an object in as few source blocks as have at most so many symbols each.
+
+        Where nothing else is said they are coded fastest: an object of 100 MB several times as fast as by `with_defaults`. An object
+        has 255 blocks at most, so that a larger one needs more symbols a block. In larger blocks fewer repair packets do.
+
+        >>> config = ObjectTransmissionInformation.cut(10_000_000, 1280)
+        >>> config.source_blocks, config.source_symbols(0)
+        (16, 489)
+        """
+        length, size = number(transfer_length, 64, "the transfer length"), number(symbol_size, 16, "the symbol size")
+        written = fresh(CONFIGURATION_BYTES)
+        must(calls.cut(length, size, number(block_symbols, 16, "the number of symbols of a block"), written))
         return ObjectTransmissionInformation.deserialize(written)
 
     def serialize(self) -> bytes:
@@ -68,7 +89,7 @@ class ObjectTransmissionInformation:
 
     def check(self) -> None:
         """Raises an `Error` where no coder takes the configuration."""
-        must(calls.check_configuration(*ROWS, self._bytes))
+        must(calls.check_configuration(self._bytes))
 
     @property
     def transfer_length(self) -> int:

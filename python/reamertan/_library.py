@@ -8,7 +8,7 @@ from __future__ import annotations
 import ctypes
 import operator
 import os
-from ctypes import byref, c_ssize_t, c_void_p, py_object
+from ctypes import c_ssize_t, c_void_p, py_object
 from types import SimpleNamespace
 
 from ._answers import Answer, Error
@@ -53,9 +53,6 @@ def spelled(version: int) -> str:
 
 
 calls = loaded(found())
-_count = ctypes.c_size_t()
-# The rows of RFC 6330 for blocks of more than 497 symbols, and how many there are.
-ROWS = (calls.further_rows(byref(_count)), _count.value)
 
 # New bytes, which a call fills before anybody else sees them. So an object isn't copied once more.
 _new_bytes = ctypes.PYFUNCTYPE(py_object, c_void_p, c_ssize_t)(("PyBytes_FromStringAndSize", ctypes.pythonapi))

@@ -57,7 +57,8 @@ class Refusals(unittest.TestCase):
             (answer.WRONG_PAYLOAD_SIZE, decoder.decode, bytes(69)),
             (answer.PLAN_MISMATCH, reamertan.SourceBlockEncoder.with_encoding_plan, 0, Config(70, 10, 1, 1, 1), bytes(70), plan),
             (answer.BLOCK_OVER_TABLE, reamertan.SourceBlockEncodingPlan.generate, 56404),
-            (answer.NO_CODER, reamertan.Decoder.__new__(reamertan.Decoder).is_complete),
+            (answer.UNKNOWN_BLOCK, reamertan.SourceBlockDecoder, 1, encoder.get_config()),
+            (answer.TOO_MANY_BLOCKS, Config.cut, 1 << 30, 1280, 497),
         ):
             with self.subTest(number, words=words):
                 self.refused(number, call, *words)
@@ -158,10 +159,22 @@ class Refusals(unittest.TestCase):
     def test_closed(self):
         with reamertan.Encoder.with_defaults(bytes(500), 64) as encoder, reamertan.Decoder(encoder.get_config()) as decoder:
             decoder.decode(encoder.packet(0, 0))
-        for call, *words in ((encoder.packet, 0, 0), (encoder.get_encoded_packets, 1), (decoder.decode, bytes(68)), (decoder.get_result,)):
-            self.refused(reamertan.Answer.NO_CODER, call, *words)
+        begun = reamertan.Decoder.__new__(reamertan.Decoder)
+        plan = reamertan.SourceBlockEncodingPlan()
+        for call, *words in (
+            (encoder.packet, 0, 0),
+            (encoder.get_encoded_packets, 1),
+            (decoder.decode, bytes(68)),
+            (decoder.add_packets, b""),
+            (decoder.get_result,),
+            (begun.is_complete,),
+            (reamertan.SourceBlockEncoder.with_encoding_plan, 0, encoder.get_config(), bytes(512), plan),
+        ):
+            self.assertRaisesRegex(ValueError, "the coder is closed", call, *words)
         encoder.close()
         encoder.__init__(bytes(500), encoder.get_config())
+        self.assertEqual(len(encoder.get_encoded_packets(2)), 10)
+        self.assertRaises(reamertan.Error, encoder.__init__, b"x", encoder.get_config())
         self.assertEqual(len(encoder.get_encoded_packets(2)), 10)
 
     def test_copies(self):

@@ -1,6 +1,5 @@
 """Objects and configurations cross, whatever is lost."""
 import copy
-import ctypes
 import doctest
 import pickle
 import random
@@ -33,21 +32,15 @@ class RoundTrips(unittest.TestCase):
         came = reamertan.ObjectTransmissionInformation.deserialize(encoder.get_config().serialize())
         self.assertTrue(received(reamertan.Decoder(came), encoder.get_encoded_packets(9)[9:]) == data)
 
-    def test_each_row(self):
-        """Each block of K' symbols is taken, and none above the last row."""
-        first, count = _configuration.ROWS
-        further = [number for number in (ctypes.c_uint32 * (5 * count)).from_address(first)][::5]
-        sizes = [*range(1, 498), *further]
-        self.assertEqual((count, further[0], further[-1]), (403, 511, 56403))
-        for symbols in sizes:
-            reamertan.ObjectTransmissionInformation(symbols, 1, 1, 1, 1).check()
-        with self.assertRaises(reamertan.Error):
-            reamertan.ObjectTransmissionInformation.deserialize(bytes([0, 0, 0, 0xDC, 0x54, 0, 0, 1, 1, 0, 1, 1])).check()
+    def test_blocks_of_any_size(self):
         for symbols in (1, 10, 11, 497, 498, 511, 1002, 10120):
             data = object_of(symbols * 8)
             config = reamertan.ObjectTransmissionInformation(len(data), 8, 1, 1, 1)
             packets = reamertan.Encoder(data, config).get_encoded_packets(20)
             self.assertTrue(received(reamertan.Decoder(config), packets[15:]) == data, symbols)
+        reamertan.ObjectTransmissionInformation(56403, 1, 1, 1, 1).check()
+        with self.assertRaises(reamertan.Error):
+            reamertan.ObjectTransmissionInformation.deserialize(bytes([0, 0, 0, 0xDC, 0x54, 0, 0, 1, 1, 0, 1, 1])).check()
 
     def test_packets_by_id(self):
         encoder = reamertan.Encoder.with_defaults(object_of(3000000), 1280)
@@ -85,6 +78,29 @@ class RoundTrips(unittest.TestCase):
         self.assertTrue(received(decoder, encoder.packets(1, 0, 50)) == data)
         self.assertEqual((decoder.is_complete(), decoder.get_result(), decoder.block_bytes(1)), (True, data, data[5000:]))
         self.assertTrue(decoder.decode(encoder.packet(0, 77)) == data)
+
+    def test_blocks_as_they_come(self):
+        data = object_of(9990)
+        config = reamertan.ObjectTransmissionInformation.cut(len(data), 100, 34)
+        packets, decoder, back = reamertan.Encoder(data, config).get_encoded_packets(10), reamertan.Decoder(config), bytearray(len(data))
+        told = 0
+        for packet in shuffled(packets, 0.05):
+            if decoder.add_packet(packet):
+                place, told = config.block_range(packet[0]), told + 1
+                back[place.start : place.stop] = decoder.block_bytes(packet[0])
+        self.assertEqual((told, decoder.is_complete(), back == data), (config.source_blocks, True, True))
+
+    def test_blocks_by_themselves(self):
+        data = object_of(9990)
+        config = reamertan.ObjectTransmissionInformation.cut(len(data), 100, 34)
+        encoder, back = reamertan.Encoder(data, config), b""
+        for block in range(config.source_blocks):
+            decoder, least = reamertan.SourceBlockDecoder(block, config), config.source_symbols(block)
+            self.assertEqual((decoder.get_result(), decoder.missing_packets()), (None, least))
+            decoder.add_packets(b"".join(encoder.packets(block, 5, least + 3)))
+            self.assertEqual((decoder.is_complete(), decoder.missing_packets()), (True, 0))
+            back += decoder.get_result()
+        self.assertEqual(back, data + bytes(10))
 
     def test_packets_behind_another(self):
         data = object_of(9990)

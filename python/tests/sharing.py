@@ -60,8 +60,8 @@ class Sharing(unittest.TestCase):
             def ask():
                 try:
                     encoder.packets(0, 0, 200)
-                except reamertan.Error as error:
-                    self.assertEqual(error.number, reamertan.Answer.NO_CODER)
+                except ValueError as error:
+                    self.assertEqual(str(error), "the coder is closed")
 
             in_threads(ask, encoder.close, ask)
 
@@ -161,6 +161,18 @@ class Sharing(unittest.TestCase):
         decoder._handed = iter(count, None)
         answers.append(decoder.decode(first))
         self.assertIn(data, answers)
+
+    def test_closing_within_a_call(self):
+        """A handler that comes between two lines of a call can't take its coder away."""
+        encoder, refused = reamertan.Encoder.with_defaults(bytes(6400), 64), []
+        with encoder._lock:
+            for call, *words in ((encoder.close,), (encoder.__init__, bytes(6400), encoder.get_config())):
+                try:
+                    call(*words)
+                except RuntimeError as error:
+                    refused.append(str(error))
+        self.assertEqual(refused, ["the coder is in use"] * 2)
+        self.assertEqual(len(encoder.packets(0, 0, 3)), 3)
 
     def test_handlers_that_raise(self):
         class Stop(Exception):

@@ -99,6 +99,12 @@ impl EncodingPacket {
         [&self.payload_id.serialize(), self.data.as_slice()].concat()
     }
 
+    /// Appends these bytes to others.
+    pub(crate) fn append_to(&self, bytes: &mut Vec<u8>) {
+        bytes.extend(self.payload_id.serialize());
+        bytes.extend_from_slice(&self.data);
+    }
+
     /// The packet's id.
     pub fn payload_id(&self) -> &PayloadId {
         &self.payload_id
@@ -187,7 +193,14 @@ impl ObjectTransmissionInformation {
 
     /// The twelve bytes that spell the configuration.
     pub fn serialize(&self) -> Configuration {
-        self.bytes()
+        // F in five bytes, a reserved zero, T in two, Z in one, N in two, Al in one.
+        let [_, _, _, f @ ..] = self.transfer_length.to_be_bytes();
+        let t = self.symbol_size.to_be_bytes();
+        let n = self.num_sub_blocks.to_be_bytes();
+        let (z, al) = (self.num_source_blocks, self.symbol_alignment);
+        [
+            f[0], f[1], f[2], f[3], f[4], 0, t[0], t[1], z, n[0], n[1], al,
+        ]
     }
 
     /// The length of the object, in bytes.
@@ -216,23 +229,11 @@ impl ObjectTransmissionInformation {
     }
 
     /// The same of a source block as an object of its own, of so many bytes.
-    pub(crate) fn of_block(&self, length: u64) -> Configuration {
-        let block = ObjectTransmissionInformation {
+    pub(crate) fn of_block(&self, length: u64) -> ObjectTransmissionInformation {
+        ObjectTransmissionInformation {
             transfer_length: length,
             num_source_blocks: 1,
             ..*self
-        };
-        block.bytes()
-    }
-
-    // F in five bytes, a reserved zero, T in two, Z in one, N in two, Al in one.
-    fn bytes(&self) -> Configuration {
-        let [_, _, _, f @ ..] = self.transfer_length.to_be_bytes();
-        let t = self.symbol_size.to_be_bytes();
-        let n = self.num_sub_blocks.to_be_bytes();
-        let (z, al) = (self.num_source_blocks, self.symbol_alignment);
-        [
-            f[0], f[1], f[2], f[3], f[4], 0, t[0], t[1], z, n[0], n[1], al,
-        ]
+        }
     }
 }

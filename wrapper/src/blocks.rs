@@ -1,11 +1,7 @@
 //! How an object is cut into source blocks.
 
 use crate::base::ObjectTransmissionInformation;
-use crate::calls::{self, accepted};
-use crate::rows::{BUILT_IN_SIZES, ROWS};
-
-/// The greatest number of source symbols of a source block.
-pub(crate) const GREATEST_BLOCK: u32 = ROWS[ROWS.len() - 1][0];
+use crate::calls::{self, GREATEST_BLOCK, accepted};
 
 /// The function Partition of RFC 6330, section 4.4.1.2: `i` things in `j` parts as equal as they can
 /// be. Answers the size of the larger parts, that of the smaller ones, and how many there are of
@@ -45,9 +41,23 @@ pub fn calculate_block_offsets(
 /// The number K' of symbols of the extended source block, with padding symbols, of so many source
 /// symbols (RFC 6330, section 5.3.1). Panics above 56403.
 pub fn extended_source_block_symbols(source_block_symbols: u32) -> u32 {
-    let further = ROWS.iter().map(|[size, ..]| size);
-    let mut sizes = BUILT_IN_SIZES.iter().chain(further).copied();
-    sizes
-        .find(|&size| size >= source_block_symbols)
-        .expect("TooManySymbols")
+    assert!(source_block_symbols <= GREATEST_BLOCK, "TooManySymbols");
+    // The library has the table. An object of symbols of a byte is one block by default from K' bytes of memory on.
+    let symbols = source_block_symbols.max(1);
+    let (mut least, mut greatest) = (symbols, GREATEST_BLOCK);
+    while least < greatest {
+        let middle = (least + greatest) / 2;
+        if is_one_block(symbols, middle) {
+            greatest = middle;
+        } else {
+            least = middle + 1;
+        }
+    }
+    least
+}
+
+// Whether so many symbols of a byte are one block by default, with so many bytes of memory.
+fn is_one_block(symbols: u32, memory: u32) -> bool {
+    calls::derive(symbols.into(), 1, memory.into())
+        .is_ok_and(|configuration| calls::read(&configuration).source_blocks == 1)
 }

@@ -2,11 +2,13 @@
 //! do.
 
 use std::fmt;
-use std::ptr::null_mut;
 use std::sync::LazyLock;
 
-use crate::rows::{BUILT_IN_SIZES, ROWS};
 use crate::version::VERSION;
+
+mod coders;
+
+pub use coders::{Coder, Kind};
 
 /// How many bytes spell a configuration.
 const CONFIGURATION_LENGTH: usize = 12;
@@ -16,6 +18,9 @@ pub const PAYLOAD_ID_LENGTH: usize = 4;
 
 /// How many encoding symbol ids there are.
 pub const ENCODING_SYMBOL_IDS: u32 = 1 << 24;
+
+/// The greatest number of source symbols of a source block.
+pub const GREATEST_BLOCK: u32 = 56403;
 
 /// The memory in bytes that each sub-block is to fit, where nobody says another number.
 pub const DEFAULT_DECODER_MEMORY: u64 = 10 * 1024 * 1024;
@@ -53,11 +58,14 @@ pub struct Refusal(pub u8);
 /// An encoding symbol id doesn't fit 24 bits.
 pub const ESI_TOO_LARGE: Refusal = Refusal(11);
 
+/// A payload has another length than a symbol.
+pub const WRONG_PAYLOAD_SIZE: Refusal = Refusal(13);
+
+/// A packet is of another block.
+pub const UNKNOWN_BLOCK: Refusal = Refusal(14);
+
 /// The packets contradict each other.
 pub const CONTRADICTION: Refusal = Refusal(22);
-
-/// The packets don't determine what is asked for.
-const INCOMPLETE: Refusal = Refusal(25);
 
 /// The names of answers by their numbers, made by `errors/make_lists`.
 const NAMES: [(u8, &str); 26] = [
@@ -96,35 +104,29 @@ impl fmt::Display for Refusal {
     }
 }
 
-/// A row of RFC 6330, section 5.6: K', J, S, H and W.
-type Row = [u32; 5];
+/// Makes the packets of an object.
+#[repr(C)]
+pub struct Encoder([u8; 0]);
 
-/// The rows behind the built-in ones that a block of so many symbols takes: each call makes its table of
-/// those that it is handed.
-fn rows_for(symbols: u64) -> &'static [Row] {
-    if BUILT_IN_SIZES
-        .last()
-        .is_some_and(|&size| symbols <= size.into())
-    {
-        return &[];
-    }
-    let smaller = ROWS.partition_point(|&[size, ..]| u64::from(size) < symbols);
-    &ROWS[..ROWS.len().min(smaller + 1)]
-}
+/// Solves the equations of source blocks of one number of symbols.
+#[repr(C)]
+pub struct Plan([u8; 0]);
 
-/// Those that the greatest block of an object takes.
-fn rows_of(configuration: &Configuration) -> &'static [Row] {
-    let cut = read(configuration);
-    // What is 0 is refused whatever the rows.
-    let symbols = cut.transfer_length.div_ceil(cut.symbol_size.max(1).into());
-    rows_for(symbols.div_ceil(cut.source_blocks.max(1).into()))
-}
+/// Makes the packets of a source block.
+#[repr(C)]
+pub struct BlockEncoder([u8; 0]);
+
+/// Takes the packets of an object.
+#[repr(C)]
+pub struct Decoder([u8; 0]);
+
+/// Takes the packets of a source block.
+#[repr(C)]
+pub struct BlockDecoder([u8; 0]);
 
 unsafe extern "C" {
     fn reamertan_version() -> u32;
     fn reamertan_derive_configuration(
-        rows: *const Row,
-        row_count: usize,
         object_length: u64,
         packet_size: u16,
         decoder_memory: u64,
@@ -138,65 +140,96 @@ unsafe extern "C" {
         configuration: *const Configuration,
         parameters: *mut Parameters,
     );
-    fn reamertan_check_configuration(
-        rows: *const Row,
-        row_count: usize,
-        configuration: *const Configuration,
-    ) -> u8;
     fn reamertan_block_range(
         configuration: *const Configuration,
         block: u8,
         range: *mut Range,
     ) -> u8;
-    fn reamertan_open_encoder(
-        rows: *const Row,
-        row_count: usize,
+    fn reamertan_encoder_open(
+        encoder: *mut *mut Encoder,
         configuration: *const Configuration,
         object: *const u8,
         object_length: usize,
-        handle: *mut Handle,
     ) -> u8;
-    fn reamertan_write_packets(
-        handle: *mut Handle,
+    fn reamertan_encoder_write(
+        encoder: *mut Encoder,
         block: u8,
         first: u32,
         count: u32,
         packets: *mut u8,
         packets_length: usize,
     ) -> u8;
-    fn reamertan_open_plan(
-        rows: *const Row,
-        row_count: usize,
-        source_symbols: u16,
-        handle: *mut Handle,
-    ) -> u8;
-    fn reamertan_open_planned_encoder(
+    fn reamertan_encoder_share(encoder: *mut Encoder, twin: *mut *mut Encoder) -> u8;
+    fn reamertan_encoder_close(encoder: *mut *mut Encoder);
+    fn reamertan_plan_open(plan: *mut *mut Plan, source_symbols: u16) -> u8;
+    fn reamertan_plan_share(plan: *mut Plan, twin: *mut *mut Plan) -> u8;
+    fn reamertan_plan_close(plan: *mut *mut Plan);
+    fn reamertan_block_encoder_open(
+        encoder: *mut *mut BlockEncoder,
+        plan: *mut Plan,
         configuration: *const Configuration,
         block: u8,
         bytes: *const u8,
         length: usize,
-        plan: *mut Handle,
-        handle: *mut Handle,
     ) -> u8;
-    fn reamertan_write_block_packets(
-        handle: *mut Handle,
+    fn reamertan_block_encoder_write(
+        encoder: *mut BlockEncoder,
         first: u32,
         count: u32,
         packets: *mut u8,
         packets_length: usize,
     ) -> u8;
-    fn reamertan_share(handle: *mut Handle, twin: *mut Handle) -> u8;
-    fn reamertan_open_decoder(
-        rows: *const Row,
-        row_count: usize,
-        configuration: *const Configuration,
-        handle: *mut Handle,
+    fn reamertan_block_encoder_share(
+        encoder: *mut BlockEncoder,
+        twin: *mut *mut BlockEncoder,
     ) -> u8;
-    fn reamertan_add_packets(handle: *mut Handle, packets: *const u8, length: usize) -> u8;
-    fn reamertan_copy_decoder(handle: *mut Handle, twin: *mut Handle) -> u8;
-    fn reamertan_is_complete(handle: *mut Handle) -> u8;
-    fn reamertan_write_block(handle: *mut Handle, block: u8, bytes: *mut u8, length: usize) -> u8;
-    fn reamertan_close(handle: *mut Handle);
+    fn reamertan_block_encoder_close(encoder: *mut *mut BlockEncoder);
+    fn reamertan_decoder_open(
+        decoder: *mut *mut Decoder,
+        configuration: *const Configuration,
+    ) -> u8;
+    fn reamertan_decoder_add_packet(
+        decoder: *mut Decoder,
+        packet: *const u8,
+        packet_length: usize,
+        completes: *mut bool,
+    ) -> u8;
+    fn reamertan_decoder_is_complete(decoder: *mut Decoder) -> bool;
+    fn reamertan_decoder_missing(decoder: *mut Decoder, block: u8, packets: *mut u32) -> u8;
+    fn reamertan_decoder_write_block(
+        decoder: *mut Decoder,
+        block: u8,
+        bytes: *mut u8,
+        length: usize,
+    ) -> u8;
+    fn reamertan_decoder_write_object(
+        decoder: *mut Decoder,
+        object: *mut u8,
+        object_length: usize,
+    ) -> u8;
+    fn reamertan_decoder_copy(decoder: *mut Decoder, twin: *mut *mut Decoder) -> u8;
+    fn reamertan_decoder_close(decoder: *mut *mut Decoder);
+    fn reamertan_block_decoder_open(
+        decoder: *mut *mut BlockDecoder,
+        configuration: *const Configuration,
+        block: u8,
+        length: u64,
+    ) -> u8;
+    fn reamertan_block_decoder_add_packets(
+        decoder: *mut BlockDecoder,
+        packets: *const u8,
+        packets_length: usize,
+    ) -> u8;
+    fn reamertan_block_decoder_is_complete(decoder: *mut BlockDecoder) -> bool;
+    fn reamertan_block_decoder_missing(decoder: *mut BlockDecoder, packets: *mut u32) -> u8;
+    fn reamertan_block_decoder_write(
+        decoder: *mut BlockDecoder,
+        bytes: *mut u8,
+        length: usize,
+    ) -> u8;
+    fn reamertan_block_decoder_copy(decoder: *mut BlockDecoder, twin: *mut *mut BlockDecoder)
+    -> u8;
+    fn reamertan_block_decoder_close(decoder: *mut *mut BlockDecoder);
 }
 
 /// Why no library is linked, or nothing.
@@ -240,18 +273,8 @@ pub fn accepted<T>(answer: Result<T, Refusal>) -> T {
 pub fn derive(length: u64, packet_size: u16, memory: u64) -> Result<Configuration, Refusal> {
     meet_library();
     let mut made = [0; CONFIGURATION_LENGTH];
-    // SAFETY: the declaration is the header's, a row has the layout of its struct, and the other
-    // pointer is that of twelve bytes.
-    let number = unsafe {
-        reamertan_derive_configuration(
-            ROWS.as_ptr(),
-            ROWS.len(),
-            length,
-            packet_size,
-            memory,
-            &mut made,
-        )
-    };
+    // SAFETY: the declaration is the header's, and the pointer is that of twelve bytes.
+    let number = unsafe { reamertan_derive_configuration(length, packet_size, memory, &mut made) };
     answered(number, made)
 }
 
@@ -271,173 +294,10 @@ pub fn read(configuration: &Configuration) -> Parameters {
     read
 }
 
-pub fn check(configuration: &Configuration) -> Result<(), Refusal> {
-    let rows = rows_of(configuration);
-    // SAFETY: as above.
-    let number = unsafe { reamertan_check_configuration(rows.as_ptr(), rows.len(), configuration) };
-    answered(number, ())
-}
-
 pub fn block_range(configuration: &Configuration, block: u8) -> Result<Range, Refusal> {
     meet_library();
     let mut range = Range::default();
     // SAFETY: as above.
     let number = unsafe { reamertan_block_range(configuration, block, &mut range) };
     answered(number, range)
-}
-
-#[repr(C)]
-struct Owned {
-    at: *mut u8,
-}
-
-/// A coder that the library keeps between calls, until this is dropped.
-#[repr(C)]
-pub struct Handle {
-    full: bool,
-    owned: Owned,
-}
-
-// SAFETY: it is proved of the library's type of a handle that it may cross threads, and of what handles share
-// that several threads may use it at a time.
-unsafe impl Send for Handle {}
-
-// SAFETY: each call takes a handle by `&mut`, so that nothing can be done by a `&`.
-unsafe impl Sync for Handle {}
-
-impl Handle {
-    // One of zeros holds no coder.
-    fn empty() -> Handle {
-        let owned = Owned { at: null_mut() };
-        Handle { full: false, owned }
-    }
-
-    /// The encoder of an object.
-    pub fn encoder(configuration: &Configuration, object: &[u8]) -> Result<Handle, Refusal> {
-        let rows = rows_of(configuration);
-        let mut made = Handle::empty();
-        // SAFETY: the struct has the header's layout, and the pointers go with their slices' lengths.
-        let number = unsafe {
-            reamertan_open_encoder(
-                rows.as_ptr(),
-                rows.len(),
-                configuration,
-                object.as_ptr(),
-                object.len(),
-                &mut made,
-            )
-        };
-        answered(number, made)
-    }
-
-    /// The plan of blocks of so many symbols.
-    pub fn plan(symbols: u16) -> Result<Handle, Refusal> {
-        meet_library();
-        let rows = rows_for(symbols.into());
-        let mut made = Handle::empty();
-        // SAFETY: as for encoders.
-        let number = unsafe { reamertan_open_plan(rows.as_ptr(), rows.len(), symbols, &mut made) };
-        answered(number, made)
-    }
-
-    /// The encoder of a block by this plan.
-    pub fn block_encoder(
-        &mut self,
-        configuration: &Configuration,
-        block: u8,
-        bytes: &[u8],
-    ) -> Result<Handle, Refusal> {
-        let mut made = Handle::empty();
-        let (at, length) = (bytes.as_ptr(), bytes.len());
-        // SAFETY: as for encoders, and the handles are two.
-        let number = unsafe {
-            reamertan_open_planned_encoder(configuration, block, at, length, self, &mut made)
-        };
-        answered(number, made)
-    }
-
-    /// A further handle on the encoder or the plan.
-    pub fn share(&mut self) -> Result<Handle, Refusal> {
-        let mut twin = Handle::empty();
-        // SAFETY: the handles are two, and each is used by one call at a time.
-        let number = unsafe { reamertan_share(self, &mut twin) };
-        answered(number, twin)
-    }
-
-    /// Fills a buffer with packets of a block of an object, whose encoding symbol ids go from one on. Each is
-    /// a payload id of 4 bytes and a symbol.
-    pub fn write_packets(
-        &mut self,
-        block: u8,
-        first: u32,
-        count: u32,
-        packets: &mut [u8],
-    ) -> Result<(), Refusal> {
-        let (at, length) = (packets.as_mut_ptr(), packets.len());
-        // SAFETY: the pointer goes with its slice's length, and a handle is used by one call at a time.
-        let number = unsafe { reamertan_write_packets(self, block, first, count, at, length) };
-        answered(number, ())
-    }
-
-    /// The same of a block alone.
-    pub fn write_block_packets(
-        &mut self,
-        first: u32,
-        count: u32,
-        packets: &mut [u8],
-    ) -> Result<(), Refusal> {
-        let (at, length) = (packets.as_mut_ptr(), packets.len());
-        // SAFETY: as above.
-        let number = unsafe { reamertan_write_block_packets(self, first, count, at, length) };
-        answered(number, ())
-    }
-
-    /// A decoder, before any packet.
-    pub fn decoder(configuration: &Configuration) -> Result<Handle, Refusal> {
-        let rows = rows_of(configuration);
-        let mut made = Handle::empty();
-        // SAFETY: as for encoders.
-        let number =
-            unsafe { reamertan_open_decoder(rows.as_ptr(), rows.len(), configuration, &mut made) };
-        answered(number, made)
-    }
-
-    /// Takes packets, each a payload id of 4 bytes and a symbol, up to the first that is refused.
-    pub fn add_packets(&mut self, packets: &[u8]) -> Result<(), Refusal> {
-        // SAFETY: as above.
-        let number = unsafe { reamertan_add_packets(self, packets.as_ptr(), packets.len()) };
-        answered(number, ())
-    }
-
-    /// A further decoder that stands where this one does.
-    pub fn copy_decoder(&mut self) -> Result<Handle, Refusal> {
-        let mut twin = Handle::empty();
-        // SAFETY: the handles are two, and each is used by one call at a time.
-        let number = unsafe { reamertan_copy_decoder(self, &mut twin) };
-        answered(number, twin)
-    }
-
-    /// Whether the packets that were taken determine the object.
-    pub fn is_complete(&mut self) -> Result<bool, Refusal> {
-        // SAFETY: as above.
-        match answered(unsafe { reamertan_is_complete(self) }, ()) {
-            Ok(()) => Ok(true),
-            Err(INCOMPLETE) => Ok(false),
-            Err(refusal) => Err(refusal),
-        }
-    }
-
-    /// Fills a buffer with the bytes of a block.
-    pub fn write_block(&mut self, block: u8, bytes: &mut [u8]) -> Result<(), Refusal> {
-        // SAFETY: as above.
-        let number = unsafe { reamertan_write_block(self, block, bytes.as_mut_ptr(), bytes.len()) };
-        answered(number, ())
-    }
-}
-
-impl Drop for Handle {
-    fn drop(&mut self) {
-        // SAFETY: as above.
-        unsafe { reamertan_close(self) }
-    }
 }

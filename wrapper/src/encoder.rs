@@ -3,11 +3,11 @@
 use crate::base::{EncodingPacket, ObjectTransmissionInformation};
 use crate::blocks::calculate_block_offsets;
 use crate::calls::{
-    BYTES_AT_A_TIME, DEFAULT_DECODER_MEMORY, ENCODING_SYMBOL_IDS, Handle, PAYLOAD_ID_LENGTH,
+    self, BYTES_AT_A_TIME, Coder, DEFAULT_DECODER_MEMORY, ENCODING_SYMBOL_IDS, PAYLOAD_ID_LENGTH,
     Refusal, accepted,
 };
 use crate::plans::{SourceBlockEncodingPlan, kept_plan};
-use crate::shared::SharedHandle;
+use crate::shared::Shared;
 use std::fmt;
 use std::ops::Range;
 
@@ -78,7 +78,8 @@ pub struct Encoder {
 impl Encoder {
     /// The encoder of an object. Panics where the configuration is refused, or isn't the object's.
     pub fn new(data: &[u8], config: ObjectTransmissionInformation) -> Encoder {
-        let sender = SharedHandle::new(accepted(Handle::encoder(&config.serialize(), data)));
+        let encoder = Coder::<calls::Encoder>::new(&config.serialize(), data);
+        let sender = Shared::new(accepted(encoder));
         let size = usize::from(config.symbol_size());
         let offsets = calculate_block_offsets(data, &config).into_iter();
         let block = |(number, (start, end)): (u8, (usize, usize))| SourceBlockEncoder {
@@ -155,8 +156,8 @@ impl SourceBlockEncoder {
         let symbols = data.len().checked_div(config.symbol_size().into());
         let symbols = u16::try_from(symbols.unwrap_or(0)).unwrap_or(u16::MAX);
         let mut plan = kept_plan(symbols);
-        let handle = plan.block_encoder(&config.of_block(data.len() as u64), source_block_id, data);
-        SourceBlockEncoder::of_handle(source_block_id, config, data, accepted(handle))
+        let encoder = plan.block_encoder(&config.serialize(), source_block_id, data);
+        SourceBlockEncoder::of_coder(source_block_id, config, data, accepted(encoder))
     }
 
     /// The same by a plan. Panics also where the plan is one for another number of symbols.
@@ -166,21 +167,21 @@ impl SourceBlockEncoder {
         data: &[u8],
         plan: &SourceBlockEncodingPlan,
     ) -> SourceBlockEncoder {
-        let handle = plan.block_encoder(&config.of_block(data.len() as u64), source_block_id, data);
-        SourceBlockEncoder::of_handle(source_block_id, config, data, accepted(handle))
+        let encoder = plan.block_encoder(&config.serialize(), source_block_id, data);
+        SourceBlockEncoder::of_coder(source_block_id, config, data, accepted(encoder))
     }
 
-    fn of_handle(
+    fn of_coder(
         source_block_id: u8,
         config: &ObjectTransmissionInformation,
         data: &[u8],
-        handle: Handle,
+        encoder: Coder<calls::BlockEncoder>,
     ) -> SourceBlockEncoder {
         SourceBlockEncoder {
             source_block_id,
             source_symbols: (data.len() / usize::from(config.symbol_size())) as u32,
             symbol_size: config.symbol_size(),
-            sender: Sender::Block(SharedHandle::new(handle)),
+            sender: Sender::Block(Shared::new(encoder)),
         }
     }
 
@@ -231,11 +232,9 @@ impl SourceBlockEncoder {
         let number = self.source_block_id;
         match &self.sender {
             Sender::Object(object) => {
-                object.call(|handle| handle.write_packets(number, first, count, packets))
+                object.call(|encoder| encoder.write(number, first, count, packets))
             }
-            Sender::Block(block) => {
-                block.call(|handle| handle.write_block_packets(first, count, packets))
-            }
+            Sender::Block(block) => block.call(|encoder| encoder.write(first, count, packets)),
         }
     }
 }
@@ -252,14 +251,9 @@ impl fmt::Debug for SourceBlockEncoder {
 
 impl PartialEq for SourceBlockEncoder {
     fn eq(&self, other: &SourceBlockEncoder) -> bool {
-        let numbers = |block: &SourceBlockEncoder| {
-            (
-                block.source_block_id,
-                block.source_symbols,
-                block.symbol_size,
-            )
-        };
-        numbers(self) == numbers(other) && self.source_packets() == other.source_packets()
+        self.source_block_id == other.source_block_id
+            && self.symbol_size == other.symbol_size
+            && self.source_packets() == other.source_packets()
     }
 }
 
@@ -268,6 +262,6 @@ impl Eq for SourceBlockEncoder {}
 // The library's encoder of a block's object, or of the block alone.
 #[derive(Clone)]
 enum Sender {
-    Object(SharedHandle),
-    Block(SharedHandle),
+    Object(Shared<calls::Encoder>),
+    Block(Shared<calls::BlockEncoder>),
 }

@@ -38,7 +38,6 @@ mod encoder;
 #[cfg(feature = "serde")]
 mod fields;
 mod plans;
-mod rows;
 mod shared;
 mod version;
 

@@ -1,7 +1,7 @@
 //! Plans of source blocks, and those that are kept.
 
-use crate::calls::{BYTES_AT_A_TIME, Configuration, Handle, Refusal, accepted};
-use crate::shared::SharedHandle;
+use crate::calls::{self, BYTES_AT_A_TIME, Coder, Configuration, Refusal, accepted};
+use crate::shared::Shared;
 use std::collections::VecDeque;
 use std::fmt;
 use std::sync::{Mutex, MutexGuard, PoisonError};
@@ -18,7 +18,7 @@ use std::sync::{Mutex, MutexGuard, PoisonError};
 #[derive(Clone)]
 pub struct SourceBlockEncodingPlan {
     source_symbol_count: u16,
-    plan: SharedHandle,
+    plan: Shared<calls::Plan>,
 }
 
 impl SourceBlockEncodingPlan {
@@ -26,19 +26,19 @@ impl SourceBlockEncodingPlan {
     pub fn generate(symbol_count: u16) -> SourceBlockEncodingPlan {
         SourceBlockEncodingPlan {
             source_symbol_count: symbol_count,
-            plan: SharedHandle::new(accepted(Handle::plan(symbol_count))),
+            plan: Shared::new(accepted(Coder::<calls::Plan>::new(symbol_count))),
         }
     }
 
-    /// The encoder of a block by the plan. For a large one the thread takes a further handle, so that no other waits
+    /// The encoder of a block by the plan. For a large one the thread takes a further pointer, so that no other waits
     /// for it.
     pub(crate) fn block_encoder(
         &self,
         configuration: &Configuration,
         block: u8,
         bytes: &[u8],
-    ) -> Result<Handle, Refusal> {
-        let open = |plan: &mut Handle| plan.block_encoder(configuration, block, bytes);
+    ) -> Result<Coder<calls::BlockEncoder>, Refusal> {
+        let open = |plan: &mut Coder<calls::Plan>| plan.block_encoder(configuration, block, bytes);
         if bytes.len() > BYTES_AT_A_TIME {
             return open(&mut self.plan.further());
         }
@@ -67,7 +67,7 @@ impl Eq for SourceBlockEncodingPlan {}
 const KEPT: usize = 64;
 
 /// Plans by their numbers of symbols, the one that was kept first in front.
-struct KeptPlans(VecDeque<(u16, Handle)>);
+struct KeptPlans(VecDeque<(u16, Coder<calls::Plan>)>);
 
 impl KeptPlans {
     fn lock() -> MutexGuard<'static, KeptPlans> {
@@ -75,15 +75,19 @@ impl KeptPlans {
         PLANS.lock().unwrap_or_else(PoisonError::into_inner)
     }
 
-    // A further handle on a plan that is kept.
-    fn find(&mut self, symbols: u16) -> Option<Handle> {
+    // A further pointer to a plan that is kept.
+    fn find(&mut self, symbols: u16) -> Option<Coder<calls::Plan>> {
         let mut plans = self.0.iter_mut();
         let (_, plan) = plans.find(|(count, _)| *count == symbols)?;
-        Some(accepted(plan.share()))
+        Some(accepted(plan.twin()))
     }
 
     // Keeps a plan, and answers the one that makes room for it.
-    fn keep(&mut self, symbols: u16, plan: Handle) -> Option<(u16, Handle)> {
+    fn keep(
+        &mut self,
+        symbols: u16,
+        plan: Coder<calls::Plan>,
+    ) -> Option<(u16, Coder<calls::Plan>)> {
         let full = self.0.len() >= KEPT;
         let oldest = full.then(|| self.0.pop_front()).flatten();
         self.0.push_back((symbols, plan));
@@ -91,14 +95,14 @@ impl KeptPlans {
     }
 }
 
-/// A handle on the plan for blocks of so many symbols: on one that is kept, or else on a new one, which is kept from
+/// A pointer to the plan for blocks of so many symbols: to one that is kept, or else to a new one, which is kept from
 /// then on. Panics above 56403.
-pub fn kept_plan(symbols: u16) -> Handle {
+pub fn kept_plan(symbols: u16) -> Coder<calls::Plan> {
     if let Some(plan) = KeptPlans::lock().find(symbols) {
         return plan;
     }
-    let mut made = accepted(Handle::plan(symbols));
-    let further = accepted(made.share());
+    let mut made = accepted(Coder::<calls::Plan>::new(symbols));
+    let further = accepted(made.twin());
     let mut plans = KeptPlans::lock();
     // Another thread may have kept one since.
     if let Some(plan) = plans.find(symbols) {

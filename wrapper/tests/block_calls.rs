@@ -89,26 +89,16 @@ fn extended_sizes() {
         (11, 12),
         (497, 497),
         (498, 511),
+        (1000, 1002),
+        (10121, 10241),
+        (55844, 56403),
         (56403, 56403),
     ] {
         assert_eq!(extended_source_block_symbols(symbols), extended);
     }
 }
 
-// So many symbols of a byte, in as much memory, are one block only where the table has that size.
-#[test]
-fn extended_sizes_are_those_of_the_library() {
-    for symbols in 10..=600 {
-        let mut builder = EncoderBuilder::new();
-        builder.set_max_packet_size(1);
-        builder.set_decoder_memory_requirement(symbols);
-        let config = builder.build(&bytes(symbols as usize)).get_config();
-        let listed = extended_source_block_symbols(symbols as u32) == symbols as u32;
-        assert_eq!(config.source_blocks() == 1, listed, "{symbols}");
-    }
-}
-
-// The rows of the table end here and there: built-in ones at 497, and all at 56403.
+// At both ends of rows of the table, and of the table itself.
 #[test]
 fn blocks_at_the_ends_of_rows() {
     let config = ObjectTransmissionInformation::new(0, 1, 0, 1, 1);
@@ -121,23 +111,35 @@ fn blocks_at_the_ends_of_rows() {
     }
 }
 
-// As in the crate, source symbols are compared by their places, and repair symbols as they came.
+// Source symbols of this block are its bytes.
 #[test]
-fn decoders_are_equal_by_what_came() {
+fn decoders_are_equal_by_what_they_lack_and_have() {
     let new = || Decoder::new(ObjectTransmissionInformation::new(12, 1, 1, 1, 1));
-    let with = |ids: &[u32]| {
+    let with = |ids: std::ops::Range<u32>, byte| {
         let mut decoder = new();
-        ids.iter()
-            .for_each(|&id| decoder.add_new_packet(packet(0, id, &[0])));
+        ids.for_each(|id| decoder.add_new_packet(packet(0, id, &[byte])));
         decoder
     };
-    assert_eq!(with(&[3, 5, 5]), with(&[5, 3]));
-    assert_eq!(with(&[20, 3]), with(&[3, 20]));
-    assert_ne!(with(&[20, 30]), with(&[30, 20]));
-    assert_ne!(with(&[3]), new());
-    let mut other = new();
-    other.set_sparse_threshold(0);
-    assert_ne!(other, new());
+    assert_eq!(with(3..5, 0), with(3..5, 0));
+    assert_ne!(with(3..5, 0), with(3..4, 0));
+    assert_eq!(with(0..12, 7), with(0..12, 7));
+    assert_ne!(with(0..12, 7), with(0..12, 8));
+    let other = ObjectTransmissionInformation::new(12, 2, 1, 1, 1);
+    assert_ne!(new(), Decoder::new(other));
+}
+
+// The packet before the refused one counts, and those behind it don't.
+#[test]
+fn packets_up_to_a_refused_one() {
+    let mut decoder = SourceBlockDecoder::new(0, &config(), 40);
+    let came = [
+        packet(0, 1, &[0; 4]),
+        packet(0, 2, &[0; 9]),
+        packet(0, 3, &[0; 4]),
+    ];
+    let decode = std::panic::AssertUnwindSafe(|| decoder.decode(came));
+    assert!(std::panic::catch_unwind(decode).is_err());
+    assert_eq!(decoder.missing_packets(), Some(9));
 }
 
 #[test]

@@ -91,12 +91,8 @@ fn plans_that_are_kept() {
     let by_plan = |symbols: usize| {
         let plan = SourceBlockEncodingPlan::generate(symbols as u16);
         let data = block(symbols, symbols);
-        all_packets(&SourceBlockEncoder::with_encoding_plan(
-            0,
-            &config(),
-            &data,
-            &plan,
-        ))
+        let encoder = SourceBlockEncoder::with_encoding_plan(0, &config(), &data, &plan);
+        all_packets(&encoder)
     };
     let expected: Vec<_> = (0..70).map(by_plan).collect();
     let same = |thread: usize| {
@@ -153,10 +149,6 @@ fn a_long_run_of_packets() {
     let ids = packets.iter().map(|packet| packet.payload_id().clone());
     assert!(ids.eq((15..20_015).map(|id| PayloadId::new(9, id))));
     let alone = |id| encoder.repair_packets(id, 1).remove(0);
-    assert!(
-        packets
-            .iter()
-            .zip(5..)
-            .all(|(packet, id)| *packet == alone(id))
-    );
+    let mut numbered = packets.iter().zip(5..);
+    assert!(numbered.all(|(packet, id)| *packet == alone(id)));
 }

@@ -114,15 +114,14 @@ fn compare_block(numbers: &mut Numbers, number: usize) {
     let length = data.len() as u64;
     let mut first = proved::SourceBlockDecoder::new(id, &ours, length);
     let mut second = raptorq::SourceBlockDecoder::new(id, &theirs, length);
-    let (mut first_again, mut second_again) = (first.clone(), second.clone());
+    let mut again = first.clone();
     for came in packets.chunks_mut(batch) {
         let here = first.decode(came.iter().map(|packet| proved::EncodingPacket::deserialize(packet)));
         let there = second.decode(came.iter().map(|packet| raptorq::EncodingPacket::deserialize(packet)));
         assert_eq!(here, there, "{t} {n} {al}");
         numbers.shuffle(came);
-        first_again.decode(came.iter().map(|packet| proved::EncodingPacket::deserialize(packet)));
-        second_again.decode(came.iter().map(|packet| raptorq::EncodingPacket::deserialize(packet)));
-        assert_eq!(first == first_again, second == second_again);
+        again.decode(came.iter().map(|packet| proved::EncodingPacket::deserialize(packet)));
+        assert_eq!(first, again);
     }
     assert_eq!(first.decode([]), Some(data));
 }
@@ -145,7 +144,7 @@ fn compare_all() {
         compare_defaults(&mut numbers);
     }
     println!("2000 configurations: the same packets, the same answers at the same packets");
-    println!("2000 blocks: the same packets by a plan, the same answers, the same decoders equal");
+    println!("2000 blocks: the same packets by a plan, the same answers");
     println!("2000 lengths and packet sizes: the same default configurations");
 }
 
