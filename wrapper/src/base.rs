@@ -96,10 +96,12 @@ impl EncodingPacket {
 
     /// The bytes that spell the packet.
     pub fn serialize(&self) -> Vec<u8> {
-        [&self.payload_id.serialize(), self.data.as_slice()].concat()
+        let mut bytes = Vec::with_capacity(PAYLOAD_ID_LENGTH + self.data.len());
+        self.append_to(&mut bytes);
+        bytes
     }
 
-    /// Appends these bytes to others.
+    // Appends these bytes to others.
     pub(crate) fn append_to(&self, bytes: &mut Vec<u8>) {
         bytes.extend(self.payload_id.serialize());
         bytes.extend_from_slice(&self.data);
