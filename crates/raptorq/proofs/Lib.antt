@@ -11,4 +11,3 @@ pub mod ObjectBlocks
 pub mod Stops
 pub mod Witnesses
 pub mod WrittenParts
-pub mod Differences

@@ -1,15 +1,14 @@
 -- Laws of refusals and of answered blocks. Those of packets, blocks and answers stand in `rq_standard`.
-use Rattle.std.specs.Prelude.{◌≡◌, ◌≢◌, ◌↔◌, ◌⊎◌, ℕ, List, Option, None, IsNone, IsSome, Result, Ok, Err}
+use Rattle.std.specs.Prelude.{◌≡◌, ◌⊎◌, ℕ, List, Result, Ok, Err}
 use Rattle.rq_bytes.specs.declared.error.Error.{Error}
 use Rattle.rq_bytes.specs.declared.error.Error.TheVariants.{OutOfMemory}
 use Rattle.rq_standard.specs.declared.row.TableRow.{TableRow}
 use Rattle.rq_standard.specs.Configuration.{Configuration}
 use Rattle.rq_standard.specs.Packet.{Packet}
-use Rattle.rq_standard.specs.DecoderState.{State, result_of}
+use Rattle.rq_standard.specs.DecoderState.{State}
 use Rattle.rq_standard.specs.DecoderSteps.{Adds}
-use Rattle.rq_standard.specs.Differences.{AreUnansweredDetermined}
-use Rattle.rq_standard.specs.Following.{Lateness, Late, FollowsRun}
-use Rattle.rq_standard.specs.Standing.{StandsForButLate, IsHonestPacket}
+use Rattle.rq_standard.specs.Following.{FollowsRun}
+use Rattle.rq_standard.specs.Standing.{IsHonestPacket}
 use Rattle.raptorq.specs.declared.decoder.object.Decoder.{Decoder}
 use Rattle.raptorq.specs.BlockBytes.{answered_part, PartsMakeObject, AnswersPart}
 use Rattle.raptorq.specs.Decoder.{state_of}
@@ -62,12 +61,3 @@ RefusedIsNext =
 -- An object's own are refused for want of memory alone.
 abbrev pub HonestIsTaken : Type 0
 HonestIsTaken = (old : State) (p : Packet) (new : State) (e : Error) → IsHonestPacket old p → StopsBy old p e new → e ≡ OutOfMemory
-
--- ---- what a decoder calls a difference
-
--- Of one none of whose blocks is late it is none exactly where the object is answered.
-abbrev pub DifferenceTellsAnswer : Type 0
-DifferenceTellsAnswer =
-    (s : State) (difference : Option (List ℕ)) → (difference ≡ None) ↔ AreUnansweredDetermined s
-    → (table : List TableRow) (object : List ℕ) (packets : List Packet) (late : ℕ → Lateness)
-    → StandsForButLate late table object packets s → ((b : ℕ) → late b ≢ Late) → IsNone difference ↔ IsSome (result_of s)

@@ -1,7 +1,7 @@
 //! Laws of packets, blocks and answers: each is the contract of a function that does nothing.
 ghost use Rattle.rq_standard.specs.PacketLaws.{IntermediateSymbolsAreOnly, SourcePacketsAreSymbols, AnswerableIsOnlyObject, MorePacketsDetermine, MorePacketsAreAnswerable, AnswersStay, SameIdsAreAnswerable, SameIdsAnswerTheSame, AnswerIsOne, DeterminedByIdsAlone, ContradictionsStay, JoiningUndoesCutting, CuttingUndoesJoining};
-ghost use Rattle.rq_standard.specs.StepLaws.{TakenIsFollowed, TakenIsTried, RecordedIsLate, HonestRunsGrow, HonestPacketsFit, ContradictionsAreKept, ContradictoryTakesNone, ContradictoryIsNone, ResultIsObject, DifferencesFit};
-ghost use Rattle.raptorq.specs.Laws.{FirstRefusalIsOne, AnsweredPartsMakeObject, PartsAreObjects, TurnsTake, TurnsRemember, DifferenceTellsAnswer, TakenIsNext, RefusedIsNext, HonestIsTaken};
+ghost use Rattle.rq_standard.specs.StepLaws.{TakenIsFollowed, TakenIsTried, RecordedIsLate, HonestRunsGrow, HonestPacketsFit, ContradictionsAreKept, ContradictoryTakesNone, ContradictoryIsNone, ResultIsObject, DifferenceTellsAnswer, DifferencesFit};
+ghost use Rattle.raptorq.specs.Laws.{FirstRefusalIsOne, AnsweredPartsMakeObject, PartsAreObjects, TurnsTake, TurnsRemember, TakenIsNext, RefusedIsNext, HonestIsTaken};
 
 /// A block has no more than one column of intermediate symbols where its row isn't singular: any two
 /// are the same below L (RFC 6330, sections 5.3.3 and 5.4.2).

@@ -23,7 +23,7 @@ use crate::row_multiples::{add_row_multiple, multiply_row};
 pub use crate::row_sums::ADDED_AT_ONCE;
 use crate::slices::range;
 use crate::symbol::{Symbol, zeros};
-use crate::util::{get_range_pair, swap_ranges};
+use crate::util::{get_range_pair, swap_ranges, write_range};
 pub use multiples::Multiple;
 use std::alloc::{AllocError, Global};
 use std::marker::Model;
@@ -374,12 +374,4 @@ impl Clone for SymbolSlab {
             order: self.order.clone()?,
         })
     }
-}
-
-// Writes octets from a place on.
-fn write_range(bytes: &mut [u8], start: usize, source: &[u8])
-    requires { start + length source.now ≤ length bytes.old }
-    ensures { bytes.new ≡ with_range bytes.old start source.now }
-{
-    bytes[start..start + source.len()].copy_from_slice(source);
 }

@@ -1,6 +1,6 @@
 //! Two places of a list at once, and a rounded quotient.
 ghost use Rattle.std.specs.Prelude.{◌≡◌, ◌≢◌, ◌⊎◌, ◌+◌, ◌-◌, ◌/◌, ◌<◌, ◌≤◌, length, slice_set, slice_index_or, vec_len};
-ghost use Rattle.rq_bytes.specs.Ranges.{range_of, with_ranges, ranges_exchanged};
+ghost use Rattle.rq_bytes.specs.Ranges.{range_of, with_range, with_ranges, ranges_exchanged};
 ghost use Rattle.std.specs.Borrow.{sem, LendsBoth, Array};
 ghost use Rattle.std.specs.Vec.{vec_follows_range};
 
@@ -43,6 +43,14 @@ pub fn get_both_ranges<T>(slice: &mut [T], i: usize, j: usize, len: usize) -> (&
             from_raw_parts_mut(start.add(j), len),
         )
     }
+}
+
+/// Writes bytes over those from a place on. Not in the Rust crate.
+pub fn write_range(bytes: &mut [u8], start: usize, source: &[u8])
+    requires { start + length source.now ≤ length bytes.old }
+    ensures { bytes.new ≡ with_range bytes.old start source.now }
+{
+    bytes[start..start + source.len()].copy_from_slice(source);
 }
 
 /// Exchanges the `len` elements from each of two places on. The two ranges have no place in common.

@@ -25,7 +25,7 @@ pub fn no_row_fails()
 pub fn full_table(alloc: Global) -> Result<SystematicTable, Error>
     ensures { IsAnswer (λ table. table) result (wanted_table FURTHER_ROWS) }
 {
-    SystematicTable::with_rows(alloc, &FURTHER_ROWS)
+    SystematicTable::with_passing_rows(alloc, &FURTHER_ROWS)
 }
 
 #[cfg(test)]

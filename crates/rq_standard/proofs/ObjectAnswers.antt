@@ -10,9 +10,9 @@ use Rattle.rq_standard.specs.Cutting.{block_bytes}
 use Rattle.rq_standard.specs.Headline.{IsObjectAnswer}
 use Rattle.rq_standard.specs.ReceivedBlock.{ReceivedBlock, ReceivedDetermine}
 use Rattle.rq_standard.specs.DecoderState.{State, append_both, first_blocks, result_of}
-use Rattle.rq_standard.specs.Following.{Lateness, InTime, Late, FollowsBlock}
+use Rattle.rq_standard.specs.Following.{Lateness, Late, FollowsBlock}
 use Rattle.rq_standard.specs.Standing.{StandsForButLate, AnswersObject, AnswersNothingElse}
-use Rattle.rq_standard.specs.StepLaws.{ContradictoryIsNone, DifferenceIsNone}
+use Rattle.rq_standard.specs.StepLaws.{ContradictoryIsNone, DifferenceTellsAnswer}
 use Rattle.rq_standard.proofs.BlockCuts.{pieces, whole_object}
 use Rattle.rq_standard.proofs.HonestBlocks.{Determined, BlockStandsFor, stands_block}
 use Rattle.rq_standard.proofs.OptionValues.{is_some-mapped, none_is}
@@ -82,20 +82,16 @@ module _ (late : ℕ → Lateness) (table : List TableRow) (object : List ℕ) (
 
 -- ---- its difference
 
-in_time : (b : ℕ) → InTime ≡ Late → ⊥
-in_time b e = absurd (cc e)
-
--- no block without an answer is determined
+-- a block without an answer isn't determined, unless it is late
 not_determined : (l : Lateness) (table : List TableRow) (c : Configuration) (packets : List Packet) (b : ℕ) (h : ReceivedBlock) (a : Option (List ℕ)) → FollowsBlock l table c b packets h a → l ≢ Late → a ≡ None → ReceivedDetermine h → ⊥
 not_determined l table c packets b h None f now none d = f.1 now (inr d)
 not_determined l table c packets b h (Some bytes) f now none d = absurd (cc none)
 
--- a decoder whose difference is none where what was received of each open block determines it, and that stands for a list, has it none where it answers
-pub none_where_answered : DifferenceIsNone
-none_where_answered s difference exactly table object packets st = (
-  λ none. subst IsSome (sym (from_all _ table object packets s st (λ b below. true_from_ne_false (is_some (s.answer b)) (λ unanswered.
-      not_determined InTime table s.configuration packets b (s.received b) (s.answer b) (st.follows.block b below) (in_time b) (none_is (s.answer b) unanswered) (exactly.0 (none_is difference none) b below (none_is (s.answer b) unanswered)))))) refl,
-  λ answered. subst IsNone (sym (exactly.1 (λ b below unanswered. absurd (cc (ap is_some unanswered, each_of _ table object packets s st answered b below))))) refl,
+pub difference_tells_answer : DifferenceTellsAnswer
+difference_tells_answer s difference exactly table object packets late st now = (
+  λ none. subst IsSome (sym (from_all late table object packets s st (λ b below. true_from_ne_false (is_some (s.answer b)) (λ unanswered.
+      not_determined (late b) table s.configuration packets b (s.received b) (s.answer b) (st.follows.block b below) (now b) (none_is (s.answer b) unanswered) (exactly.0 (none_is difference none) b below (none_is (s.answer b) unanswered)))))) refl,
+  λ answered. subst IsNone (sym (exactly.1 (λ b below unanswered. absurd (cc (ap is_some unanswered, each_of late table object packets s st answered b below))))) refl,
 )
 
 pub answers_object : (s : State) → AnswersObject s (result_of s)

@@ -1,5 +1,5 @@
 -- What several objects that make the same packets differ by.
-use Rattle.std.specs.Prelude.{◌≡◌, ◌≢◌, ℕ, ◌*◌, ◌/◌, ◌%◌, ◌<◌, true, List, length, map, slice_index, Option, None, IsNone, IsSome, ◌↔◌, if◌then◌else◌, ◌==◌, ◌&&◌, nat_lt}
+use Rattle.std.specs.Prelude.{◌≡◌, ◌≢◌, ℕ, ◌*◌, ◌/◌, ◌%◌, ◌<◌, true, List, length, map, slice_index, None, IsSome, if◌then◌else◌, ◌==◌, ◌&&◌, nat_lt}
 use Rattle.std.specs.List.{range_with_len}
 use Rattle.rq_algebra.specs.Symbols.{add_symbols}
 use Rattle.rq_algebra.specs.Systems.{dot}
@@ -12,9 +12,9 @@ use Rattle.rq_standard.specs.Equations.{zero_symbol, symbol_coefficient}
 use Rattle.rq_standard.specs.TableRows.{intermediate_symbols}
 use Rattle.rq_standard.specs.Headline.{IsNonsingular, IsEncodingSymbol, IsHonestRun, block_source}
 use Rattle.rq_standard.specs.ReceivedBlock.{has_received, ReceivedDetermine}
-use Rattle.rq_standard.specs.DecoderState.{State, result_of}
+use Rattle.rq_standard.specs.DecoderState.{State}
 use Rattle.rq_standard.specs.Following.{Lateness}
-use Rattle.rq_standard.specs.Standing.{StandsForButLate, StandsFor}
+use Rattle.rq_standard.specs.Standing.{StandsForButLate}
 
 -- the xor of two objects, byte by byte
 abbrev pub xor_bytes : List ℕ → List ℕ → List ℕ
@@ -40,11 +40,6 @@ pub record IsDifference (s : State) (bytes : List ℕ) : Type 0 where
       → IsEncodingSymbol (s.received b).row s.configuration.symbol_size (block_source s.configuration bytes b) e (zero_symbol s.configuration.symbol_size)
   -- the bytes aren't all zeros, where no row is singular
   pub nonzero : HasNonsingularBlocks s → (i : ℕ) × (i < s.configuration.transfer_length) × (slice_index bytes i ≢ 0)
-
--- Of a decoder that stands for a list, with no block late: none exactly where the object is answered.
-abbrev pub IsNoneWhereAnswered : State → Option (List ℕ) → Type 0
-IsNoneWhereAnswered s difference =
-    (table : List TableRow) (object : List ℕ) (packets : List Packet) → StandsFor table object packets s → IsNone difference ↔ IsSome (result_of s)
 
 -- of a decoder that stands for a list: bytes whose xor with any object that fits the list is another one that fits it
 abbrev pub MakesOthersFit : State → List ℕ → Type 0

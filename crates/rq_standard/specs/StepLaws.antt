@@ -1,5 +1,5 @@
 -- Laws of what a packet does to a decoder of an object: what it did says what comes of all packets, whoever sent them.
-use Rattle.std.specs.Prelude.{◌≡◌, ◌↔◌, ◌⊎◌, ℕ, ◌<◌, List, [], ◌∷◌, ◌++◌, Option, None}
+use Rattle.std.specs.Prelude.{◌≡◌, ◌≢◌, ◌↔◌, ◌⊎◌, ℕ, ◌<◌, List, [], ◌∷◌, ◌++◌, Option, None, IsNone, IsSome}
 use Rattle.rq_algebra.specs.Changes.{with_at}
 use Rattle.rq_standard.specs.declared.row.TableRow.{TableRow}
 use Rattle.rq_standard.specs.Packet.{Packet}
@@ -7,9 +7,9 @@ use Rattle.rq_standard.specs.Configuration.{Configuration}
 use Rattle.rq_standard.specs.Headline.{IsPacketOf, IsHonestRun}
 use Rattle.rq_standard.specs.DecoderState.{State, result_of}
 use Rattle.rq_standard.specs.DecoderSteps.{Adds, RecordsOnly, Contradicts, Stops, IsBlockContradictory, KeepsContradictions}
-use Rattle.rq_standard.specs.Differences.{AreUnansweredDetermined, IsDifference, IsNoneWhereAnswered, MakesOthersFit}
+use Rattle.rq_standard.specs.Differences.{AreUnansweredDetermined, IsDifference, MakesOthersFit}
 use Rattle.rq_standard.specs.Following.{Lateness, Late, tried, FollowsButLate, FollowsRun}
-use Rattle.rq_standard.specs.Standing.{IsHonestPacket, AnswersObject, AnswersNothingElse, AnswersOnlyObject}
+use Rattle.rq_standard.specs.Standing.{StandsForButLate, IsHonestPacket, AnswersObject, AnswersNothingElse, AnswersOnlyObject}
 
 -- From a decoder that follows packets, one that follows them with the packet that it took,
 abbrev pub TakenIsFollowed : Type 0
@@ -57,9 +57,13 @@ ContradictoryIsNone = (s : State) (b : ℕ) → IsBlockContradictory s b → res
 abbrev pub ResultIsObject : Type 0
 ResultIsObject = (s : State) → AnswersObject s (result_of s) × AnswersNothingElse s (result_of s) × AnswersOnlyObject s (result_of s)
 
--- Of a decoder that stands for a list, none of its bytes is exactly where the object is answered, and some make other objects fit.
-abbrev pub DifferenceIsNone : Type 0
-DifferenceIsNone = (s : State) (difference : Option (List ℕ)) → (difference ≡ None) ↔ AreUnansweredDetermined s → IsNoneWhereAnswered s difference
+-- What it calls a difference, where none of its blocks is late, is none exactly where the object is answered,
+abbrev pub DifferenceTellsAnswer : Type 0
+DifferenceTellsAnswer =
+    (s : State) (difference : Option (List ℕ)) → (difference ≡ None) ↔ AreUnansweredDetermined s
+    → (table : List TableRow) (object : List ℕ) (packets : List Packet) (late : ℕ → Lateness)
+    → StandsForButLate late table object packets s → ((b : ℕ) → late b ≢ Late) → IsNone difference ↔ IsSome (result_of s)
 
+-- and makes other objects fit.
 abbrev pub DifferencesFit : Type 0
 DifferencesFit = (s : State) (bytes : List ℕ) → IsDifference s bytes → MakesOthersFit s bytes

@@ -1,5 +1,5 @@
 //! The table of systematic indices and parameters (RFC 6330, section 5.6).
-ghost use Rattle.std.specs.Prelude.{◌≡◌, ◌≤◌, ◌+◌, ◌++◌, ◌↔◌, List, length, vec_len, IsOk, IfOk};
+ghost use Rattle.std.specs.Prelude.{◌≡◌, ◌≤◌, ◌+◌, ◌++◌, ◌↔◌, List, length, vec_len, Ok, IsOk, IfOk};
 ghost use Rattle.rq_bytes.specs.Refusals.{IsAnswer};
 ghost use Rattle.rq_standard.specs.declared.row.TableRow.{TableRow};
 ghost use Rattle.rq_standard.specs.TableRows.{IsTable, IsChecked, greatest_size, row_of, rows_from, built_in_rows, first_size, intermediate_symbols, pi_symbols};
@@ -91,6 +91,18 @@ impl SystematicTable {
         ensures { IsAnswer (λ table. table) result (wanted_table rows.now) }
     {
         check_rows(rows)?;
+        SystematicTable::with_passing_rows(alloc, rows)
+    }
+
+    /// The table of the built-in rows and further ones, none of which fails a check: they aren't tested
+    /// again. Not in the Rust crate.
+    pub fn with_passing_rows(
+        alloc: Global,
+        rows: &[(u32, u32, u32, u32, u32)],
+    ) -> Result<SystematicTable, Error>
+        requires { wanted_rows rows.now ≡ Ok tt }
+        ensures { IsAnswer (λ table. table) result (Ok (built_in_rows ++ rows_from 74 rows.now)) }
+    {
         let count = SYSTEMATIC_INDICES_AND_PARAMETERS.len() + rows.len();
         let mut all = Vec::with_capacity(alloc, count)?;
         push_rows(&mut all, &SYSTEMATIC_INDICES_AND_PARAMETERS)?;

@@ -1,7 +1,6 @@
 //! The decoder of an object.
-ghost use Rattle.std.specs.Prelude.{◌≡◌, ◌↔◌, ℕ, ◌*◌, ◌+◌, ◌-◌, ◌<◌, ◌≤◌, [], length, Ok, Some, None, IfSome, IfOk, IfErr, OnOk, OnErr, All, map, replicate, option_map, vec_items, is_some, IsSome};
+ghost use Rattle.std.specs.Prelude.{◌≡◌, ◌↔◌, ℕ, ◌*◌, ◌-◌, ◌<◌, ◌≤◌, [], length, Ok, Some, None, IfSome, IfOk, IfErr, OnOk, OnErr, All, map, replicate, option_map, vec_items, is_some, IsSome};
 ghost use Rattle.std.specs.List.{range_with_len};
-ghost use Rattle.rq_bytes.specs.Ranges.{with_range};
 ghost use Rattle.std.specs.Option.{ForSome};
 ghost use Rattle.rq_bytes.specs.Refusals.{IsAnswer};
 ghost use Rattle.rq_standard.specs.Configuration.{IsAccepted, IsAligned, largest_block, total_symbols};
@@ -20,6 +19,7 @@ use crate::decoder::block::ObjectBlock;
 use rq_base::base::{EncodingPacket, ObjectTransmissionInformation};
 use rq_block::decoder::check_size;
 use rq_bytes::error::Error;
+use rq_bytes::util::write_range;
 use rq_tables::systematic_constants::SystematicTable;
 use std::alloc::{AllocError, Global};
 
@@ -365,12 +365,4 @@ pub fn decode_all(
         decoder.add_new_packet(step.1)?;
     }
     decoder.get_result()
-}
-
-// Writes bytes over those from a place on.
-fn write_range(bytes: &mut [u8], start: usize, source: &[u8])
-    requires { start + length source.now ≤ length bytes.old }
-    ensures { bytes.new ≡ with_range bytes.old start source.now }
-{
-    bytes[start..start + source.len()].copy_from_slice(source);
 }

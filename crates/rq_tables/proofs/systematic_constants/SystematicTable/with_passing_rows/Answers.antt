@@ -2,12 +2,9 @@ use Rattle.std.proofs.Common.{◌≡◌, ℕ, ◌++◌, ◌∙◌, sym, ap, subs
 use Rattle.rq_standard.specs.declared.row.TableRow.{TableRow}
 use Rattle.rq_standard.specs.TableRows.{IsTable, built_in_rows, rows_from, first_refused}
 use Rattle.rq_standard.proofs.RowLaws.{further_table}
-use Rattle.rq_tables.specs.SystematicTable.{wanted_rows, refusal_or_ok}
+use Rattle.rq_tables.specs.SystematicTable.{refusal_or_ok}
 use Rattle.rq_tables.proofs.Lookups.{made_built_in}
-use Rattle.rq_tables.proofs.systematic_constants.SystematicTable.with_rows.Goals as goal
-
-accepted : (c : goal.In_ok-push_rows-2) → wanted_rows c.args.rows.now ≡ Ok tt
-accepted c = sym c.in_ok-check_rows.ensures
+use Rattle.rq_tables.proofs.systematic_constants.SystematicTable.with_passing_rows.Goals as goal
 
 -- rows that are not refused pass all checks
 not_refused : (refused : Option (ℕ × ℕ)) → refusal_or_ok refused ≡ Ok tt → refused ≡ None
@@ -23,7 +20,7 @@ made c =
     ∙ ap (λ (n : ℕ). built_in_rows ++ rows_from n c.args.rows.now) count
 
 pub invariant_of-result : goal.invariant_of-result
-invariant_of-result c = subst IsTable (sym (made c)) (further_table c.args.rows.now (not_refused (first_refused 0 c.args.rows.now) (accepted c)))
+invariant_of-result c = subst IsTable (sym (made c)) (further_table c.args.rows.now (not_refused (first_refused 0 c.args.rows.now) c.requires))
 
 pub returns : goal.returns
-returns c = rw (accepted c) (ap Ok (sym (made c)))
+returns c = ap Ok (sym (made c))
