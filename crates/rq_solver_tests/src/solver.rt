@@ -8,7 +8,6 @@ use rq_bytes::error::Error;
 use rq_bytes::octet::Octet;
 use rq_bytes::symbol_slab::SymbolSlab;
 use rq_matrix::matrix::{BinaryMatrix, DenseBinaryMatrix};
-use rq_matrix::sparse_matrix::SparseBinaryMatrix;
 use rq_parts::octet_matrix::DenseOctetMatrix;
 use rq_solver::pi_solver::{
     FirstPhaseRowSelectionStats, IntermediateSymbolDecoder, fused_inverse_mul_symbols,
@@ -116,17 +115,44 @@ pub(crate) fn octets_of(alloc: Global, slab: SymbolSlab) -> Result<Vec<u8>, Erro
     Ok(octets)
 }
 
-// What each phase of a solver added and multiplied.
-fn assert_phases<T: BinaryMatrix>(
-    rt: &impl Abort,
-    solver: &IntermediateSymbolDecoder<T>,
-    additions: [u64; 5],
-    multiplications: [u64; 5],
-) {
-    let found = solver.get_symbol_add_ops_by_phase();
-    same!(rt; found.as_slice(), additions.as_slice());
-    let found = solver.get_symbol_mul_ops_by_phase();
-    same!(rt; found.as_slice(), multiplications.as_slice());
+// How a solver ran. A test that held it itself would let its answer go, and
+// it, at each of its calls.
+#[derive(Drop)]
+struct Run {
+    is_solved: bool,
+    additions: u64,
+    multiplications: u64,
+    additions_by_phase: [u64; 5],
+    multiplications_by_phase: [u64; 5],
+}
+
+impl Run {
+    fn new(
+        rt: &impl Abort,
+        alloc: Global,
+        ones: &[(usize, usize)],
+        octets: &[(usize, usize, u8)],
+    ) -> Result<Run, Error> {
+        Run::of(numbered_solver(rt, alloc, ones, octets)?)
+    }
+
+    fn of(solver: IntermediateSymbolDecoder<DenseBinaryMatrix>) -> Result<Run, Error> {
+        let mut solver = solver;
+        let is_solved = solver.execute()?.is_some();
+        Ok(Run {
+            is_solved,
+            additions: solver.get_symbol_add_ops(),
+            multiplications: solver.get_symbol_mul_ops(),
+            additions_by_phase: solver.get_symbol_add_ops_by_phase(),
+            multiplications_by_phase: solver.get_symbol_mul_ops_by_phase(),
+        })
+    }
+
+    // What each phase added and multiplied.
+    fn assert_phases(&self, rt: &impl Abort, additions: [u64; 5], multiplications: [u64; 5]) {
+        same!(rt; self.additions_by_phase.as_slice(), additions.as_slice());
+        same!(rt; self.multiplications_by_phase.as_slice(), multiplications.as_slice());
+    }
 }
 
 // The row in which the k-th row of bits stands beside 10 HDPC rows behind 7 others.
@@ -199,30 +225,22 @@ fn chain(alloc: Global) -> Result<Vec<(usize, usize)>, Error> {
     Ok(ones)
 }
 
-// A solver of them.
-fn chain_solver(
-    rt: &impl Abort,
-    alloc: Global,
-) -> Result<IntermediateSymbolDecoder<DenseBinaryMatrix>, Error> {
-    let ones = chain(alloc)?;
-    let octets = diagonal(alloc, 17, 10)?;
-    numbered_solver(rt, alloc, ones.as_slice(), octets.as_slice())
-}
-
 #[test]
 fn rows_of_least_degree_take_few_additions(rt: HostRuntime) -> Result<(), Error> {
-    let mut solver = chain_solver(&rt, rt.alloc())?;
-    holds!(rt; solver.execute()?.is_some());
-    same!(rt; solver.get_symbol_mul_ops(), 0);
-    same!(rt; solver.get_symbol_add_ops(), 16);
-    assert_phases(&rt, &solver, [16, 0, 0, 0, 0], [0, 0, 0, 0, 0]);
+    let ones = chain(rt.alloc())?;
+    let octets = diagonal(rt.alloc(), 17, 10)?;
+    let run = Run::new(&rt, rt.alloc(), &ones, &octets)?;
+    holds!(rt; run.is_solved);
+    same!(rt; (run.additions, run.multiplications), (16, 0));
+    run.assert_phases(&rt, [16, 0, 0, 0, 0], [0, 0, 0, 0, 0]);
     Ok(())
 }
 
 // Each row of bits has a one in a column of its own, and the last one has one in the first inactive
 // column too.
 fn separate_ones(alloc: Global) -> Result<Vec<(usize, usize)>, Error> {
-    let mut ones = vec![in alloc; (26, 17)]?;
+    let mut ones = Vec::new(alloc);
+    ones.push((26, 17))?;
     for k in 0..17 {
         ones.push((bit_row(k), k))?;
     }
@@ -246,9 +264,9 @@ fn separate_octets(alloc: Global, count: usize) -> Result<Vec<(usize, usize, u8)
 fn each_phase_counts_its_own_operations(rt: HostRuntime) -> Result<(), Error> {
     let ones = separate_ones(rt.alloc())?;
     let octets = separate_octets(rt.alloc(), 10)?;
-    let mut solver = numbered_solver(&rt, rt.alloc(), &ones, &octets)?;
-    holds!(rt; solver.execute()?.is_some());
-    assert_phases(&rt, &solver, [0, 1, 0, 1, 0], [0, 1, 0, 0, 0]);
+    let run = Run::new(&rt, rt.alloc(), &ones, &octets)?;
+    holds!(rt; run.is_solved);
+    run.assert_phases(&rt, [0, 1, 0, 1, 0], [0, 1, 0, 0, 0]);
     Ok(())
 }
 
@@ -261,9 +279,9 @@ fn each_phase_counts_its_own_operations(rt: HostRuntime) -> Result<(), Error> {
 fn phases_count_where_nothing_is_answered(rt: HostRuntime) -> Result<(), Error> {
     let ones = chain(rt.alloc())?;
     let octets = separate_octets(rt.alloc(), 9)?;
-    let mut solver = numbered_solver(&rt, rt.alloc(), &ones, &octets)?;
-    holds!(rt; solver.execute()?.is_none());
-    assert_phases(&rt, &solver, [16, 1, 0, 0, 0], [0, 1, 0, 0, 0]);
+    let run = Run::new(&rt, rt.alloc(), &ones, &octets)?;
+    holds!(rt; !run.is_solved);
+    run.assert_phases(&rt, [16, 1, 0, 0, 0], [0, 1, 0, 0, 0]);
     Ok(())
 }
 
@@ -290,11 +308,11 @@ fn long_row_and_chain(alloc: Global) -> Result<Vec<(usize, usize)>, Error> {
 fn rows_of_two_ones_are_taken_before_longer_ones(rt: HostRuntime) -> Result<(), Error> {
     let ones = long_row_and_chain(rt.alloc())?;
     let octets = diagonal(rt.alloc(), 17, 10)?;
-    let mut solver = numbered_solver(&rt, rt.alloc(), ones.as_slice(), octets.as_slice())?;
-    holds!(rt; solver.execute()?.is_some());
+    let run = Run::new(&rt, rt.alloc(), &ones, &octets)?;
+    holds!(rt; run.is_solved);
     // One column is inactive: a row of the chain takes one other at most, the long row all, and
     // each that one.
-    holds!(rt; solver.get_symbol_add_ops() <= 48);
+    holds!(rt; run.additions <= 48);
     Ok(())
 }
 
@@ -309,7 +327,8 @@ fn mirrored_ones(alloc: Global) -> Result<Vec<(usize, usize)>, Error> {
 
 // HDPC rows of twice that unknown, the first of which adds the unknown 0.
 fn mirrored_octets(alloc: Global) -> Result<Vec<(usize, usize, u8)>, Error> {
-    let mut octets = vec![in alloc; (0, 0, 1)]?;
+    let mut octets = Vec::new(alloc);
+    octets.push((0, 0, 1))?;
     for i in 0..10 {
         octets.push((i, 19 - i, 2))?;
     }
@@ -377,10 +396,10 @@ fn equations_are_solved_without_hdpc(rt: HostRuntime) -> Result<(), Error> {
 #[test]
 fn zeros_determine_nothing_without_hdpc(rt: HostRuntime) -> Result<(), Error> {
     let (table, row) = row_of_ten(&rt, rt.alloc())?;
-    let bits: SparseBinaryMatrix = zero_bits(rt.alloc(), &row)?;
+    let bits: DenseBinaryMatrix = zero_bits(rt.alloc(), &row)?;
     let symbols = numbered(rt.alloc())?;
-    let mut solver = IntermediateSymbolDecoder::new_no_hdpc(rt.alloc(), &table, bits, symbols, 10);
-    holds!(rt; solver.execute()?.is_none());
+    let solver = IntermediateSymbolDecoder::new_no_hdpc(rt.alloc(), &table, bits, symbols, 10);
+    holds!(rt; !Run::of(solver)?.is_solved);
     Ok(())
 }
 
