@@ -55,23 +55,22 @@ class Coder:
 
     def _begin(self, *words: Any) -> None:
         """Opens the coder, in the place of what it was."""
-        at = c_void_p()
+        other = [c_void_p()]
         try:
-            must(self._open(byref(at), *words))
-            at = self._exchange(at)
+            must(self._open(byref(other[0]), *words))
+            self._exchange(other)
         finally:
-            self._close(byref(at))
+            self._close(byref(other[0]))
 
-    def _exchange(self, at: c_void_p) -> c_void_p:
-        """Holds another pointer, and answers the one that was held."""
+    def _exchange(self, other: list[c_void_p]) -> None:
+        """Holds the other pointer, and leaves the one that was held there. A handler that raises finds each in one place or the other."""
         if self._forks != _forks:
             self._meet()
         if self._lock._is_owned():
             # A handler came between two lines of a call, which is to find the same coder.
             raise RuntimeError("the coder is in use")
         with self._lock:
-            self._at, at = at, self._at
-        return at
+            self._at, other[0] = other[0], self._at
 
     def _ask(self, call: Callable[..., Any], *words: Any) -> Any:
         """What a call of the coder answers."""
@@ -81,6 +80,12 @@ class Coder:
             if not self._at:
                 raise ValueError("the coder is closed")
             return call(self._at, *words)
+
+    def _count(self, call: Callable[..., Any], *words: Any) -> int:
+        """The number that a call of the coder writes."""
+        count = c_uint32()
+        must(self._ask(call, *words, byref(count)))
+        return count.value
 
     def _meet(self) -> None:
         """Looks at a coder that comes from another process."""
@@ -96,7 +101,11 @@ class Coder:
 
     def close(self) -> None:
         """Frees what the coder holds. Calls raise a `ValueError` from then on."""
-        self._close(byref(self._exchange(c_void_p())))
+        other = [c_void_p()]
+        try:
+            self._exchange(other)
+        finally:
+            self._close(byref(other[0]))
 
     def __enter__(self: _Any) -> _Any:
         return self
@@ -330,9 +339,7 @@ class Decoder(Coder):
 
     def missing_packets(self, block: int) -> int:
         """How many packets more a source block needs at least, and 0 once it is complete."""
-        missing = c_uint32()
-        must(self._ask(calls.decoder_missing, number(block, 8, "a source block"), byref(missing)))
-        return missing.value
+        return self._count(calls.decoder_missing, number(block, 8, "a source block"))
 
     def block_bytes(self, block: int) -> bytes | None:
         """The object's bytes in a source block, where the packets that were taken determine the block."""
@@ -388,6 +395,4 @@ class SourceBlockDecoder(Coder):
 
     def missing_packets(self) -> int:
         """How many packets more the block needs at least, and 0 once it is complete."""
-        missing = c_uint32()
-        must(self._ask(calls.block_decoder_missing, byref(missing)))
-        return missing.value
+        return self._count(calls.block_decoder_missing)

@@ -33,6 +33,10 @@ def in_threads(*works):
         raise met[0]
 
 
+class Stop(Exception):
+    """Raised by handlers."""
+
+
 class Sharing(unittest.TestCase):
     def setUp(self):
         signal.alarm(SECONDS)
@@ -174,10 +178,27 @@ class Sharing(unittest.TestCase):
         self.assertEqual(refused, ["the coder is in use"] * 2)
         self.assertEqual(len(encoder.packets(0, 0, 3)), 3)
 
-    def test_handlers_that_raise(self):
-        class Stop(Exception):
-            pass
+    def test_handlers_that_raise_behind_an_exchange(self):
+        """The pointer that is freed then isn't the one that the coder holds."""
 
+        class Leaving:
+            def __init__(self, lock):
+                self.lock, self._is_owned = lock, lock._is_owned
+
+            def __enter__(self):
+                return self.lock.__enter__()
+
+            def __exit__(self, *reason):
+                self.lock.__exit__(*reason)
+                raise Stop
+
+        decoder = reamertan.Decoder.with_defaults(5000, 100)
+        lock, decoder._lock = decoder._lock, Leaving(decoder._lock)
+        self.assertRaises(Stop, decoder.__init__, decoder.get_config())
+        decoder._lock = lock
+        self.assertFalse(decoder.is_complete())
+
+    def test_handlers_that_raise(self):
         def handler(*_):
             raise Stop
 
