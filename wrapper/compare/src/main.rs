@@ -4,7 +4,7 @@
 //!     compare table    measures blocks alone
 //!
 //! On 2,000 random configurations, losses and orders, packets are equal byte for byte and both answer at the same
-//! packet. One in eight has blocks of more than 497 symbols. So are those of 2,000 blocks by themselves. On 2,000
+//! packet. One in eight has blocks of more than 497 symbols. So are those of 2,000 blocks by themselves. On 10,000
 //! lengths and packet sizes default configurations are equal. Then both take turns at blocks (`table.rs`), and at
 //! objects and packets that decide nothing (`objects.rs`).
 
@@ -141,11 +141,13 @@ fn compare_all() {
     for number in 0..2_000 {
         compare(&mut numbers, number);
         compare_block(&mut numbers, number);
+    }
+    for _ in 0..10_000 {
         compare_defaults(&mut numbers);
     }
     println!("2000 configurations: the same packets, the same answers at the same packets");
     println!("2000 blocks: the same packets by a plan, the same answers");
-    println!("2000 lengths and packet sizes: the same default configurations");
+    println!("10000 lengths and packet sizes: the same default configurations");
 }
 
 fn main() {

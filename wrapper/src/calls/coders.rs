@@ -38,10 +38,14 @@ impl Kind for BlockDecoder {
 }
 
 /// New bytes, so many, which a call fills.
-fn filled(length: usize, fill: impl FnOnce(*mut u8) -> u8) -> Result<Vec<u8>, Refusal> {
+///
+/// # Safety
+///
+/// Where the call answers 0, it has written each of them.
+unsafe fn filled(length: usize, fill: impl FnOnce(*mut u8) -> u8) -> Result<Vec<u8>, Refusal> {
     let mut bytes = Vec::with_capacity(length);
     answered(fill(bytes.as_mut_ptr()), ())?;
-    // SAFETY: a call that does what it is for has written each of them.
+    // SAFETY: as the caller says.
     unsafe { bytes.set_len(length) };
     Ok(bytes)
 }
@@ -49,8 +53,10 @@ fn filled(length: usize, fill: impl FnOnce(*mut u8) -> u8) -> Result<Vec<u8>, Re
 /// A coder of the library, which is freed where this is dropped.
 pub struct Coder<K: Kind>(NonNull<K>);
 
-// SAFETY: it is proved of the library's coders that they may cross threads, and of what its pointers share that several
-// threads may use it at a time.
+// SAFETY: it is proved of the library's coders that they may cross threads in the order of a lock, of a thread's start or
+// join, or of a sequentially consistent atomic, and of what its pointers share that several threads may use it at a time.
+// Safe Rust may also hand one over by a release and an acquire, which order the two threads' calls as well. That these
+// suffice isn't proved.
 unsafe impl<K: Kind> Send for Coder<K> {}
 
 // SAFETY: each call takes a coder by `&mut`, so that nothing can be done by a `&`.
@@ -170,18 +176,22 @@ impl Coder<Decoder> {
 
     /// The object's bytes in a block, which are so many.
     pub fn block(&mut self, block: u8, length: usize) -> Result<Vec<u8>, Refusal> {
-        // SAFETY: as above.
-        filled(length, |at| unsafe {
-            reamertan_decoder_write_block(self.0.as_ptr(), block, at, length)
-        })
+        // SAFETY: as above, and what answers 0 has filled the buffer.
+        unsafe {
+            filled(length, |at| {
+                reamertan_decoder_write_block(self.0.as_ptr(), block, at, length)
+            })
+        }
     }
 
     /// The object, of so many bytes.
     pub fn object(&mut self, length: usize) -> Result<Vec<u8>, Refusal> {
         // SAFETY: as above.
-        filled(length, |at| unsafe {
-            reamertan_decoder_write_object(self.0.as_ptr(), at, length)
-        })
+        unsafe {
+            filled(length, |at| {
+                reamertan_decoder_write_object(self.0.as_ptr(), at, length)
+            })
+        }
     }
 }
 
@@ -219,8 +229,10 @@ impl Coder<BlockDecoder> {
     /// The block, of so many bytes.
     pub fn block(&mut self, length: usize) -> Result<Vec<u8>, Refusal> {
         // SAFETY: as above.
-        filled(length, |at| unsafe {
-            reamertan_block_decoder_write(self.0.as_ptr(), at, length)
-        })
+        unsafe {
+            filled(length, |at| {
+                reamertan_block_decoder_write(self.0.as_ptr(), at, length)
+            })
+        }
     }
 }
