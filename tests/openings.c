@@ -1,7 +1,9 @@
 /* Opens, shares or copies, and closes each kind of coder, as often as the first word says, and asks how many bytes are
- * taken then: none more than before. A pointer that shares a large encoder takes few, and the last one that is closed
- * gives back what the encoder took. It is linked by -Wl,--wrap=malloc,--wrap=realloc,--wrap=free, so that it counts
- * what the library takes. */
+ * taken then: none more than before. Then memory is refused at each place in turn where that takes any, and none is left
+ * taken either. A pointer that shares a large encoder takes few bytes, and the last one that is closed gives back what
+ * the encoder took. It is linked by -Wl,--wrap=malloc,--wrap=realloc,--wrap=free, so that it counts what the library
+ * takes. */
+#include <limits.h>
 #include <malloc.h>
 #include <stdio.h>
 #include <stdlib.h>
@@ -15,6 +17,8 @@ static const uint8_t HEADER[] = {0, 0, 0, 0, SMALL * SYMBOL_SIZE, 0, 0, SYMBOL_S
 static const uint8_t OBJECT[LARGE * SYMBOL_SIZE];
 
 static size_t taken;
+/* How many times memory is granted before it is refused once. */
+static long granted = LONG_MAX;
 static int failures;
 
 void *__real_malloc(size_t size);
@@ -26,7 +30,7 @@ void __wrap_free(void *memory);
 
 void *__wrap_malloc(size_t size)
 {
-    void *memory = __real_malloc(size);
+    void *memory = granted-- == 0 ? NULL : __real_malloc(size);
     taken += malloc_usable_size(memory);
     return memory;
 }
@@ -34,7 +38,7 @@ void *__wrap_malloc(size_t size)
 void *__wrap_realloc(void *memory, size_t size)
 {
     size_t before = malloc_usable_size(memory);
-    void *moved = __real_realloc(memory, size);
+    void *moved = granted-- == 0 ? NULL : __real_realloc(memory, size);
     if (moved)
         taken += malloc_usable_size(moved) - before;
     return moved;
@@ -62,65 +66,91 @@ static void expect(const char *what, size_t most, size_t found)
     failures++;
 }
 
-static void encoders(void)
+/* Each opens a coder, uses it and makes a further pointer to it, up to what is refused, and closes both. */
+
+static uint8_t encoders(void)
 {
     reamertan_encoder *coder = NULL, *twin = NULL;
-    check(reamertan_encoder_open(&coder, HEADER, OBJECT, SMALL * SYMBOL_SIZE));
-    check(reamertan_encoder_share(coder, &twin));
+    uint8_t answer = reamertan_encoder_open(&coder, HEADER, OBJECT, SMALL * SYMBOL_SIZE);
+    if (answer == REAMERTAN_DONE)
+        answer = reamertan_encoder_share(coder, &twin);
     reamertan_encoder_close(&coder);
     reamertan_encoder_close(&twin);
+    return answer;
 }
 
-static void plans(void)
+static uint8_t plans(void)
 {
     reamertan_plan *coder = NULL, *twin = NULL;
-    check(reamertan_plan_open(&coder, SMALL));
-    check(reamertan_plan_share(coder, &twin));
+    uint8_t answer = reamertan_plan_open(&coder, SMALL);
+    if (answer == REAMERTAN_DONE)
+        answer = reamertan_plan_share(coder, &twin);
     reamertan_plan_close(&coder);
     reamertan_plan_close(&twin);
+    return answer;
 }
 
 /* By one plan. */
 static reamertan_plan *plan;
 
-static void block_encoders(void)
+static uint8_t block_encoders(void)
 {
     reamertan_block_encoder *coder = NULL, *twin = NULL;
-    check(reamertan_block_encoder_open(&coder, plan, HEADER, 7, OBJECT, SMALL * SYMBOL_SIZE));
-    check(reamertan_block_encoder_share(coder, &twin));
+    uint8_t answer = reamertan_block_encoder_open(&coder, plan, HEADER, 7, OBJECT, SMALL * SYMBOL_SIZE);
+    if (answer == REAMERTAN_DONE)
+        answer = reamertan_block_encoder_share(coder, &twin);
     reamertan_block_encoder_close(&coder);
     reamertan_block_encoder_close(&twin);
+    return answer;
 }
 
-static void decoders(void)
+static uint8_t decoders(void)
 {
     const uint8_t packet[REAMERTAN_PAYLOAD_ID_BYTES + SYMBOL_SIZE] = {0};
     reamertan_decoder *coder = NULL, *twin = NULL;
     bool completes = false;
-    check(reamertan_decoder_open(&coder, HEADER));
-    check(reamertan_decoder_add_packet(coder, packet, sizeof packet, &completes));
-    check(reamertan_decoder_copy(coder, &twin));
+    uint8_t answer = reamertan_decoder_open(&coder, HEADER);
+    if (answer == REAMERTAN_DONE)
+        answer = reamertan_decoder_add_packet(coder, packet, sizeof packet, &completes);
+    if (answer == REAMERTAN_DONE)
+        answer = reamertan_decoder_copy(coder, &twin);
     reamertan_decoder_close(&coder);
     reamertan_decoder_close(&twin);
+    return answer;
 }
 
-static void block_decoders(void)
+static uint8_t block_decoders(void)
 {
     const uint8_t packet[REAMERTAN_PAYLOAD_ID_BYTES + SYMBOL_SIZE] = {7};
     reamertan_block_decoder *coder = NULL, *twin = NULL;
-    check(reamertan_block_decoder_open(&coder, HEADER, 7, SMALL * SYMBOL_SIZE));
-    check(reamertan_block_decoder_add_packets(coder, packet, sizeof packet));
-    check(reamertan_block_decoder_copy(coder, &twin));
+    uint8_t answer = reamertan_block_decoder_open(&coder, HEADER, 7, SMALL * SYMBOL_SIZE);
+    if (answer == REAMERTAN_DONE)
+        answer = reamertan_block_decoder_add_packets(coder, packet, sizeof packet);
+    if (answer == REAMERTAN_DONE)
+        answer = reamertan_block_decoder_copy(coder, &twin);
     reamertan_block_decoder_close(&coder);
     reamertan_block_decoder_close(&twin);
+    return answer;
 }
 
-static void repeat(const char *what, void (*once)(void), long times)
+/* Does so many times, and then once for each time that it takes memory, with that one refused. */
+static void repeat(const char *what, uint8_t (*once)(void), long times)
 {
     size_t before = taken;
+    long refusals = 0;
     for (long time = 0; time < times; time++)
-        once();
+        check(once());
     expect(what, before, taken);
+    for (bool is_refused = true; is_refused; refusals += is_refused) {
+        granted = refusals;
+        uint8_t answer = once();
+        is_refused = granted < 0;
+        granted = LONG_MAX;
+        if (!is_refused || answer != REAMERTAN_OUT_OF_MEMORY)
+            check(answer);
+        expect(what, before, taken);
+    }
+    printf("%s: memory was refused at %ld places\n", what, refusals);
 }
 
 /* What a further pointer to a large encoder takes, and what is left of it. */
