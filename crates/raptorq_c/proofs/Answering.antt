@@ -1,29 +1,16 @@
 -- What calls answer, by what the coders say.
-use Rattle.std.proofs.Common.{◌≡◌, ◌≢◌, ◌⊎◌, ◌<◌, ℕ, Bool, true, false, List, Option, Some, None, Result, Ok, Err, refl, sym, ap, ◌∙◌, subst, arith, inl, inr}
-use Rattle.std.specs.Prelude.{IfOk, IfErr, OnErr, MatchOption, MatchResult, ◌==◌, if◌then◌else◌}
-use Rattle.rq_bytes.specs.declared.error.Error.{Error}
-use Rattle.rq_bytes.specs.declared.error.Error.TheVariants.{OutOfMemory}
-use Rattle.rq_bytes.specs.Error.{code_of}
-use Rattle.rq_bytes.specs.Refusals.{and_then, IsAnswer, IsRefusal}
-use Rattle.rq_standard.specs.Configuration.{configuration_of_bytes}
-use Rattle.rq_standard.specs.Packet.{Packet}
+use Rattle.raptorq_c.proofs.Names.{◌≡◌, ◌≢◌, ◌⊎◌, ◌<◌, ℕ, List, Option, Some, None, Result, Ok, Err, refl, sym, ap, ◌∙◌, subst, arith, inl, inr, IfOk, OnErr, MatchOption, MatchResult, Error, code_of, and_then, IsAnswer, Configuration, TableRow, Packet, frame_size, frames_in, read_packet, block_refusal}
+use Rattle.raptorq_c.proofs.Names.{state_of, KeptBlock, AnswersHere, AnswersOpen, RefusesAnswer, TakesHere, TakesInTurn, packet_refusal, IsRunRefusal, AnswersRun, Decoder, CallEnd, IsPartOf, number_of, refusal_number, IsNumber, Answered, IsDecoded, frames_refusal, packets_in}
+use Rattle.std.specs.Prelude.{IfErr}
+use Rattle.rq_bytes.specs.Refusals.{IsRefusal}
 use Rattle.rq_standard.specs.DecoderState.{State}
-use Rattle.rq_standard.specs.Streams.{frame_size, frames_in}
-use Rattle.rq_base.specs.RefusedInput.{read_packet}
-use Rattle.rq_block.specs.RefusedBlocks.{block_refusal}
-use Rattle.raptorq.specs.Decoder.{state_of}
-use Rattle.raptorq.specs.InTurn.{KeptBlock, AnswersHere, AnswersOpen, RefusesAnswer, TakesHere, TakesInTurn}
-use Rattle.raptorq.specs.Refused.{packet_refusal}
-use Rattle.raptorq.specs.Runs.{IsRunRefusal, AnswersRun}
+use Rattle.rq_standard.specs.Following.{IsAnswerAfter}
+use Rattle.rq_standard.specs.Headline.{AnswersExactly, AnswersWhereAnyCan}
 use Rattle.raptorq.specs.TakesPacket.{TakesPacket}
 use Rattle.raptorq.proofs.InTurn.{turns_take}
-use Rattle.raptorq.specs.declared.decoder.object.Decoder.{Decoder}
-use Rattle.rq_rows.specs.FullTable.{full_rows}
-use Rattle.raptorq_c.specs.declared.call_end.CallEnd.{CallEnd}
-use Rattle.raptorq_c.specs.Decoders.{FillsWithBlock, IsPartOf}
+use Rattle.raptorq_c.specs.Decoders.{FillsWithBlock}
 use Rattle.raptorq_c.specs.Frames.{IsAddedBy, IsTakenNumber, StaysUnread, TakesRead}
-use Rattle.raptorq_c.specs.Numbers.{number_of, refusal_number}
-use Rattle.raptorq_c.specs.ObjectBuffers.{Answered, IsFilled, IsRefused, IsDecoded, IsDecodingRefusal, frames_refusal, packets_in}
+use Rattle.raptorq_c.specs.ObjectBuffers.{FillsWithObject, IsFilled, IsRefused, IsDecodingRefusal}
 use Rattle.raptorq_c.proofs.Ending.{code_positive, code_no_call, is_stopped}
 
 -- a buffer is filled with an answer, of which P
@@ -42,27 +29,18 @@ unanswered e before after P = record {
   incomplete = λ is. absurd (code_no_call e (omega (arith, is), omega (arith, is)));
 }
 
--- whether it is a number that a call which fills a buffer with an answer ends with
-abbrev is_filled : ℕ → Bool
-is_filled n = if n == 0 then true else if n == 24 then true else n == 25
-
-numbered : (number : ℕ) → IsFilled number → is_filled number ≡ true
-numbered number (inl done) = ap is_filled done
-numbered number (inr (inl other_length)) = ap is_filled other_length
-numbered number (inr (inr incomplete)) = ap is_filled incomplete
-
--- it ends with no other
-filled_otherwise : (n number : ℕ) → is_filled n ≡ false → IsFilled number → number ≢ n
-filled_otherwise n number other so is =
-    let none : true ≡ false = sym (numbered number so) ∙ ap is_filled is ∙ other in
-    cc none
+-- a call that fills a buffer with an answer doesn't end with the number of a block that isn't there
+no_block : (number : ℕ) → IsFilled number → number ≢ 14
+no_block number (inl done) is = omega (arith, done, is)
+no_block number (inr (inl other_length)) is = omega (arith, other_length, is)
+no_block number (inr (inr incomplete)) is = omega (arith, incomplete, is)
 
 -- an object's block is there, or isn't yet
 pub fills_block : (s : State) (block : ℕ) (part : Option (List ℕ)) (ended : Result (Unit {0}) CallEnd) (before after : List ℕ) → block < s.configuration.source_blocks → IsPartOf s block part
     → IsFilled (number_of ended) → Answered (number_of ended) before after (λ r. r ≡ part) → OnErr ended (after ≡ before) → FillsWithBlock s block (number_of ended) before after
 fills_block s block part ended before after known is number answered kept = record {
   number = inr number;
-  unknown = (λ other. absurd (filled_otherwise 14 (number_of ended) refl number other), λ over. absurd (omega (arith, known, over)));
+  unknown = (λ other. absurd (no_block (number_of ended) number other), λ over. absurd (omega (arith, known, over)));
   answered = answered_by (IsPartOf s block) part (number_of ended) before after is answered;
   kept = is_stopped ended (after ≡ before) kept;
 }
@@ -138,25 +116,32 @@ block_number old new p r takes = recorded_number takes.middle new (block_refusal
 -- ---- packets in a buffer
 
 -- what is refused of the frames, or of the run of the packets that they spell
-packets_refused : (header bytes : List ℕ) (r t : Result (Unit {0}) Error) → frames_refusal (frames_in (frame_size (configuration_of_bytes header)) bytes) ≡ t
-    → MatchResult t (λ _. IsRunRefusal full_rows (configuration_of_bytes header) (packets_in (configuration_of_bytes header) bytes) r) (λ e. r ≡ Err e) → IsDecodingRefusal header bytes r
-packets_refused header bytes r t is =
-    let c = configuration_of_bytes header in
-    subst (λ f. MatchResult f (λ _. IsRunRefusal full_rows c (packets_in c bytes) r) (λ e. r ≡ Err e)) (sym is)
+module _ (table : List TableRow) (c : Configuration) (bytes : List ℕ) where
+  packets_refused : (r t : Result (Unit {0}) Error) → frames_refusal (frames_in (frame_size c) bytes) ≡ t → MatchResult t (λ _. IsRunRefusal table c (packets_in c bytes) r) (λ e. r ≡ Err e) → IsDecodingRefusal table c bytes r
+  packets_refused r t is = subst (λ f. MatchResult f (λ _. IsRunRefusal table c (packets_in c bytes) r) (λ e. r ≡ Err e)) (sym is)
 
-module _ (header bytes : List ℕ) where
   -- a frame that is refused
-  pub refused_frames : (e : Error) → (e ≡ OutOfMemory) ⊎ (frames_refusal (frames_in (frame_size (configuration_of_bytes header)) bytes) ≡ Err e) → IsDecoded (code_of e) header bytes
-  refused_frames e (inl memory) = inl (ap code_of memory)
-  refused_frames e (inr wanted) = inr (Err e, packets_refused header bytes (Err e) (Err e) wanted refl, inr refl)
+  pub refused_frames : (number : ℕ) (r : Result (Unit {0}) Error) → number ≢ 0 → frames_refusal (frames_in (frame_size c) bytes) ≡ r → IsNumber number r → IsDecoded number table c bytes
+  refused_frames number (Ok x) other is (inl zero) = absurd (other zero)
+  refused_frames number (Err e) other is (inl same) = inr (Err e, packets_refused (Err e) (Err e) is refl, inr same)
+  refused_frames number r other is (inr memory) = inl memory
 
-  -- what is refused of the run
-  pub refused_run : (e : Error) → frames_refusal (frames_in (frame_size (configuration_of_bytes header)) bytes) ≡ Ok tt
-      → AnswersRun {X = Unit {0}} full_rows (configuration_of_bytes header) (packets_in (configuration_of_bytes header) bytes) (Err e) → IsDecoded (code_of e) header bytes
-  refused_run e spelled (inl memory) = inl (ap code_of memory)
-  refused_run e spelled (inr first) = inr (Err e, packets_refused header bytes (Err e) (Ok tt) spelled first, inr refl)
+  module _ (spelled : frames_refusal (frames_in (frame_size c) bytes) ≡ Ok tt) where
+    -- what is refused of the run
+    pub refused_run : (e : Error) → AnswersRun {X = Unit {0}} table c (packets_in c bytes) (Err e) → IsDecoded (code_of e) table c bytes
+    refused_run e (inl memory) = inl (ap code_of memory)
+    refused_run e (inr first) = inr (Err e, packets_refused (Err e) (Ok tt) spelled first, inr refl)
 
-  -- nothing is refused
-  pub filled_run : (number : ℕ) → frames_refusal (frames_in (frame_size (configuration_of_bytes header)) bytes) ≡ Ok tt
-      → IsRunRefusal full_rows (configuration_of_bytes header) (packets_in (configuration_of_bytes header) bytes) (Ok tt) → IsRefused number (Ok tt) → IsDecoded number header bytes
-  filled_run number spelled passed filled = inr (Ok tt, packets_refused header bytes (Ok tt) (Ok tt) spelled passed, filled)
+    -- nothing is refused
+    pub filled_run : (number : ℕ) → IsRunRefusal table c (packets_in c bytes) (Ok tt) → IsRefused number (Ok tt) → IsDecoded number table c bytes
+    filled_run number passed filled = inr (Ok tt, packets_refused (Ok tt) (Ok tt) spelled passed, filled)
+
+  -- the buffer stays where something is refused
+  pub refused_with : (buffer : List ℕ) (e : Error) → IsDecoded (code_of e) table c bytes → FillsWithObject table c bytes (code_of e) buffer buffer
+  refused_with buffer e refused = record {
+    refused = refused;
+    answered = unanswered e buffer buffer (IsAnswerAfter table c (packets_in c bytes));
+    headline = unanswered e buffer buffer (AnswersExactly table c (packets_in c bytes));
+    only_object = unanswered e buffer buffer (AnswersWhereAnyCan table c (packets_in c bytes));
+    kept = λ _. refl;
+  }

@@ -1,13 +1,11 @@
 -- A coder's box as the kit's calls on boxes see it, and how its coder goes.
 use Rattle.std.proofs.Common.{[], ◌∷◌, refl}
-use mir.Syntax.{Dict, impl, tcons, tnil, dnil, method}
-use mir.Raw.{raw as bare}
+use Rattle.raptorq_c.proofs.Walking.{Lasts, lasts, bare, layout, arg, Laws, arg_laws, RattleType, boxed}
+use mir.Syntax.{Dict, impl, tnil, dnil, method}
 use denote.Exit.{no}
-use denote.RattleType.{RattleType}
-use denote.Param.{layout, layouts, arg}
-use denote.Param.Laws.{Laws, arg_laws}
+use denote.Param.{layouts}
 use denote.Triple.Carry.{AllWithin}
-use denote.Triple.Clauses.{Ended, Lasts, lasts, at_exit}
+use denote.Triple.Clauses.{Ended, at_exit}
 use denote.Triple.Walked.{Fit}
 use seplogic.Ra.Ura.{Ura}
 use prog.Model.{Model}
@@ -20,9 +18,6 @@ use borrow.Fn.Impl.{via_longer, method_Known}
 use borrow.Fn.Kinds.{ended_of, stays, r_unit}
 use borrow.Fn.Run.{Over}
 use borrow.Fn.World.{World}
-use Rattle.std.specs.contracts.alloc.Global as global
-use Rattle.std.specs.contracts.impls.GlobalAllocator.TheImpl.{ghosts, dict}
-use Rattle.std.proofs.alloc.Global.TheLaws as heap_laws
 use Rattle.std_alloc.proofs.BoxSteps.Form as box
 use Rattle.raptorq_c.specs.contracts.kept.Coder as coder
 use Rattle.raptorq_c.proofs.kept.Coder.TheLaws as coder_laws
@@ -34,24 +29,15 @@ use Rattle.raptorq_c.proofs.raptorq_c++kept++Coder+Destruct.drop.Met.{met}
 abbrev pub T : RattleType
 T = arg (bare (layout coder.the_row)) no coder.the_row
 
-abbrev pub A : RattleType
-A = arg (bare (layout global.the_row)) no global.the_row
-
 abbrev pub LT : Laws T
 LT = arg_laws (bare (layout coder.the_row)) no coder.the_row coder_laws.the_row_laws refl
 
-abbrev pub LA : Laws A
-LA = arg_laws (bare (layout global.the_row)) no global.the_row heap_laws.the_row_laws refl
-
--- how the allocator goes, and a coder
-abbrev pub dd : Dict
-dd = impl ("raptorq_c::Destruct++none::drop" ∷ []) (tcons (layout A) tnil) dnil
-
+-- how it goes
 abbrev pub dx : Dict
 dx = impl ("raptorq_c::raptorq_c++kept++Coder+Destruct::drop" ∷ []) tnil dnil
 
 abbrev pub E : box.Bx
-E = record { row = T; laws = LT; al = record { row = A; laws = LA; g = ghosts; d = dict; drops = dd } }
+E = boxed T LT
 
 abbrev pub B : RattleType
 B = box.B E

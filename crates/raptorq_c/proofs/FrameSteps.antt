@@ -1,9 +1,5 @@
 -- Frames that a decoder takes one after another.
-use Rattle.std.proofs.Common.{◌≡◌, ℕ, List, [], ◌∷◌, ◌++◌, refl, sym, ap, ◌∙◌, subst, arith, append_assoc, append-nil}
-use Rattle.rq_bytes.specs.declared.error.Error.{Error}
-use Rattle.rq_bytes.specs.Error.{code_of}
-use Rattle.rq_standard.specs.Streams.{frames_in}
-use Rattle.raptorq_c.specs.Frames.{AddsEach, AddsFrames, AreAdded, StopsAtFrame}
+use Rattle.raptorq_c.proofs.Names.{◌≡◌, ℕ, List, [], ◌∷◌, ◌++◌, refl, sym, ap, ◌∙◌, subst, arith, append_assoc, append-nil, Error, code_of, frames_in, AddsEach, AddsFrames, AreAdded, StopsAtFrame}
 use Rattle.raptorq_c.proofs.Ending.{code_positive}
 
 module _ {D : Type 0} (Adds : D → List ℕ → ℕ → D → Type 0) where
@@ -56,7 +52,7 @@ module _ {D E : Type 0} (seen : D → E) (Adds : E → List ℕ → ℕ → E �
   stops_seen : (frames : List (List ℕ)) (answer : ℕ) (old new : D) → StopsAtFrame AddsSeen frames answer old new → StopsAtFrame Adds frames answer (seen old) (seen new)
   stops_seen frames answer old new s = record { first = s.first; refused = s.refused; later = s.later; cut = s.cut; between = seen s.between; added = each_seen old s.first s.between s.added; stops = s.stops }
 
-  frames_seen : (frames : List (List ℕ)) (answer : ℕ) (old new : D) → AddsFrames AddsSeen frames answer old new → AddsFrames Adds frames answer (seen old) (seen new)
+  pub frames_seen : (frames : List (List ℕ)) (answer : ℕ) (old new : D) → AddsFrames AddsSeen frames answer old new → AddsFrames Adds frames answer (seen old) (seen new)
   frames_seen frames answer old new so = record { all = λ zero. each_seen old frames new (so.all zero); some = λ other. stops_seen frames answer old new (so.some other) }
 
   pub added_seen : (size : ℕ) (old : D) (bytes : List ℕ) (answer : ℕ) (new : D) → AreAdded AddsSeen size old bytes answer new → AreAdded Adds size (seen old) bytes answer (seen new)

@@ -1,7 +1,13 @@
--- What is said of a coder that is kept, of one kind.
-use Rattle.std.proofs.Common.{◌≡◌, Option, Some, IsSomeAnd, sym, subst}
+-- What is said of what C handed in, and of a coder that is kept, of one kind.
+use Rattle.raptorq_c.proofs.Names.{◌≡◌, List, Option, Some, sym, subst, TableRow, Configuration, full_rows, Coder}
+use Rattle.std.proofs.Common.{IsSomeAnd}
 use Rattle.std.specs.Prelude.{option_and_then}
-use Rattle.raptorq_c.specs.declared.kept.Coder.{Coder}
+
+-- over the table that was made, and of the configuration that was read
+pub over : (P : List TableRow → Configuration → Type 0) (table : List TableRow) (read c : Configuration) → table ≡ full_rows → read ≡ c → P table read → P full_rows c
+over P table read c is same holds = subst (λ t. P t c) is (subst (P table) same holds)
+
+-- ---- of one kind
 
 module _ {X : Type 0} (kind : Coder → Option X) (held : Option Coder) (k : Coder) (is : held ≡ Some k) where
   pub said_kept : (P : X → Type 0) → IsSomeAnd (kind k) P → IsSomeAnd (option_and_then kind held) P

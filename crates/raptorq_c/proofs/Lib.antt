@@ -3,12 +3,12 @@ pub mod Boxes
 pub mod Ending
 pub mod FrameSteps
 pub mod Held
+pub mod Names
 pub mod Nullness
-pub mod Overs
 pub mod PacketFrames
 pub mod PacketLengths
 pub mod PlannedBlocks
-pub mod Pointers
 pub mod Sized
 pub mod SlotBoxes
 pub mod StretchSteps
+pub mod Walking

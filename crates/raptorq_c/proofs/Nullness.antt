@@ -1,19 +1,18 @@
 -- What a pointer that C keeps tells of what it owns: it is null where it owns nothing, and may be compared with null.
 use Rattle.std.proofs.Common.{◌≡◌, Option, Some, None, refl, sym, subst, lit<}
+use Rattle.raptorq_c.proofs.Walking.{bare, full_share, id⊢, fst∗, sem, Ptr, block_ptr, null_ptr, ghosts}
 use Rattle.std.specs.Prelude.{MatchOption, is_some, not}
 use seplogic.Ra.Ura.{Ura}
-use mir.Raw.{raw as bare}
 use mir.Syntax.{ptr_eq}
 use mir.Val.{vbool, vnull, op2_val}
-use base.Fraction.{full_share}
-use base.Logic.{ent, guard, via, id⊢, fst∗, snd∗, guard_i}
-use types.Logic.{Logic, sem}
+use base.Logic.{ent, guard, via, snd∗, guard_i}
+use types.Logic.{Logic}
 use contract.Monad.{fact_use}
 use denote.Memory.{lone}
-use denote.RawPtr.{Ptr, InBlock, Testable, block_ptr, null_ptr, ptr_val, lies_at, lies_in_block}
-use Rattle.std.specs.contracts.impls.GlobalAllocator.TheImpl.{ghosts}
+use denote.RawPtr.{InBlock, Testable, ptr_val, lies_at, lies_in_block}
 use Rattle.std.proofs.GlobalToken.{dealloc_token-Testable}
-use Rattle.raptorq_c.specs.Slot.{slot_at, heap}
+use Rattle.raptorq_c.specs.Kept.{heap}
+use Rattle.raptorq_c.specs.Slot.{slot_at}
 use Rattle.raptorq_c.specs.declared.kept.Kept.{Kept}
 use Rattle.raptorq_c.specs.contracts.kept.Kept.{the_row as R}
 

@@ -1,18 +1,12 @@
 -- The packets in a buffer, frame by frame.
-use Rattle.std.proofs.Common.{◌≡◌, ℕ, ◌<◌, min, Bool, true, false, cond, List, [], ◌∷◌, ◌++◌, length, map, Result, Ok, Err, refl, sym, ap, ◌∙◌, append_assoc, append-nil, ◌⊎◌, inl, inr}
-use Rattle.rq_bytes.specs.declared.error.Error.{Error}
-use Rattle.rq_bytes.specs.declared.error.Error.TheVariants.{OutOfMemory, PacketTooShort}
-use Rattle.rq_bytes.specs.Refusals.{IsRefusal, and_then}
-use Rattle.rq_standard.specs.Packet.{Packet, packet_of_bytes}
-use Rattle.rq_standard.specs.Streams.{frames_in}
-use Rattle.rq_standard.proofs.FrameLaws.{frames_in-next, frames_in-none}
-use Rattle.rq_base.specs.RefusedInput.{read_packet}
-use Rattle.raptorq.specs.Runs.{packets_of}
+use Rattle.raptorq_c.proofs.Names.{◌≡◌, ◌≢◌, ℕ, Bool, true, false, cond, List, [], ◌∷◌, ◌++◌, map, Result, Ok, Err, refl, sym, ap, ◌∙◌, arith, append_assoc, append-nil, inl, inr, IfOk, Error, PacketTooShort, and_then, Packet, packet_of_bytes, read_packet, packets_of, AddsEach, AddsFrames, IsListed, StopsAtFrame, refusal_number}
+use Rattle.raptorq_c.proofs.Names.{IsNumber, frames_refusal}
+use Rattle.rq_block.specs.declared.encoder.TheConstants.{SPARSE_MATRIX_THRESHOLD}
 use Rattle.raptorq.proofs.Lists.{packets_of-push}
-use Rattle.raptorq_c.specs.ObjectBuffers.{frames_refusal}
+use Rattle.raptorq_c.proofs.Ending.{code_positive}
 
-abbrev read_in : List (List ℕ) → List Packet
-read_in frames = map packet_of_bytes frames
+abbrev Steps : Type 0
+Steps = List (ℕ × Packet)
 
 abbrev short_or : Bool → Packet → Result Packet Error
 short_or short p = cond short (Err PacketTooShort) (Ok p)
@@ -21,42 +15,42 @@ read_by : (short : Bool) (q p : Packet) → short_or short q ≡ Ok p → p ≡ 
 read_by true q p h = absurd (cc h)
 read_by false q p h = cc h
 
-pub packet_read : (bytes : List ℕ) (p : Packet) → read_packet bytes ≡ Ok p → p ≡ packet_of_bytes bytes
-packet_read bytes p read = read_by _ (packet_of_bytes bytes) p read
-
 -- what is refused of a frame and of those behind it
 abbrev behind : Result Packet Error → List (List ℕ) → Result (Unit {0}) Error
 behind read frames = and_then {Y = Unit {0}} (and_then {Y = Unit {0}} read (λ _. Ok tt)) (λ _. frames_refusal frames)
 
--- a frame is cut off: it is as long as it can be
-module _ (size : ℕ) (all before frame after : List ℕ) (positive : 0 < size) (whole : before ≡ frame ++ after) (long : length frame ≡ min size (length before)) (some : 0 < length before) where
-  cut : frames_in size before ≡ frame ∷ frames_in size after
-  cut = frames_in-next size before frame after positive whole long some
+-- a frame that isn't refused spells the packet that is listed
+listed_by : (old new : Steps) (read : Result Packet Error) → IsNumber 0 read → IfOk read (λ p. new ≡ old ++ (SPARSE_MATRIX_THRESHOLD, p) ∷ []) → (p : Packet) × (read ≡ Ok p) × (new ≡ old ++ (SPARSE_MATRIX_THRESHOLD, p) ∷ [])
+listed_by old new (Ok p) number listed = (p, refl, listed)
+listed_by old new (Err e) (inl zero) listed = absurd (omega (arith, zero, code_positive e))
+listed_by old new (Err e) (inr memory) listed = absurd (cc memory)
 
-  -- its packet is one more
-  pub packets_next : (done : List (ℕ × Packet)) (t : ℕ) (p : Packet) → read_packet frame ≡ Ok p → read_in (frames_in size all) ≡ packets_of done ++ read_in (frames_in size before)
-      → read_in (frames_in size all) ≡ packets_of (done ++ (t, p) ∷ []) ++ read_in (frames_in size after)
-  packets_next done t p read kept =
-      let more = read_in (frames_in size after) in
-      kept ∙ ap (λ fs. packets_of done ++ read_in fs) cut ∙ ap (λ q. packets_of done ++ q ∷ more) (sym (packet_read frame p read))
-      ∙ sym (append_assoc (packets_of done) (p ∷ []) more) ∙ ap (λ ps. ps ++ more) (sym (packets_of-push done (t, p)))
+-- those that are listed are the packets of their frames
+pub each_listed : (old : Steps) (frames : List (List ℕ)) (new : Steps) → AddsEach IsListed old frames new → (packets_of new ≡ packets_of old ++ map packet_of_bytes frames) × (frames_refusal frames ≡ Ok tt)
+each_listed old [] new same = (ap packets_of same ∙ sym (append-nil (packets_of old)), refl)
+each_listed old (frame ∷ frames) new added =
+    let one = listed_by old added.0 (read_packet frame) added.1.number (added.1.listed refl) in
+    let more = each_listed added.0 frames new added.2 in
+    let rest = map packet_of_bytes frames in
+    let next : packets_of added.0 ≡ packets_of old ++ packet_of_bytes frame ∷ [] =
+    ap packets_of one.2 ∙ packets_of-push old (SPARSE_MATRIX_THRESHOLD, one.0) ∙ ap (λ p. packets_of old ++ p ∷ []) (read_by _ (packet_of_bytes frame) one.0 one.1) in
+    (more.0 ∙ ap (λ ps. ps ++ rest) next ∙ append_assoc (packets_of old) (packet_of_bytes frame ∷ []) rest, ap (λ r. behind r frames) one.1 ∙ more.1)
 
-  -- and it isn't refused
-  pub taken_next : (p : Packet) → read_packet frame ≡ Ok p → frames_refusal (frames_in size all) ≡ frames_refusal (frames_in size before) → frames_refusal (frames_in size all) ≡ frames_refusal (frames_in size after)
-  taken_next p read kept = kept ∙ ap frames_refusal cut ∙ ap (λ r. behind r (frames_in size after)) read
+passed_over : (old : Steps) (first : List (List ℕ)) (between : Steps) (rest : List (List ℕ)) → AddsEach IsListed old first between → frames_refusal (first ++ rest) ≡ frames_refusal rest
+passed_over old [] between rest same = refl
+passed_over old (frame ∷ first) between rest added =
+    ap (λ r. behind r (first ++ rest)) (listed_by old added.0 (read_packet frame) added.1.number (added.1.listed refl)).1 ∙ passed_over added.0 first between rest added.2
 
-  refused_by : (e : Error) (r : Result Packet Error) → read_packet frame ≡ r → IsRefusal e r → frames_refusal (frames_in size all) ≡ frames_refusal (frames_in size before) → (e ≡ OutOfMemory) ⊎ (frames_refusal (frames_in size all) ≡ Err e)
-  refused_by e (Ok p) read memory kept = inl memory
-  refused_by e (Err w) read same kept = inr (kept ∙ ap frames_refusal cut ∙ ap (λ r. behind r (frames_in size after)) read ∙ (let err : behind (Err w) (frames_in size after) ≡ Err e = ap (λ d. behind (Err d) (frames_in size after)) (sym same) in err))
+-- where one is refused, it is the first that is
+pub first_refused : (frames : List (List ℕ)) (answer : ℕ) (old new : Steps) → answer ≢ 0 → AddsFrames IsListed frames answer old new → IsNumber answer (frames_refusal frames)
+first_refused frames answer old new other so = by_read (read_packet s.refused) refl s.stops.number where
+  s : StopsAtFrame IsListed frames answer old new
+  s = so.some other
 
-  -- or it is the first that is
-  pub refused_next : (e : Error) → IsRefusal e (read_packet frame) → frames_refusal (frames_in size all) ≡ frames_refusal (frames_in size before) → (e ≡ OutOfMemory) ⊎ (frames_refusal (frames_in size all) ≡ Err e)
-  refused_next e refused kept = refused_by e (read_packet frame) refl refused kept
-
--- behind the last frame
-module _ (size : ℕ) (all left : List ℕ) (none : length left ≡ 0) where
-  pub packets_all : (done : List (ℕ × Packet)) → read_in (frames_in size all) ≡ packets_of done ++ read_in (frames_in size left) → packets_of done ≡ read_in (frames_in size all)
-  packets_all done kept = sym (kept ∙ ap (λ fs. packets_of done ++ read_in fs) (frames_in-none size left none) ∙ append-nil (packets_of done))
-
-  pub taken_all : frames_refusal (frames_in size all) ≡ frames_refusal (frames_in size left) → frames_refusal (frames_in size all) ≡ Ok tt
-  taken_all kept = kept ∙ ap frames_refusal (frames_in-none size left none)
+  by_read : (read : Result Packet Error) → read_packet s.refused ≡ read → IsNumber answer read → IsNumber answer (frames_refusal frames)
+  by_read (Ok p) read (inl zero) = absurd (other zero)
+  by_read (Ok p) read (inr memory) = inr memory
+  by_read (Err e) read (inl is) =
+      let refused : frames_refusal frames ≡ Err e = ap frames_refusal s.cut ∙ passed_over old s.first s.between (s.refused ∷ s.later) s.added ∙ ap (λ r. behind r s.later) read in
+      inl (is ∙ sym (ap refusal_number refused))
+  by_read (Err e) read (inr memory) = inr memory

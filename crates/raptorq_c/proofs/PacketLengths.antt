@@ -1,29 +1,22 @@
 -- How many bytes the packets of an object take.
-use Rattle.std.proofs.Common.{◌≡◌, ℕ, zero, suc, ◌+◌, ◌*◌, ◌≤◌, List, [], ◌∷◌, length, Ok, sym, ap, ◌∙◌, arith, length-append}
+use Rattle.raptorq_c.proofs.Names.{◌≡◌, ℕ, ◌+◌, ◌*◌, ◌≤◌, List, [], ◌∷◌, length, Ok, sym, ap, ◌∙◌, arith, length-map, length-map-range_with_len, Configuration, configuration_of_bytes, total_symbols, Packet, frame_size, TableRow, greatest_size, checked_configuration, both_ok, ok_of, AppendsObject, packets_length, full_rows, IsEncoding}
+use Rattle.raptorq_c.proofs.Names.{bytes_of_packets}
+use Rattle.std.proofs.Common.{zero, suc, length-append}
 use Rattle.std.specs.List.{AllByRecursion}
-use Rattle.std.proofs.lemmas.List.{length-map}
-use Rattle.std.proofs.lemmas.List.FromFn.{length-map-range_with_len}
-use Rattle.rq_standard.specs.Configuration.{Configuration, IsAccepted, configuration_of_bytes, total_symbols}
+use Rattle.rq_standard.specs.Configuration.{IsAccepted}
 use Rattle.rq_standard.specs.Cutting.{block_symbols, symbols_before}
 use Rattle.rq_standard.specs.Headline.{IsPacketOf}
 use Rattle.rq_standard.specs.ObjectPackets.{first_ids}
-use Rattle.rq_standard.specs.Packet.{Packet, packet_bytes}
-use Rattle.rq_standard.specs.Streams.{frame_size, frames_of}
-use Rattle.rq_standard.specs.declared.row.TableRow.{TableRow}
-use Rattle.rq_standard.specs.TableRows.{IsTable, greatest_size}
+use Rattle.rq_standard.specs.Packet.{packet_bytes}
+use Rattle.rq_standard.specs.Streams.{frames_of}
+use Rattle.rq_standard.specs.TableRows.{IsTable}
 use Rattle.rq_standard.proofs.BlockCuts.{symbols_before-first, symbols_before-next, symbols_before-all}
 use Rattle.rq_standard.proofs.BlockRows.{block_has_row}
-use Rattle.rq_base.specs.RefusedInput.{checked_configuration}
-use Rattle.rq_base.proofs.Accepted.{both_ok, ok_of, accepted_by}
-use Rattle.raptorq.specs.Appended.{AppendsObject}
-use Rattle.raptorq.specs.Encoder.{packets_length}
+use Rattle.rq_base.proofs.Accepted.{accepted_by}
 use Rattle.raptorq.proofs.EncodedBlocks.{ids_before, ids_next}
 use Rattle.raptorq.proofs.Lists.{length-packet_bytes}
-use Rattle.rq_rows.specs.FullTable.{full_rows}
 use Rattle.rq_rows.proofs.AllPass.{full_table}
 use Rattle.raptorq_c.specs.Headers.{checked_header}
-use Rattle.raptorq_c.specs.PacketBuffers.{IsEncoding}
-use Rattle.raptorq_c.specs.Sizes.{bytes_of_packets}
 
 module _ (c : Configuration) where
   -- as many as the blocks' source symbols, and the repair symbols of each

@@ -1,23 +1,14 @@
 -- The encoder of a block by a plan alone is the block's.
-use Rattle.std.proofs.Common.{◌≡◌, ℕ, ◌/◌, ◌%◌, false, cond, eqb, ltb, List, length, map, Result, Ok, Err, sym, ap, ◌∙◌}
-use Rattle.std.specs.List.{range_with_len}
-use Rattle.std.specs.Prelude.{not}
-use Rattle.std.proofs.lemmas.Bool.{eqb-true, not-false}
-use Rattle.rq_bytes.specs.declared.error.Error.{Error}
-use Rattle.rq_bytes.specs.declared.error.Error.TheVariants.{WrongDataLength, BlockOverTable, PlanMismatch}
-use Rattle.rq_bytes.specs.Refusals.{and_then}
-use Rattle.rq_standard.specs.declared.row.TableRow.{TableRow}
-use Rattle.rq_standard.specs.Configuration.{Configuration, configuration_of_bytes}
+use Rattle.raptorq_c.proofs.Names.{◌≡◌, ℕ, false, cond, eqb, ltb, List, length, map, Result, Ok, Err, sym, ap, ◌∙◌, range_with_len, not, eqb-true, Error, WrongDataLength, BlockOverTable, PlanMismatch, and_then, TableRow, Configuration, configuration_of_bytes, greatest_size, row_of, both_ok, ok_of, passed, block_by_plan, BlockEncoded}
+use Rattle.raptorq_c.proofs.Names.{plan_refusal, full_rows, planned_refusal, IsPlanIn}
+use Rattle.std.proofs.Common.{◌/◌, ◌%◌}
+use Rattle.std.proofs.lemmas.Bool.{not-false}
 use Rattle.rq_standard.specs.Cutting.{symbol_of_block}
-use Rattle.rq_standard.specs.TableRows.{greatest_size, row_of}
 use Rattle.rq_base.specs.RefusedInput.{checked_symbols}
-use Rattle.rq_base.proofs.Accepted.{both_ok, ok_of, passed}
-use Rattle.rq_block.specs.BlockData.{block_by_plan, block_of}
+use Rattle.rq_block.specs.BlockData.{block_of}
 use Rattle.rq_block.specs.RefusedBlocks.{AreWholeSymbols}
-use Rattle.rq_block.specs.SourceBlockEncoder.{BlockEncoded}
-use Rattle.rq_block.specs.SourceBlockEncodingPlan.{Plan, plan_refusal}
-use Rattle.rq_rows.specs.FullTable.{full_rows}
-use Rattle.raptorq_c.specs.Encoders.{planned_refusal, IsBlockEncoderIn, IsPlanIn}
+use Rattle.rq_block.specs.SourceBlockEncodingPlan.{Plan}
+use Rattle.raptorq_c.specs.Encoders.{IsBlockEncoderIn}
 
 module _ (header bytes : List ℕ) (plan : Plan) (taken : planned_refusal (configuration_of_bytes header) (length bytes) plan ≡ Ok tt) where
   abbrev c : Configuration

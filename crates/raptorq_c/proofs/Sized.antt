@@ -1,19 +1,8 @@
 -- What the calls on lengths answer.
-use Rattle.std.proofs.Common.{◌≡◌, ℕ, ◌<◌, cond, eqb, ltb, List, length, Result, Ok, Err, refl, sym, ap, ◌∙◌, subst}
-use Rattle.std.proofs.lemmas.Bool.{lt-ltb}
-use Rattle.std.proofs.lemmas.List.FromFn.{length-map-range_with_len}
-use Rattle.rq_bytes.specs.declared.error.Error.{Error}
-use Rattle.rq_bytes.specs.declared.error.Error.TheVariants.{SymbolSizeZero, SourceBlocksZero, TooManySymbols, UnknownBlock}
-use Rattle.rq_bytes.specs.Refusals.{and_then}
-use Rattle.rq_standard.specs.declared.systematic_indices.TheConstants.{MAX_SOURCE_SYMBOLS_PER_BLOCK}
-use Rattle.rq_standard.specs.Configuration.{Configuration, configuration_of_bytes, largest_block}
-use Rattle.rq_standard.specs.TableRows.{greatest_size}
-use Rattle.rq_base.specs.RefusedInput.{checked_configuration}
-use Rattle.rq_base.proofs.Accepted.{ok_of, same_ok, passed}
-use Rattle.raptorq.specs.Encoder.{packets_length, packets_refusal}
-use Rattle.raptorq.specs.Offsets.{block_offsets, block_range, checked_offsets}
-use Rattle.rq_rows.specs.FullTable.{full_rows}
-use Rattle.raptorq_c.specs.Sizes.{part_of_block, bytes_of_packets}
+use Rattle.raptorq_c.proofs.Names.{◌≡◌, ℕ, ◌<◌, cond, eqb, ltb, List, length, Result, Ok, Err, refl, sym, ap, ◌∙◌, subst, lt-ltb, length-map-range_with_len, Error, SymbolSizeZero, SourceBlocksZero, TooManySymbols, UnknownBlock, and_then, MAX_SOURCE_SYMBOLS_PER_BLOCK, Configuration, configuration_of_bytes, largest_block, greatest_size}
+use Rattle.raptorq_c.proofs.Names.{checked_configuration, ok_of, same_ok, passed, packets_length, block_range, full_rows, part_of_block, bytes_of_packets}
+use Rattle.raptorq.specs.Encoder.{packets_refusal}
+use Rattle.raptorq.specs.Offsets.{block_offsets, checked_offsets}
 
 -- what isn't refused are the places of all blocks
 pub offsets_of : (c : Configuration) (xs : List (ℕ × ℕ)) → checked_offsets c ≡ Ok xs → xs ≡ block_offsets c

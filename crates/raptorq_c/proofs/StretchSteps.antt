@@ -1,44 +1,27 @@
 -- Packets of a block in a buffer, and what calls for them answer.
-use Rattle.std.proofs.Common.{◌≡◌, ◌≢◌, ℕ, ◌+◌, ◌-◌, ◌^◌, ◌<◌, ◌≤◌, List, length, map, Some, None, option_map, Result, Err, refl, sym, ap, ◌∙◌, subst, arith, inl, inr}
-use Rattle.std.specs.List.{range_with_len, slice_get}
-use Rattle.std.proofs.lemmas.Bool.{lt-ltb, le-ltb, cases_lt}
-use Rattle.std.proofs.lemmas.List.{length-map}
-use Rattle.std.proofs.lemmas.List.FromFn.{length-map-range_with_len, get_or-map-range_with_len}
-use Rattle.std.proofs.lemmas.Option.{slice_get-map, slice_get-get_or, slice_get_cases, slice_get_within}
-use Rattle.rq_bytes.specs.declared.error.Error.{Error}
-use Rattle.rq_bytes.specs.declared.error.Error.TheVariants.{EsiTooLarge, UnknownBlock}
-use Rattle.rq_bytes.specs.Error.{code_of}
-use Rattle.rq_bytes.specs.Refusals.{and_then}
-use Rattle.rq_base.proofs.Accepted.{ok_of}
-use Rattle.rq_block.specs.SourceBlockEncoder.{BlockEncoded, block_encoded_of}
+use Rattle.raptorq_c.proofs.Names.{◌≡◌, ◌≢◌, ℕ, ◌+◌, ◌<◌, ◌≤◌, List, length, map, get_or, Result, Err, refl, sym, ap, ◌∙◌, subst, arith, inl, inr, range_with_len, lt-ltb, le-ltb, cases_lt, Error, EsiTooLarge, UnknownBlock, code_of}
+use Rattle.raptorq_c.proofs.Names.{and_then, ok_of, BlockEncoded, block_encoded_of, SourceBlockEncoder, block_in}
+use Rattle.std.proofs.Common.{◌-◌, ◌^◌}
+use Rattle.rq_block.proofs.Numbered.{length-mapped, mapped_at}
 use Rattle.rq_block.specs.WrittenPackets.{AreStretchBytes}
-use Rattle.rq_block.specs.declared.encoder.block.SourceBlockEncoder.{SourceBlockEncoder}
 use Rattle.raptorq.specs.Encoder.{Encoded}
-use Rattle.raptorq_c.specs.Encoders.{FillsStretch, block_in, end_of_stretch, stretch_length}
+use Rattle.raptorq_c.specs.Encoders.{FillsStretch, end_of_stretch, stretch_length}
 use Rattle.raptorq_c.proofs.Ending.{code_positive, code_no_call}
 
 -- ---- a block of an object
 
 module _ (e : Encoded) (blocks : List SourceBlockEncoder) (i : ℕ) (are : map block_encoded_of blocks ≡ map e.block (range_with_len 0 e.configuration.source_blocks)) where
   counted : length blocks ≡ e.configuration.source_blocks
-  counted = sym (length-map blocks block_encoded_of) ∙ ap length are ∙ length-map-range_with_len e.block 0 e.configuration.source_blocks
+  counted = length-mapped block_encoded_of e.block e.configuration.source_blocks blocks are
 
-  pub block_found : (x : SourceBlockEncoder) → slice_get blocks i ≡ Some x → block_in e i ≡ ok_of (block_encoded_of x)
-  block_found x found =
-      let below : i < e.configuration.source_blocks = subst (λ n. i < n) counted (slice_get_within blocks i x found) in
-      let listed = map e.block (range_with_len 0 e.configuration.source_blocks) in
-      let in_list : i < length listed = subst (λ n. i < n) (sym (length-map-range_with_len e.block 0 e.configuration.source_blocks)) below in
+  pub block_found : (x : SourceBlockEncoder) → i < length blocks → x ≡ get_or blocks i x → block_in e i ≡ ok_of (block_encoded_of x)
+  block_found x within is =
+      let below : i < e.configuration.source_blocks = omega (arith, within, counted) in
       let known : block_in e i ≡ ok_of (e.block i) = rw (lt-ltb i e.configuration.source_blocks below) refl in
-      let same : Some (e.block i) ≡ Some (block_encoded_of x) =
-      ap (λ (b : BlockEncoded). Some b) (sym (get_or-map-range_with_len e.block 0 e.configuration.source_blocks i i (e.block i) below (omega arith))) ∙ sym (slice_get-get_or listed i (e.block i) in_list)
-      ∙ ap (λ xs. slice_get xs i) (sym are) ∙ slice_get-map block_encoded_of blocks i ∙ ap (option_map block_encoded_of) found in
-      known ∙ ap (λ (b : BlockEncoded). ok_of b) (cc same)
+      known ∙ ap (λ (b : BlockEncoded). ok_of b) (sym (mapped_at block_encoded_of e.block e.configuration.source_blocks blocks are i x below is))
 
-  pub block_missing : slice_get blocks i ≡ None → block_in e i ≡ Err UnknownBlock
-  block_missing none = elim ((slice_get_cases blocks i).1) [
-    | inl here ↦ absurd (let other : None ≡ Some here.0 = sym none ∙ here.2 in cc other)
-    | inr past ↦ rw (le-ltb i e.configuration.source_blocks (subst (λ n. n ≤ i) counted past.0)) refl
-  ]
+  pub block_missing : length blocks ≤ i → block_in e i ≡ Err UnknownBlock
+  block_missing past = rw (le-ltb i e.configuration.source_blocks (subst (λ n. n ≤ i) counted past)) refl
 
 -- ---- what calls answer
 

@@ -7,6 +7,7 @@ use Rattle.rq_standard.specs.Packet.{Packet}
 use Rattle.rq_standard.specs.Streams.{frames_in}
 use Rattle.rq_base.specs.RefusedInput.{read_packet}
 use Rattle.rq_block.specs.RefusedBlocks.{block_refusal}
+use Rattle.rq_block.specs.declared.encoder.TheConstants.{SPARSE_MATRIX_THRESHOLD}
 use Rattle.raptorq.specs.Decoder.{state_of}
 use Rattle.raptorq.specs.InTurn.{KeptBlock, TakesHere, TakesInTurn}
 use Rattle.raptorq.specs.Refused.{packet_refusal}
@@ -42,6 +43,11 @@ IsAdded old bytes answer new = IsAddedBy (packet_refusal (state_of old).configur
 
 abbrev pub IsAddedHere : KeptBlock → List ℕ → ℕ → KeptBlock → Type 0
 IsAddedHere old bytes answer new = IsAddedBy (block_refusal old.received) TakesHere old bytes answer new
+
+-- A list of packets and their thresholds has one more behind the others, that bytes spell, unless these are too short or memory is refused.
+pub record IsListed (old : List (ℕ × Packet)) (bytes : List ℕ) (answer : ℕ) (new : List (ℕ × Packet)) : Type 0 where
+  pub number : IsNumber answer (read_packet bytes)
+  pub listed : answer ≡ 0 → IfOk (read_packet bytes) (λ packet. new ≡ old ++ (SPARSE_MATRIX_THRESHOLD, packet) ∷ [])
 
 -- ---- many
 

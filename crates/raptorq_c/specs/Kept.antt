@@ -11,7 +11,7 @@ use Rattle.raptorq_c.specs.declared.kept.Coder.{Coder}
 use Rattle.raptorq_c.specs.contracts.kept.Coder.{the_row}
 
 -- the one heap that there is
-abbrev heap : Global
+abbrev pub heap : Global
 heap = record { memory = record { seal = tt } }
 
 abbrev pub kept_at : Ptr → Option Coder → Fml

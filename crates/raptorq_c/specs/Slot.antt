@@ -4,15 +4,11 @@ use base.Stored.{Coded}
 use denote.RawPtr.{Ptr, null_ptr}
 use Rattle.std.specs.Prelude.{Option, Some, None}
 use Rattle.std.specs.Coded.{coded_option}
-use Rattle.std.specs.declared.alloc.Global.{Global}
 use Rattle.std.specs.contracts.impls.GlobalAllocator.TheImpl.{ghosts}
 use Rattle.std_alloc.specs.Box.Ownership.{box_owns}
+use Rattle.raptorq_c.specs.Kept.{heap}
 use Rattle.raptorq_c.specs.declared.kept.Kept.{Kept}
 use Rattle.raptorq_c.specs.contracts.kept.Kept.{the_row}
-
--- the one heap that there is
-abbrev pub heap : Global
-heap = record { memory = record { seal = tt } }
 
 abbrev pub slot_at : Ptr → Option Kept → Fml
 slot_at p None = feq Ptr p null_ptr

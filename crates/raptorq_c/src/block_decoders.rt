@@ -1,9 +1,8 @@
 //! Decoders of blocks that C keeps: packets in, and the block once they determine it.
 ghost use Rattle.std.specs.Prelude.{◌≡◌, ◌≢◌, ◌+◌, None, IsSome, IsSomeAnd, OnOk, OnErr, is_some};
-ghost use Rattle.std.specs.Result.{result_unwrap_or};
 ghost use Rattle.rq_bytes.specs.Refusals.{Answers};
 ghost use Rattle.raptorq.specs.InTurn.{block_of};
-ghost use Rattle.raptorq_c.specs.Coders.{block_decoder_at, kept_block_decoder, kept_coder, Changes};
+ghost use Rattle.raptorq_c.specs.Coders.{slot_as, block_decoder_in, kept_as, kept_coder, Changes};
 ghost use Rattle.raptorq_c.specs.BlockDecoders.{checked_length, FillsWithAnswer, IsNewBlock, WritesMissingOf};
 ghost use Rattle.raptorq_c.specs.Frames.{AreAdded, IsAddedHere};
 ghost use Rattle.raptorq_c.specs.Numbers.{number_of, refusal_number, IsNumber};
@@ -11,7 +10,7 @@ ghost use Rattle.raptorq_c.specs.Numbers.{number_of, refusal_number, IsNumber};
 use crate::buffers::fill_answer;
 use crate::call_end::{number, refusal};
 use crate::frames::add_whole;
-use crate::kept::{Coder, Kept};
+use crate::kept::{Coder, Kept, of_kept};
 use crate::slot::Slot;
 use crate::tables::table;
 use raptorq::ObjectTransmissionInformation;
@@ -30,7 +29,7 @@ fn open(
 ) -> Result<(), Error>
     requires { decoder.old.value ≡ None }
     ensures refused { Answers (λ _. tt) result (checked_length configuration.now length) }
-    ensures decoder { OnOk result (IsSomeAnd (block_decoder_at decoder.new) (IsNewBlock configuration.now block length)) }
+    ensures decoder { OnOk result (IsSomeAnd (slot_as block_decoder_in decoder.new) (IsNewBlock configuration.now block length)) }
     ensures null { OnErr result (decoder.new.value ≡ None) }
 {
     let table = table(alloc)?;
@@ -54,7 +53,7 @@ pub extern "C" fn reamertan_block_decoder_open(
 ) -> u8
     requires null { decoder.old.value ≡ None }
     ensures number { IsNumber result (checked_length configuration.now length) }
-    ensures decoder { result ≡ 0 → IsSomeAnd (block_decoder_at decoder.new) (IsNewBlock configuration.now block length) }
+    ensures decoder { result ≡ 0 → IsSomeAnd (slot_as block_decoder_in decoder.new) (IsNewBlock configuration.now block length) }
     ensures null { result ≢ 0 → decoder.new.value ≡ None }
 {
     refusal(open(alloc, decoder, configuration, block, length))
@@ -72,8 +71,8 @@ pub extern "C" fn reamertan_block_decoder_add_packets(
     decoder: &mut Kept,
     packets: &[u8],
 ) -> u8
-    requires { IsSome (kept_block_decoder decoder.old) }
-    ensures { Changes (kept_block_decoder decoder.old) (kept_block_decoder decoder.new) (λ old new. AreAdded IsAddedHere (4 + old.received.configuration.symbol_size) old packets.now result new) }
+    requires { IsSome (kept_as block_decoder_in decoder.old) }
+    ensures { Changes (kept_as block_decoder_in decoder.old) (kept_as block_decoder_in decoder.new) (λ old new. AreAdded IsAddedHere (4 + old.received.configuration.symbol_size) old packets.now result new) }
 {
     let mut coder = decoder.take(alloc);
     let Coder::BlockDecoder(inner) = coder.as_mut() else {
@@ -88,25 +87,22 @@ pub extern "C" fn reamertan_block_decoder_add_packets(
 /// Whether the packets that were taken determine the block.
 #[unsafe(no_mangle)]
 pub extern "C" fn reamertan_block_decoder_is_complete(alloc: Global, decoder: &mut Kept) -> bool
-    requires { IsSome (kept_block_decoder decoder.old) }
-    ensures complete { IsSomeAnd (kept_block_decoder decoder.old) (λ b. result ≡ is_some b.answer) }
+    requires { IsSome (kept_as block_decoder_in decoder.old) }
+    ensures complete { IsSomeAnd (kept_as block_decoder_in decoder.old) (λ b. result ≡ is_some b.answer) }
     ensures same { kept_coder decoder.new ≡ kept_coder decoder.old }
 {
-    let coder = decoder.take(alloc);
-    let Coder::BlockDecoder(inner) = coder.as_ref() else {
-        unreachable!()
-    };
-    let complete = inner.bytes().is_some();
-    decoder.put(coder);
-    complete
+    of_kept!(decoder, alloc, BlockDecoder, inner => inner.bytes().is_some())
 }
 
-// How many packets more a block needs at least.
-fn missing_count(block: &ObjectBlock) -> Result<u32, Error>
-    // What a call does that writes it over a 0.
-    ensures { WritesMissingOf (block_of block.now) (refusal_number result) 0 (result_unwrap_or result 0) }
+// Writes how many packets more a block needs at least.
+fn write_missing(block: &ObjectBlock, packets: &mut u32) -> Result<(), Error>
+    ensures { WritesMissingOf (block_of block.now) (refusal_number result) packets.old packets.new }
 {
-    block.missing_packets().ok_or(Error::Contradiction)
+    let Some(count) = block.missing_packets() else {
+        return Err(Error::Contradiction);
+    };
+    *packets = count;
+    Ok(())
 }
 
 /// Writes how many packets more the block needs at least, of ids that weren't taken yet: what
@@ -119,23 +115,11 @@ pub extern "C" fn reamertan_block_decoder_missing(
     decoder: &mut Kept,
     packets: &mut u32,
 ) -> u8
-    requires { IsSome (kept_block_decoder decoder.old) }
-    ensures writes { IsSomeAnd (kept_block_decoder decoder.old) (λ b. WritesMissingOf b result packets.old packets.new) }
+    requires { IsSome (kept_as block_decoder_in decoder.old) }
+    ensures writes { IsSomeAnd (kept_as block_decoder_in decoder.old) (λ b. WritesMissingOf b result packets.old packets.new) }
     ensures same { kept_coder decoder.new ≡ kept_coder decoder.old }
 {
-    let coder = decoder.take(alloc);
-    let Coder::BlockDecoder(inner) = coder.as_ref() else {
-        unreachable!()
-    };
-    let counted = missing_count(inner);
-    decoder.put(coder);
-    match counted {
-        Ok(count) => {
-            *packets = count;
-            0
-        }
-        Err(refusal) => refusal.code(),
-    }
+    refusal(of_kept!(decoder, alloc, BlockDecoder, inner => write_missing(inner, packets)))
 }
 
 /// Fills a buffer with the block, where its packets determine it: all its source symbols. Takes no
@@ -149,15 +133,9 @@ pub extern "C" fn reamertan_block_decoder_write(
     decoder: &mut Kept,
     bytes: &mut [u8],
 ) -> u8
-    requires { IsSome (kept_block_decoder decoder.old) }
-    ensures fills { IsSomeAnd (kept_block_decoder decoder.old) (λ b. FillsWithAnswer b.answer result bytes.old bytes.new) }
+    requires { IsSome (kept_as block_decoder_in decoder.old) }
+    ensures fills { IsSomeAnd (kept_as block_decoder_in decoder.old) (λ b. FillsWithAnswer b.answer result bytes.old bytes.new) }
     ensures same { kept_coder decoder.new ≡ kept_coder decoder.old }
 {
-    let coder = decoder.take(alloc);
-    let Coder::BlockDecoder(inner) = coder.as_ref() else {
-        unreachable!()
-    };
-    let ended = fill_answer(bytes, inner.bytes());
-    decoder.put(coder);
-    number(ended)
+    number(of_kept!(decoder, alloc, BlockDecoder, inner => fill_answer(bytes, inner.bytes())))
 }

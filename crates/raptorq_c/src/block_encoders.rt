@@ -2,13 +2,14 @@
 ghost use Rattle.std.specs.Prelude.{◌≡◌, ◌≢◌, ◌<◌, length, None, IsSome, IsSomeAnd, IfOk, IfErr, OnOk, OnErr};
 ghost use Rattle.rq_bytes.specs.Refusals.{Answers};
 ghost use Rattle.rq_standard.specs.Configuration.{configuration_of_bytes, IsAligned};
+ghost use Rattle.rq_block.specs.SourceBlockEncoder.{block_encoded_of};
 ghost use Rattle.rq_block.specs.SourceBlockEncodingPlan.{plan_of};
-ghost use Rattle.raptorq_c.specs.Coders.{block_encoder_at, block_encoder_in, kept_block_encoder, kept_coder, plan_in, kept_plan};
+ghost use Rattle.raptorq_c.specs.Coders.{slot_as, block_encoder_in, kept_as, kept_coder, plan_in};
 ghost use Rattle.raptorq_c.specs.Encoders.{planned_refusal, stretch_of_block, FillsStretch, IsPlannedEncoder};
 ghost use Rattle.raptorq_c.specs.Numbers.{number_of, IsNumber};
 
 use crate::call_end::{CallEnd, number, refusal};
-use crate::kept::{Coder, Kept};
+use crate::kept::{Coder, Kept, of_kept};
 use crate::slot::Slot;
 use crate::stretches::{Ids, fill_stretch};
 use raptorq::base::CONFIGURATION_LENGTH;
@@ -64,34 +65,18 @@ fn planned_encoder(
     Ok(Coder::BlockEncoder(Arc::new(alloc, encoder)?))
 }
 
-// The encoder of a block, by the plan that a coder is.
-fn planned_by(alloc: Global, block: Block<'_>, coder: &Coder) -> Result<Coder, Error>
-    requires { IsSome (plan_in coder.now) }
-    ensures refused { IsSomeAnd (plan_in coder.now) (λ p. Answers (λ _. tt) result
-        (planned_refusal (configuration_of_bytes block.entry.configuration.now) (length block.entry.bytes.now) p)) }
-    ensures encoder { IfOk result (λ made. IsSomeAnd (plan_in coder.now) (λ p. IsSomeAnd (block_encoder_in made)
-        (IsPlannedEncoder block.entry.configuration.now block.entry.number block.entry.bytes.now p))) }
-{
-    let Coder::Plan(plan) = coder else {
-        unreachable!()
-    };
-    planned_encoder(alloc, block, plan.deref())
-}
-
 // Makes the encoder of a block by a plan, behind a null pointer.
 fn open(alloc: Global, encoder: &mut Slot, plan: &mut Kept, block: Block<'_>) -> Result<(), Error>
     requires null { encoder.old.value ≡ None }
-    requires plan { IsSome (kept_plan plan.old) }
-    ensures refused { IsSomeAnd (kept_plan plan.old) (λ p. Answers (λ _. tt) result
+    requires plan { IsSome (kept_as plan_in plan.old) }
+    ensures refused { IsSomeAnd (kept_as plan_in plan.old) (λ p. Answers (λ _. tt) result
         (planned_refusal (configuration_of_bytes block.entry.configuration.now) (length block.entry.bytes.now) p)) }
-    ensures encoder { OnOk result (IsSomeAnd (kept_plan plan.old) (λ p. IsSomeAnd (block_encoder_at encoder.new)
+    ensures encoder { OnOk result (IsSomeAnd (kept_as plan_in plan.old) (λ p. IsSomeAnd (slot_as block_encoder_in encoder.new)
         (IsPlannedEncoder block.entry.configuration.now block.entry.number block.entry.bytes.now p))) }
     ensures null { OnErr result (encoder.new.value ≡ None) }
     ensures same { kept_coder plan.new ≡ kept_coder plan.old }
 {
-    let coder = plan.take(alloc);
-    let made = planned_by(alloc, block, coder.as_ref());
-    plan.put(coder);
+    let made = of_kept!(plan, alloc, Plan, inner => planned_encoder(alloc, block, inner.deref()));
     encoder.keep(alloc, made?)
 }
 
@@ -111,9 +96,9 @@ pub extern "C" fn reamertan_block_encoder_open(
     bytes: &[u8],
 ) -> u8
     requires null { encoder.old.value ≡ None }
-    requires plan { IsSome (kept_plan plan.old) }
-    ensures number { IsSomeAnd (kept_plan plan.old) (λ p. IsNumber result (planned_refusal (configuration_of_bytes configuration.now) (length bytes.now) p)) }
-    ensures encoder { result ≡ 0 → IsSomeAnd (kept_plan plan.old) (λ p. IsSomeAnd (block_encoder_at encoder.new) (IsPlannedEncoder configuration.now block bytes.now p)) }
+    requires plan { IsSome (kept_as plan_in plan.old) }
+    ensures number { IsSomeAnd (kept_as plan_in plan.old) (λ p. IsNumber result (planned_refusal (configuration_of_bytes configuration.now) (length bytes.now) p)) }
+    ensures encoder { result ≡ 0 → IsSomeAnd (kept_as plan_in plan.old) (λ p. IsSomeAnd (slot_as block_encoder_in encoder.new) (IsPlannedEncoder configuration.now block bytes.now p)) }
     ensures null { result ≢ 0 → encoder.new.value ≡ None }
     ensures same { kept_coder plan.new ≡ kept_coder plan.old }
 {
@@ -125,17 +110,12 @@ pub extern "C" fn reamertan_block_encoder_open(
     refusal(open(alloc, encoder, plan, block))
 }
 
-// Fills a buffer with packets of the block whose encoder a coder is.
-fn write(coder: &Coder, ids: Ids, packets: &mut [u8]) -> Result<(), CallEnd>
-    requires { IsSome (block_encoder_in coder.now) }
-    ensures { IsSomeAnd (block_encoder_in coder.now) (λ b. FillsStretch (stretch_of_block ids.first ids.count b) ids.first ids.count
-        (number_of result) packets.old packets.new) }
+// Fills a buffer with packets of a block.
+fn write(encoder: &SourceBlockEncoder, ids: Ids, packets: &mut [u8]) -> Result<(), CallEnd>
+    ensures { FillsStretch (stretch_of_block ids.first ids.count (block_encoded_of encoder.now)) ids.first ids.count (number_of result) packets.old packets.new }
 {
-    let Coder::BlockEncoder(encoder) = coder else {
-        unreachable!()
-    };
     let end = ids.end()?;
-    fill_stretch(encoder.deref(), ids.first, end, packets)
+    fill_stretch(encoder, ids.first, end, packets)
 }
 
 /// Fills a buffer with `count` packets of the block, whose encoding symbol ids go from `first` on: each
@@ -150,12 +130,10 @@ pub extern "C" fn reamertan_block_encoder_write(
     count: u32,
     packets: &mut [u8],
 ) -> u8
-    requires { IsSome (kept_block_encoder encoder.old) }
-    ensures fills { IsSomeAnd (kept_block_encoder encoder.old) (λ b. FillsStretch (stretch_of_block first count b) first count result packets.old packets.new) }
+    requires { IsSome (kept_as block_encoder_in encoder.old) }
+    ensures fills { IsSomeAnd (kept_as block_encoder_in encoder.old) (λ b. FillsStretch (stretch_of_block first count b) first count result packets.old packets.new) }
     ensures same { kept_coder encoder.new ≡ kept_coder encoder.old }
 {
-    let coder = encoder.take(alloc);
-    let ended = write(coder.as_ref(), Ids { first, count }, packets);
-    encoder.put(coder);
-    number(ended)
+    let ids = Ids { first, count };
+    number(of_kept!(encoder, alloc, BlockEncoder, inner => write(inner.deref(), ids, packets)))
 }

@@ -1,15 +1,13 @@
 //! What ends a call without its result, and the numbers that calls answer.
 ghost use Rattle.std.specs.Prelude.{◌≡◌};
-ghost use Rattle.rq_bytes.specs.declared.error.Error.TheVariants.{OutOfMemory};
 ghost use Rattle.raptorq_c.specs.declared.call_end.CallEnd.TheVariants.{Refused};
 ghost use Rattle.raptorq_c.specs.Numbers.{number_of, refusal_number};
 
 use raptorq::error::Error;
-use std::alloc::AllocError;
 
 /// What ends a call without its result. What the codec doesn't refuse has numbers from 24 to 31, which
 /// no refusal has.
-#[derive(Clone, Copy, Debug, PartialEq, Eq)]
+#[derive(Clone, Copy)]
 pub enum CallEnd {
     /// The codec refuses.
     Refused(Error),
@@ -24,14 +22,6 @@ impl From<Error> for CallEnd {
 
     fn from(refusal: Error) -> CallEnd {
         CallEnd::Refused(refusal)
-    }
-}
-
-impl From<AllocError> for CallEnd {
-    ghost from_gives = { λ _ s. s ≡ Refused OutOfMemory };
-
-    fn from(_refused: AllocError) -> CallEnd {
-        CallEnd::Refused(Error::OutOfMemory)
     }
 }
 

@@ -3,10 +3,10 @@ ghost use Rattle.std.specs.Prelude.{◌≡◌};
 ghost use Rattle.rq_bytes.specs.Refusals.{Answers};
 ghost use Rattle.rq_standard.specs.Configuration.{header_bytes, configuration_of_bytes};
 ghost use Rattle.rq_base.specs.RefusedInput.{new_configuration};
-ghost use Rattle.raptorq_c.specs.Numbers.{number_of, refusal_number, Fills, IsNumber};
+ghost use Rattle.raptorq_c.specs.Numbers.{refusal_number, Fills, IsNumber};
 ghost use Rattle.raptorq_c.specs.Headers.{parameters_of, checked_header, cut_configuration, derived_configuration};
 
-use crate::call_end::{CallEnd, number};
+use crate::call_end::refusal;
 use crate::tables::table;
 use raptorq::ObjectTransmissionInformation;
 use raptorq::base::CONFIGURATION_LENGTH;
@@ -15,7 +15,7 @@ use std::alloc::Global;
 
 /// The numbers of a configuration. In C it is `reamertan_parameters`.
 #[repr(C)]
-#[derive(Clone, Copy, Debug, PartialEq, Eq)]
+#[derive(Clone, Copy)]
 pub struct Parameters {
     /// The length of the object, in bytes.
     pub transfer_length: u64,
@@ -27,6 +27,23 @@ pub struct Parameters {
     pub source_blocks: u8,
     /// The symbol alignment, in bytes.
     pub alignment: u8,
+}
+
+// Writes the configuration that was made, and answers the number.
+fn write(
+    made: Result<ObjectTransmissionInformation, Error>,
+    configuration: &mut [u8; CONFIGURATION_LENGTH],
+) -> u8
+    ensures number { result ≡ refusal_number made }
+    ensures fills { Fills header_bytes made result configuration.old configuration.new }
+{
+    match made {
+        Ok(config) => {
+            *configuration = config.serialize();
+            0
+        }
+        Err(refusal) => refusal.code(),
+    }
 }
 
 // The configuration of an object's length that a packet size and a decoder's memory ask for.
@@ -47,10 +64,9 @@ fn derived(
     )
 }
 
-/// The configuration of an object of this length, in bytes, for packets of at most `packet_size`
-/// bytes of payload, and decoders each of whose sub-blocks fits `decoder_memory` bytes. The numbers
-/// are those of `ObjectTransmissionInformation::generate_encoding_parameters`, and 10485760 is its
-/// default memory. Refuses what that refuses.
+/// What `ObjectTransmissionInformation::generate_encoding_parameters` answers of an object's length, for
+/// packets of at most `packet_size` bytes of payload, and decoders each of whose sub-blocks fits
+/// `decoder_memory` bytes, by default 10485760. Refuses what that refuses.
 #[unsafe(no_mangle)]
 pub extern "C" fn reamertan_derive_configuration(
     alloc: Global,
@@ -111,32 +127,10 @@ pub extern "C" fn reamertan_cut(
     ensures number { result ≡ refusal_number (cut_configuration object_length symbol_size block_symbols) }
     ensures fills { Fills header_bytes (cut_configuration object_length symbol_size block_symbols) result configuration.old configuration.new }
 {
-    match cut(object_length, symbol_size, block_symbols) {
-        Ok(cut) => {
-            *configuration = cut.serialize();
-            0
-        }
-        Err(refusal) => refusal.code(),
-    }
-}
-
-// Writes the configuration of these numbers.
-fn write(
-    parameters: &Parameters,
-    configuration: &mut [u8; CONFIGURATION_LENGTH],
-) -> Result<(), CallEnd>
-    ensures number { number_of result ≡ refusal_number (new_configuration (parameters_of parameters.now)) }
-    ensures fills { Fills header_bytes (new_configuration (parameters_of parameters.now)) (number_of result) configuration.old configuration.new }
-{
-    let asked = ObjectTransmissionInformation::new(
-        parameters.transfer_length,
-        parameters.symbol_size,
-        parameters.source_blocks,
-        parameters.sub_blocks,
-        parameters.alignment,
-    )?;
-    *configuration = asked.serialize();
-    Ok(())
+    write(
+        cut(object_length, symbol_size, block_symbols),
+        configuration,
+    )
 }
 
 /// The twelve bytes of a configuration of these numbers, refused as
@@ -149,7 +143,14 @@ pub extern "C" fn reamertan_write_configuration(
     ensures number { result ≡ refusal_number (new_configuration (parameters_of parameters.now)) }
     ensures fills { Fills header_bytes (new_configuration (parameters_of parameters.now)) result configuration.old configuration.new }
 {
-    number(write(parameters, configuration))
+    let asked = ObjectTransmissionInformation::new(
+        parameters.transfer_length,
+        parameters.symbol_size,
+        parameters.source_blocks,
+        parameters.sub_blocks,
+        parameters.alignment,
+    );
+    write(asked, configuration)
 }
 
 /// The numbers of the configuration that twelve bytes spell, whether or not coders take it.
@@ -171,12 +172,11 @@ pub extern "C" fn reamertan_read_configuration(
 }
 
 // Tests that coders take a configuration.
-fn check(alloc: Global, configuration: &[u8; CONFIGURATION_LENGTH]) -> Result<(), CallEnd>
-    ensures { IsNumber (number_of result) (checked_header configuration.now) }
+fn check(alloc: Global, configuration: &[u8; CONFIGURATION_LENGTH]) -> Result<(), Error>
+    ensures { IsNumber (refusal_number result) (checked_header configuration.now) }
 {
     let table = table(alloc)?;
-    ObjectTransmissionInformation::deserialize(configuration).check(&table)?;
-    Ok(())
+    ObjectTransmissionInformation::deserialize(configuration).check(&table)
 }
 
 /// Whether encoders and decoders take the configuration that twelve bytes spell:
@@ -188,5 +188,5 @@ pub extern "C" fn reamertan_check_configuration(
 ) -> u8
     ensures { IsNumber result (checked_header configuration.now) }
 {
-    number(check(alloc, configuration))
+    refusal(check(alloc, configuration))
 }

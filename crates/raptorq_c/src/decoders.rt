@@ -1,10 +1,9 @@
 //! Decoders of objects that C keeps: packets in, and the object once they determine it.
 ghost use Rattle.std.specs.Prelude.{◌≡◌, ◌≢◌, None, IsSome, IsSomeAnd, OnOk, OnErr, is_some, slice_index};
-ghost use Rattle.std.specs.Result.{result_unwrap_or};
 ghost use Rattle.rq_bytes.specs.Refusals.{Answers};
 ghost use Rattle.rq_standard.specs.DecoderState.{result_of};
 ghost use Rattle.raptorq.specs.Decoder.{state_of};
-ghost use Rattle.raptorq_c.specs.Coders.{kept_coder, decoder_at, kept_decoder, Changes};
+ghost use Rattle.raptorq_c.specs.Coders.{kept_coder, slot_as, decoder_in, kept_as, Changes};
 ghost use Rattle.raptorq_c.specs.Decoders.{gets_block, has_block as has_block_of, FillsWithBlock, FillsWithResult, IsNewDecoder, WritesMissing};
 ghost use Rattle.raptorq_c.specs.Frames.{AreAdded, IsAdded};
 ghost use Rattle.rq_standard.specs.Streams.{frame_size};
@@ -14,7 +13,7 @@ ghost use Rattle.raptorq_c.specs.Numbers.{number_of, refusal_number, IsNumber};
 use crate::buffers::fill_answer;
 use crate::call_end::{CallEnd, number, refusal};
 use crate::frames::{Receiver, add_whole};
-use crate::kept::{Coder, Kept};
+use crate::kept::{Coder, Kept, of_kept};
 use crate::slot::Slot;
 use crate::tables::table;
 use raptorq::base::CONFIGURATION_LENGTH;
@@ -30,7 +29,7 @@ fn open(
 ) -> Result<(), Error>
     requires { decoder.old.value ≡ None }
     ensures refused { Answers (λ _. tt) result (checked_header configuration.now) }
-    ensures decoder { OnOk result (IsSomeAnd (decoder_at decoder.new) (IsNewDecoder configuration.now)) }
+    ensures decoder { OnOk result (IsSomeAnd (slot_as decoder_in decoder.new) (IsNewDecoder configuration.now)) }
     ensures null { OnErr result (decoder.new.value ≡ None) }
 {
     let table = table(alloc)?;
@@ -41,8 +40,7 @@ fn open(
 
 /// Makes the decoder of an object in this configuration, and writes a pointer to it over a null one.
 ///
-/// Refuses what `Decoder::new` refuses. Want of memory may come before any of that. Where it refuses, the
-/// pointer stays null.
+/// Refuses what `Decoder::new` refuses, or for want of memory. The pointer stays null then.
 #[unsafe(no_mangle)]
 pub extern "C" fn reamertan_decoder_open(
     alloc: Global,
@@ -51,7 +49,7 @@ pub extern "C" fn reamertan_decoder_open(
 ) -> u8
     requires null { decoder.old.value ≡ None }
     ensures number { IsNumber result (checked_header configuration.now) }
-    ensures decoder { result ≡ 0 → IsSomeAnd (decoder_at decoder.new) (IsNewDecoder configuration.now) }
+    ensures decoder { result ≡ 0 → IsSomeAnd (slot_as decoder_in decoder.new) (IsNewDecoder configuration.now) }
     ensures null { result ≢ 0 → decoder.new.value ≡ None }
 {
     refusal(open(alloc, decoder, configuration))
@@ -64,25 +62,21 @@ fn has_block(decoder: &Decoder, block: u8) -> bool
     decoder.block_bytes(block).is_some()
 }
 
-// What a packet does, and whether its block is answered by it.
-#[derive(Drop)]
-struct Added {
-    number: u8,
-    completes: bool,
-}
-
-// Takes the packet that bytes spell.
-fn add_telling(alloc: Global, decoder: &mut Decoder, packet: &[u8]) -> Added
-    ensures added { IsAdded decoder.old packet.now result.number decoder.new }
-    ensures told { result.completes ≡ gets_block (state_of decoder.old) (state_of decoder.new) (slice_index packet.now 0) }
+// Takes the packet that bytes spell, and writes whether its block is answered by it.
+fn add_telling(
+    alloc: Global,
+    decoder: &mut Decoder,
+    packet: &[u8],
+    completes: &mut bool,
+) -> Result<(), Error>
+    ensures added { IsAdded decoder.old packet.now (refusal_number result) decoder.new }
+    ensures told { completes.new ≡ gets_block (state_of decoder.old) (state_of decoder.new) (slice_index packet.now 0) }
 {
     let block = packet.first().copied().unwrap_or(0);
     let had = has_block(decoder, block);
-    let number = refusal(decoder.add_bytes(alloc, packet));
-    Added {
-        number,
-        completes: !had && has_block(decoder, block),
-    }
+    let ended = decoder.add_bytes(alloc, packet);
+    *completes = !had && has_block(decoder, block);
+    ended
 }
 
 /// Takes a packet, a payload id of 4 bytes and a symbol, and writes whether its block is complete by it.
@@ -98,18 +92,17 @@ pub extern "C" fn reamertan_decoder_add_packet(
     packet: &[u8],
     completes: &mut bool,
 ) -> u8
-    requires { IsSome (kept_decoder decoder.old) }
-    ensures added { Changes (kept_decoder decoder.old) (kept_decoder decoder.new) (λ old new. IsAdded old packet.now result new) }
-    ensures told { Changes (kept_decoder decoder.old) (kept_decoder decoder.new) (λ old new. completes.new ≡ gets_block (state_of old) (state_of new) (slice_index packet.now 0)) }
+    requires { IsSome (kept_as decoder_in decoder.old) }
+    ensures added { Changes (kept_as decoder_in decoder.old) (kept_as decoder_in decoder.new) (λ old new. IsAdded old packet.now result new) }
+    ensures told { Changes (kept_as decoder_in decoder.old) (kept_as decoder_in decoder.new) (λ old new. completes.new ≡ gets_block (state_of old) (state_of new) (slice_index packet.now 0)) }
 {
     let mut coder = decoder.take(alloc);
     let Coder::Decoder(inner) = coder.as_mut() else {
         unreachable!()
     };
-    let added = add_telling(alloc, inner, packet);
+    let ended = add_telling(alloc, inner, packet, completes);
     decoder.put(coder);
-    *completes = added.completes;
-    added.number
+    refusal(ended)
 }
 
 /// Takes packets that lie one behind another, each a payload id of 4 bytes and a symbol, in their order.
@@ -123,8 +116,8 @@ pub extern "C" fn reamertan_decoder_add_packets(
     decoder: &mut Kept,
     packets: &[u8],
 ) -> u8
-    requires { IsSome (kept_decoder decoder.old) }
-    ensures { Changes (kept_decoder decoder.old) (kept_decoder decoder.new) (λ old new. AreAdded IsAdded (frame_size (state_of old).configuration) old packets.now result new) }
+    requires { IsSome (kept_as decoder_in decoder.old) }
+    ensures { Changes (kept_as decoder_in decoder.old) (kept_as decoder_in decoder.new) (λ old new. AreAdded IsAdded (frame_size (state_of old).configuration) old packets.now result new) }
 {
     let mut coder = decoder.take(alloc);
     let Coder::Decoder(inner) = coder.as_mut() else {
@@ -139,28 +132,22 @@ pub extern "C" fn reamertan_decoder_add_packets(
 /// Whether the packets that were taken determine the object.
 #[unsafe(no_mangle)]
 pub extern "C" fn reamertan_decoder_is_complete(alloc: Global, decoder: &mut Kept) -> bool
-    requires { IsSome (kept_decoder decoder.old) }
-    ensures complete { IsSomeAnd (kept_decoder decoder.old) (λ d. result ≡ is_some (result_of (state_of d))) }
+    requires { IsSome (kept_as decoder_in decoder.old) }
+    ensures complete { IsSomeAnd (kept_as decoder_in decoder.old) (λ d. result ≡ is_some (result_of (state_of d))) }
     ensures same { kept_coder decoder.new ≡ kept_coder decoder.old }
 {
-    let coder = decoder.take(alloc);
-    let Coder::Decoder(inner) = coder.as_ref() else {
-        unreachable!()
-    };
-    let complete = inner.is_complete();
-    decoder.put(coder);
-    complete
+    of_kept!(decoder, alloc, Decoder, inner => inner.is_complete())
 }
 
-// How many packets more a block needs at least.
-fn missing_count(decoder: &Decoder, block: u8) -> Result<u32, Error>
-    // What a call does that writes it over a 0.
-    ensures { WritesMissing decoder.now block (refusal_number result) 0 (result_unwrap_or result 0) }
+// Writes how many packets more a block needs at least.
+fn write_missing(decoder: &Decoder, block: u8, packets: &mut u32) -> Result<(), Error>
+    ensures { WritesMissing decoder.now block (refusal_number result) packets.old packets.new }
 {
-    match decoder.missing_packets(block)? {
-        Some(count) => Ok(count),
-        None => Err(Error::Contradiction),
-    }
+    let Some(count) = decoder.missing_packets(block)? else {
+        return Err(Error::Contradiction);
+    };
+    *packets = count;
+    Ok(())
 }
 
 /// Writes how many packets more source block `block` needs at least, of ids that weren't taken yet:
@@ -175,23 +162,11 @@ pub extern "C" fn reamertan_decoder_missing(
     block: u8,
     packets: &mut u32,
 ) -> u8
-    requires { IsSome (kept_decoder decoder.old) }
-    ensures writes { IsSomeAnd (kept_decoder decoder.old) (λ d. WritesMissing d block result packets.old packets.new) }
+    requires { IsSome (kept_as decoder_in decoder.old) }
+    ensures writes { IsSomeAnd (kept_as decoder_in decoder.old) (λ d. WritesMissing d block result packets.old packets.new) }
     ensures same { kept_coder decoder.new ≡ kept_coder decoder.old }
 {
-    let coder = decoder.take(alloc);
-    let Coder::Decoder(inner) = coder.as_ref() else {
-        unreachable!()
-    };
-    let counted = missing_count(inner, block);
-    decoder.put(coder);
-    match counted {
-        Ok(count) => {
-            *packets = count;
-            0
-        }
-        Err(refusal) => refusal.code(),
-    }
+    refusal(of_kept!(decoder, alloc, Decoder, inner => write_missing(inner, block, packets)))
 }
 
 // Fills a buffer with the object's bytes in a block.
@@ -216,17 +191,11 @@ pub extern "C" fn reamertan_decoder_write_block(
     block: u8,
     bytes: &mut [u8],
 ) -> u8
-    requires { IsSome (kept_decoder decoder.old) }
-    ensures fills { IsSomeAnd (kept_decoder decoder.old) (λ d. FillsWithBlock (state_of d) block result bytes.old bytes.new) }
+    requires { IsSome (kept_as decoder_in decoder.old) }
+    ensures fills { IsSomeAnd (kept_as decoder_in decoder.old) (λ d. FillsWithBlock (state_of d) block result bytes.old bytes.new) }
     ensures same { kept_coder decoder.new ≡ kept_coder decoder.old }
 {
-    let coder = decoder.take(alloc);
-    let Coder::Decoder(inner) = coder.as_ref() else {
-        unreachable!()
-    };
-    let ended = write_part(inner, block, bytes);
-    decoder.put(coder);
-    number(ended)
+    number(of_kept!(decoder, alloc, Decoder, inner => write_part(inner, block, bytes)))
 }
 
 // Fills a buffer with the object.
@@ -253,15 +222,9 @@ pub extern "C" fn reamertan_decoder_write_object(
     decoder: &mut Kept,
     object: &mut [u8],
 ) -> u8
-    requires { IsSome (kept_decoder decoder.old) }
-    ensures fills { IsSomeAnd (kept_decoder decoder.old) (λ d. FillsWithResult (state_of d) result object.old object.new) }
+    requires { IsSome (kept_as decoder_in decoder.old) }
+    ensures fills { IsSomeAnd (kept_as decoder_in decoder.old) (λ d. FillsWithResult (state_of d) result object.old object.new) }
     ensures same { kept_coder decoder.new ≡ kept_coder decoder.old }
 {
-    let coder = decoder.take(alloc);
-    let Coder::Decoder(inner) = coder.as_ref() else {
-        unreachable!()
-    };
-    let ended = write_all(inner, object);
-    decoder.put(coder);
-    number(ended)
+    number(of_kept!(decoder, alloc, Decoder, inner => write_all(inner, object)))
 }

@@ -1,52 +1,47 @@
 //! Packets in, their object out.
-ghost use Rattle.std.specs.Prelude.{◌≡◌, ◌<◌, map, IfOk};
-ghost use Rattle.rq_bytes.specs.Refusals.{Answers};
-ghost use Rattle.rq_standard.specs.Packet.{packet_of_bytes};
-ghost use Rattle.raptorq.specs.Runs.{packets_of};
-ghost use Rattle.rq_standard.specs.Streams.{frames_in};
-ghost use Rattle.raptorq_c.specs.ObjectBuffers.{frames_refusal, FillsWithObject};
+ghost use Rattle.rq_rows.specs.FullTable.{full_rows};
+ghost use Rattle.rq_standard.specs.Configuration.{configuration_of_bytes};
+ghost use Rattle.raptorq_c.specs.ObjectBuffers.{FillsWithObject};
 ghost use Rattle.raptorq_c.specs.Numbers.{number_of};
 
 use crate::buffers::fill_answer;
 use crate::call_end::{CallEnd, number};
+use crate::frames::add_frames;
 use crate::tables::table;
+use raptorq::ObjectTransmissionInformation;
 use raptorq::base::CONFIGURATION_LENGTH;
 use raptorq::decoder::decode_all;
-use raptorq::encoder::SPARSE_MATRIX_THRESHOLD;
-use raptorq::error::Error;
-use raptorq::{EncodingPacket, ObjectTransmissionInformation};
+use raptorq::systematic_constants::SystematicTable;
 use std::alloc::Global;
 
-// The packets that frames of `size` bytes spell, each with the sparse threshold that is set before it.
-fn steps(alloc: Global, size: usize, bytes: &[u8]) -> Result<Vec<(u32, EncodingPacket)>, Error>
-    requires { 0 < size }
-    ensures packets { IfOk result (λ v. packets_of v.items ≡ map packet_of_bytes (frames_in size bytes.now)) }
-    ensures refused { Answers (λ _. tt) result (frames_refusal (frames_in size bytes.now)) }
+// Fills a buffer with the object of packets in a configuration, where they determine it.
+fn decode_in(
+    alloc: Global,
+    table: &SystematicTable,
+    config: ObjectTransmissionInformation,
+    packets: &[u8],
+    object: &mut [u8],
+) -> Result<(), CallEnd>
+    ensures { FillsWithObject table.now config packets.now (number_of result) object.old object.new }
 {
-    let mut steps = Vec::with_capacity(alloc, bytes.len() / size)?;
-    for frame in bytes.chunks(size) {
-        steps.push((
-            SPARSE_MATRIX_THRESHOLD,
-            EncodingPacket::deserialize(alloc, frame)?,
-        ))?;
-    }
-    Ok(steps)
+    let mut steps = Vec::new(alloc);
+    add_frames(alloc, &mut steps, config.frame_size(), packets)?;
+    let answer = decode_all(alloc, table, config, steps)?;
+    fill_answer(object, answer.as_deref())
 }
 
-// Fills a buffer of the caller's with the object of packets, where they determine it.
+// The same of the configuration that twelve bytes spell, over all rows.
 fn decode(
     alloc: Global,
     configuration: &[u8; CONFIGURATION_LENGTH],
     packets: &[u8],
     object: &mut [u8],
 ) -> Result<(), CallEnd>
-    ensures { FillsWithObject configuration.now packets.now (number_of result) object.old object.new }
+    ensures { FillsWithObject full_rows (configuration_of_bytes configuration.now) packets.now (number_of result) object.old object.new }
 {
     let table = table(alloc)?;
     let config = ObjectTransmissionInformation::deserialize(configuration);
-    let steps = steps(alloc, config.frame_size(), packets)?;
-    let answer = decode_all(alloc, &table, config, steps)?;
-    fill_answer(object, answer.as_deref())
+    decode_in(alloc, &table, config, packets, object)
 }
 
 /// Fills a buffer with the object of packets, in any order, each any number of times, where they
@@ -62,7 +57,7 @@ pub extern "C" fn reamertan_decode(
     packets: &[u8],
     object: &mut [u8],
 ) -> u8
-    ensures { FillsWithObject configuration.now packets.now result object.old object.new }
+    ensures { FillsWithObject full_rows (configuration_of_bytes configuration.now) packets.now result object.old object.new }
 {
     number(decode(alloc, configuration, packets, object))
 }

@@ -2,13 +2,14 @@
 ghost use Rattle.std.specs.Prelude.{◌≡◌, ◌≢◌, ◌⊎◌, length, None, IsSome, IsSomeAnd, IfErr, OnOk, OnErr};
 ghost use Rattle.rq_rows.specs.FullTable.{full_rows};
 ghost use Rattle.rq_standard.specs.Configuration.{configuration_of_bytes};
+ghost use Rattle.raptorq.specs.Encoder.{encoded_of};
 ghost use Rattle.raptorq.specs.Refused.{RefusesEncoder};
-ghost use Rattle.raptorq_c.specs.Coders.{kept_coder, encoder_at, encoder_in, kept_encoder};
+ghost use Rattle.raptorq_c.specs.Coders.{kept_coder, slot_as, encoder_in, kept_as};
 ghost use Rattle.raptorq_c.specs.Encoders.{IsEncoderIn, stretch_of_object, FillsStretch};
 ghost use Rattle.raptorq_c.specs.Numbers.{number_of, IsCodeWhere};
 
 use crate::call_end::{CallEnd, number, refusal};
-use crate::kept::{Coder, Kept};
+use crate::kept::{Coder, Kept, of_kept};
 use crate::slot::Slot;
 use crate::stretches::{Ids, block_encoder, fill_stretch};
 use crate::tables::table;
@@ -28,7 +29,7 @@ fn open(
 ) -> Result<(), Error>
     requires { encoder.old.value ≡ None }
     ensures refused { IfErr result (λ e. (e ≡ Error.OutOfMemory) ⊎ RefusesEncoder full_rows (configuration_of_bytes configuration.now) (length object.now) e) }
-    ensures encoder { OnOk result (IsSomeAnd (encoder_at encoder.new) (IsEncoderIn configuration.now object.now)) }
+    ensures encoder { OnOk result (IsSomeAnd (slot_as encoder_in encoder.new) (IsEncoderIn configuration.now object.now)) }
     ensures null { OnErr result (encoder.new.value ≡ None) }
 {
     let table = table(alloc)?;
@@ -39,8 +40,7 @@ fn open(
 
 /// Makes the encoder of an object in this configuration, and writes a pointer to it over a null one.
 ///
-/// Refuses what `Encoder::new` refuses. Want of memory may come before any of that. Where it refuses, the
-/// pointer stays null.
+/// Refuses what `Encoder::new` refuses, or for want of memory. The pointer stays null then.
 #[unsafe(no_mangle)]
 pub extern "C" fn reamertan_encoder_open(
     alloc: Global,
@@ -50,23 +50,18 @@ pub extern "C" fn reamertan_encoder_open(
 ) -> u8
     requires null { encoder.old.value ≡ None }
     ensures refused { result ≢ 0 → (result ≡ 21) ⊎ IsCodeWhere (RefusesEncoder full_rows (configuration_of_bytes configuration.now) (length object.now)) result }
-    ensures encoder { result ≡ 0 → IsSomeAnd (encoder_at encoder.new) (IsEncoderIn configuration.now object.now) }
+    ensures encoder { result ≡ 0 → IsSomeAnd (slot_as encoder_in encoder.new) (IsEncoderIn configuration.now object.now) }
     ensures null { result ≢ 0 → encoder.new.value ≡ None }
 {
     refusal(open(alloc, encoder, configuration, object))
 }
 
-// Fills a buffer with packets of a block, where the coder is an object's encoder.
-fn write(coder: &Coder, block: u8, ids: Ids, packets: &mut [u8]) -> Result<(), CallEnd>
-    requires { IsSome (encoder_in coder.now) }
-    ensures { IsSomeAnd (encoder_in coder.now) (λ e. FillsStretch (stretch_of_object block ids.first ids.count e) ids.first ids.count
-        (number_of result) packets.old packets.new) }
+// Fills a buffer with packets of a block.
+fn write(encoder: &Encoder, block: u8, ids: Ids, packets: &mut [u8]) -> Result<(), CallEnd>
+    ensures { FillsStretch (stretch_of_object block ids.first ids.count (encoded_of encoder.now)) ids.first ids.count (number_of result) packets.old packets.new }
 {
-    let Coder::Encoder(encoder) = coder else {
-        unreachable!()
-    };
     let end = ids.end()?;
-    let found = block_encoder(encoder.deref(), block)?;
+    let found = block_encoder(encoder, block)?;
     fill_stretch(found, ids.first, end, packets)
 }
 
@@ -84,12 +79,10 @@ pub extern "C" fn reamertan_encoder_write(
     count: u32,
     packets: &mut [u8],
 ) -> u8
-    requires { IsSome (kept_encoder encoder.old) }
-    ensures fills { IsSomeAnd (kept_encoder encoder.old) (λ e. FillsStretch (stretch_of_object block first count e) first count result packets.old packets.new) }
+    requires { IsSome (kept_as encoder_in encoder.old) }
+    ensures fills { IsSomeAnd (kept_as encoder_in encoder.old) (λ e. FillsStretch (stretch_of_object block first count e) first count result packets.old packets.new) }
     ensures same { kept_coder encoder.new ≡ kept_coder encoder.old }
 {
-    let coder = encoder.take(alloc);
-    let ended = write(coder.as_ref(), block, Ids { first, count }, packets);
-    encoder.put(coder);
-    number(ended)
+    let ids = Ids { first, count };
+    number(of_kept!(encoder, alloc, Encoder, inner => write(inner.deref(), block, ids, packets)))
 }

@@ -2,10 +2,11 @@
 ghost use Rattle.std.specs.Prelude.{◌≡◌, ◌<◌, ℕ, List};
 ghost use Rattle.rq_standard.specs.Streams.{frames_in};
 ghost use Rattle.raptorq.specs.InTurn.{block_of};
-ghost use Rattle.raptorq_c.specs.Frames.{AddsFrames, AreAdded, IsAdded, IsAddedHere};
+ghost use Rattle.raptorq_c.specs.Frames.{AddsFrames, AreAdded, IsAdded, IsAddedHere, IsListed};
 ghost use Rattle.raptorq_c.specs.Numbers.{refusal_number};
 
 use raptorq::decoder::ObjectBlock;
+use raptorq::encoder::SPARSE_MATRIX_THRESHOLD;
 use raptorq::error::Error;
 use raptorq::{Decoder, EncodingPacket};
 use std::alloc::Global;
@@ -36,8 +37,19 @@ impl Receiver for ObjectBlock {
     }
 }
 
-// Takes the packets that frames of `size` bytes spell, until one is refused.
-fn add_frames<R: Receiver>(
+/// A list of packets, each with the sparse threshold that is set before it, gets one more.
+impl Receiver for Vec<(u32, EncodingPacket)> {
+    ghost takes = { λ old bytes answer new. IsListed old.items bytes answer new.items };
+
+    fn add_bytes(&mut self, alloc: Global, packet: &[u8]) -> Result<(), Error> {
+        let packet = EncodingPacket::deserialize(alloc, packet)?;
+        self.push((SPARSE_MATRIX_THRESHOLD, packet))?;
+        Ok(())
+    }
+}
+
+/// Takes the packets that frames of `size` bytes spell, until one is refused.
+pub(crate) fn add_frames<R: Receiver>(
     alloc: Global,
     receiver: &mut R,
     size: usize,

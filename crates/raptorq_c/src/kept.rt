@@ -85,3 +85,18 @@ impl Kept {
         *self = Kept::of(coder);
     }
 }
+
+/// What an expression says of the coder of one kind that is kept, which stays there.
+macro_rules! of_kept {
+    ($kept:ident, $alloc:ident, $kind:ident, $inner:ident => $said:expr) => {{
+        let coder = $kept.take($alloc);
+        let Coder::$kind($inner) = coder.as_ref() else {
+            unreachable!()
+        };
+        let said = $said;
+        $kept.put(coder);
+        said
+    }};
+}
+
+pub(crate) use of_kept;

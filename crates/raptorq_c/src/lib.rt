@@ -3,7 +3,7 @@
 //! A configuration crosses as the twelve bytes that go before a stream's packets, an object and
 //! packets as buffers of the caller's, and an answer as a number: 0, that of a refusal, or one from
 //! 24 to 31, which are this library's. A call that answers another number than 0 leaves the caller's
-//! buffers as they were. The table is that of all rows (RFC 6330, 5.6).
+//! buffers as they were, but `completes`. The table is that of all rows (RFC 6330, 5.6).
 //!
 //! Encoders, plans and decoders are kept behind pointers. C hands each to the calls of its kind alone,
 //! which is what their `requires` ask: its types see to it.
@@ -26,8 +26,6 @@ mod sizes;
 mod slot;
 mod stretches;
 mod tables;
-#[cfg(test)]
-mod tests;
 mod twins;
 mod version;
 

@@ -11,7 +11,7 @@ use std::alloc::Global;
 
 /// Where bytes begin, and where they end. In C it is `reamertan_range`.
 #[repr(C)]
-#[derive(Clone, Copy, Debug, PartialEq, Eq)]
+#[derive(Clone, Copy)]
 pub struct Range {
     /// The place of the first byte.
     pub start: u64,

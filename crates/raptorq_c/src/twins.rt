@@ -1,6 +1,7 @@
 //! Further pointers: to one encoder or plan, or to a copy of a decoder.
-ghost use Rattle.std.specs.Prelude.{◌≡◌, ◌≢◌, ◌⊎◌, None, IsSome, IfOk, IfErr, OnOk, OnErr};
-ghost use Rattle.raptorq_c.specs.Coders.{block_decoder_at, block_decoder_in, kept_block_decoder, block_encoder_at, block_encoder_in, kept_block_encoder, kept_coder, decoder_at, decoder_in, kept_decoder, encoder_at, encoder_in, kept_encoder, plan_at, plan_in, kept_plan, solving_in, state_in};
+ghost use Rattle.std.specs.Prelude.{◌≡◌, ◌≢◌, ◌⊎◌, None, IsSome, IfOk, IfErr, OnOk, OnErr, option_map};
+ghost use Rattle.raptorq.specs.Decoder.{state_of, solving_of_blocks};
+ghost use Rattle.raptorq_c.specs.Coders.{slot_as, block_decoder_in, kept_as, block_encoder_in, kept_coder, decoder_in, encoder_in, plan_in};
 
 use crate::call_end::refusal;
 use crate::kept::{Coder, Kept};
@@ -30,8 +31,8 @@ fn twin_of(coder: &Coder) -> Result<Coder, Error>
     ensures encoder { IfOk result (λ twin. encoder_in twin ≡ encoder_in coder.now) }
     ensures plan { IfOk result (λ twin. plan_in twin ≡ plan_in coder.now) }
     ensures block_encoder { IfOk result (λ twin. block_encoder_in twin ≡ block_encoder_in coder.now) }
-    ensures decoder { IfOk result (λ twin. state_in (decoder_in twin) ≡ state_in (decoder_in coder.now)) }
-    ensures solving { IfOk result (λ twin. solving_in (decoder_in twin) ≡ solving_in (decoder_in coder.now)) }
+    ensures decoder { IfOk result (λ twin. option_map state_of (decoder_in twin) ≡ option_map state_of (decoder_in coder.now)) }
+    ensures solving { IfOk result (λ twin. option_map solving_of_blocks (decoder_in twin) ≡ option_map solving_of_blocks (decoder_in coder.now)) }
     ensures block_decoder { IfOk result (λ twin. block_decoder_in twin ≡ block_decoder_in coder.now) }
     ensures memory { IfErr result (λ e. e ≡ Error.OutOfMemory) }
 {
@@ -49,12 +50,12 @@ fn twin_of(coder: &Coder) -> Result<Coder, Error>
 fn keep_twin(alloc: Global, kept: &mut Kept, twin: &mut Slot) -> Result<(), Error>
     requires kept { IsSome (kept_coder kept.old) }
     requires null { twin.old.value ≡ None }
-    ensures encoder { OnOk result (encoder_at twin.new ≡ kept_encoder kept.old) }
-    ensures plan { OnOk result (plan_at twin.new ≡ kept_plan kept.old) }
-    ensures block_encoder { OnOk result (block_encoder_at twin.new ≡ kept_block_encoder kept.old) }
-    ensures decoder { OnOk result (state_in (decoder_at twin.new) ≡ state_in (kept_decoder kept.old)) }
-    ensures solving { OnOk result (solving_in (decoder_at twin.new) ≡ solving_in (kept_decoder kept.old)) }
-    ensures block_decoder { OnOk result (block_decoder_at twin.new ≡ kept_block_decoder kept.old) }
+    ensures encoder { OnOk result (slot_as encoder_in twin.new ≡ kept_as encoder_in kept.old) }
+    ensures plan { OnOk result (slot_as plan_in twin.new ≡ kept_as plan_in kept.old) }
+    ensures block_encoder { OnOk result (slot_as block_encoder_in twin.new ≡ kept_as block_encoder_in kept.old) }
+    ensures decoder { OnOk result (option_map state_of (slot_as decoder_in twin.new) ≡ option_map state_of (kept_as decoder_in kept.old)) }
+    ensures solving { OnOk result (option_map solving_of_blocks (slot_as decoder_in twin.new) ≡ option_map solving_of_blocks (kept_as decoder_in kept.old)) }
+    ensures block_decoder { OnOk result (slot_as block_decoder_in twin.new ≡ kept_as block_decoder_in kept.old) }
     ensures memory { IfErr result (λ e. e ≡ Error.OutOfMemory) }
     ensures null { OnErr result (twin.new.value ≡ None) }
     ensures same { kept_coder kept.new ≡ kept_coder kept.old }
@@ -71,10 +72,10 @@ fn keep_twin(alloc: Global, kept: &mut Kept, twin: &mut Slot) -> Result<(), Erro
 /// The one refusal is want of memory: then the pointer stays null.
 #[unsafe(no_mangle)]
 pub extern "C" fn reamertan_encoder_share(alloc: Global, encoder: &mut Kept, twin: &mut Slot) -> u8
-    requires encoder { IsSome (kept_encoder encoder.old) }
+    requires encoder { IsSome (kept_as encoder_in encoder.old) }
     requires null { twin.old.value ≡ None }
     ensures number { (result ≡ 0) ⊎ (result ≡ 21) }
-    ensures encoder { result ≡ 0 → encoder_at twin.new ≡ kept_encoder encoder.old }
+    ensures encoder { result ≡ 0 → slot_as encoder_in twin.new ≡ kept_as encoder_in encoder.old }
     ensures null { result ≢ 0 → twin.new.value ≡ None }
     ensures same { kept_coder encoder.new ≡ kept_coder encoder.old }
 {
@@ -84,10 +85,10 @@ pub extern "C" fn reamertan_encoder_share(alloc: Global, encoder: &mut Kept, twi
 /// Writes a further pointer to a plan over a null one, as `reamertan_encoder_share` does.
 #[unsafe(no_mangle)]
 pub extern "C" fn reamertan_plan_share(alloc: Global, plan: &mut Kept, twin: &mut Slot) -> u8
-    requires plan { IsSome (kept_plan plan.old) }
+    requires plan { IsSome (kept_as plan_in plan.old) }
     requires null { twin.old.value ≡ None }
     ensures number { (result ≡ 0) ⊎ (result ≡ 21) }
-    ensures plan { result ≡ 0 → plan_at twin.new ≡ kept_plan plan.old }
+    ensures plan { result ≡ 0 → slot_as plan_in twin.new ≡ kept_as plan_in plan.old }
     ensures null { result ≢ 0 → twin.new.value ≡ None }
     ensures same { kept_coder plan.new ≡ kept_coder plan.old }
 {
@@ -101,10 +102,10 @@ pub extern "C" fn reamertan_block_encoder_share(
     encoder: &mut Kept,
     twin: &mut Slot,
 ) -> u8
-    requires encoder { IsSome (kept_block_encoder encoder.old) }
+    requires encoder { IsSome (kept_as block_encoder_in encoder.old) }
     requires null { twin.old.value ≡ None }
     ensures number { (result ≡ 0) ⊎ (result ≡ 21) }
-    ensures encoder { result ≡ 0 → block_encoder_at twin.new ≡ kept_block_encoder encoder.old }
+    ensures encoder { result ≡ 0 → slot_as block_encoder_in twin.new ≡ kept_as block_encoder_in encoder.old }
     ensures null { result ≢ 0 → twin.new.value ≡ None }
     ensures same { kept_coder encoder.new ≡ kept_coder encoder.old }
 {
@@ -117,11 +118,11 @@ pub extern "C" fn reamertan_block_encoder_share(
 /// The one refusal is want of memory: then the pointer stays null.
 #[unsafe(no_mangle)]
 pub extern "C" fn reamertan_decoder_copy(alloc: Global, decoder: &mut Kept, twin: &mut Slot) -> u8
-    requires decoder { IsSome (kept_decoder decoder.old) }
+    requires decoder { IsSome (kept_as decoder_in decoder.old) }
     requires null { twin.old.value ≡ None }
     ensures number { (result ≡ 0) ⊎ (result ≡ 21) }
-    ensures decoder { result ≡ 0 → state_in (decoder_at twin.new) ≡ state_in (kept_decoder decoder.old) }
-    ensures solving { result ≡ 0 → solving_in (decoder_at twin.new) ≡ solving_in (kept_decoder decoder.old) }
+    ensures decoder { result ≡ 0 → option_map state_of (slot_as decoder_in twin.new) ≡ option_map state_of (kept_as decoder_in decoder.old) }
+    ensures solving { result ≡ 0 → option_map solving_of_blocks (slot_as decoder_in twin.new) ≡ option_map solving_of_blocks (kept_as decoder_in decoder.old) }
     ensures null { result ≢ 0 → twin.new.value ≡ None }
     ensures same { kept_coder decoder.new ≡ kept_coder decoder.old }
 {
@@ -135,10 +136,10 @@ pub extern "C" fn reamertan_block_decoder_copy(
     decoder: &mut Kept,
     twin: &mut Slot,
 ) -> u8
-    requires decoder { IsSome (kept_block_decoder decoder.old) }
+    requires decoder { IsSome (kept_as block_decoder_in decoder.old) }
     requires null { twin.old.value ≡ None }
     ensures number { (result ≡ 0) ⊎ (result ≡ 21) }
-    ensures decoder { result ≡ 0 → block_decoder_at twin.new ≡ kept_block_decoder decoder.old }
+    ensures decoder { result ≡ 0 → slot_as block_decoder_in twin.new ≡ kept_as block_decoder_in decoder.old }
     ensures null { result ≢ 0 → twin.new.value ≡ None }
     ensures same { kept_coder decoder.new ≡ kept_coder decoder.old }
 {

@@ -1,9 +1,7 @@
-use Rattle.std.proofs.Common.{◌+◌, Some, ap, ◌∙◌, sym, subst}
+use Rattle.raptorq_c.proofs.Names.{◌+◌, Some, ap, ◌∙◌, sym, subst, Coder, AreAdded, refusal_number}
 use Rattle.raptorq.specs.InTurn.{block_of}
 use Rattle.raptorq_c.specs.Coders.{block_decoder_in}
-use Rattle.raptorq_c.specs.declared.kept.Coder.{Coder}
-use Rattle.raptorq_c.specs.Frames.{AreAdded, IsAddedHere}
-use Rattle.raptorq_c.specs.Numbers.{refusal_number}
+use Rattle.raptorq_c.specs.Frames.{IsAddedHere}
 use Rattle.raptorq_c.proofs.FrameSteps.{added_seen}
 use Rattle.raptorq_c.proofs.Held.{changed_kept}
 use Rattle.raptorq_c.proofs.block_decoders.reamertan_block_decoder_add_packets.Goals as goal

@@ -1,9 +1,5 @@
-use Rattle.std.proofs.Common.{◌≡◌, ◌∙◌, ap, length, sym, subst}
-use Rattle.rq_standard.specs.Configuration.{Configuration, configuration_of_bytes}
-use Rattle.rq_block.specs.BlockData.{block_by_plan}
-use Rattle.rq_block.specs.SourceBlockEncoder.{block_encoded_of}
-use Rattle.rq_block.specs.SourceBlockEncodingPlan.{plan_of}
-use Rattle.raptorq_c.specs.Encoders.{planned_refusal, IsPlannedEncoder}
+use Rattle.raptorq_c.proofs.Names.{◌≡◌, ◌∙◌, ap, length, sym, subst, Configuration, configuration_of_bytes, block_by_plan, block_encoded_of, plan_of, planned_refusal}
+use Rattle.raptorq_c.specs.Encoders.{IsPlannedEncoder}
 use Rattle.raptorq_c.proofs.PlannedBlocks.{planned_over}
 use Rattle.raptorq_c.proofs.block_encoders.planned_encoder.Goals as goal
 

@@ -1,10 +1,7 @@
-use Rattle.std.proofs.Common.{◌≡◌, ◌<◌, ap, ◌∙◌, sym, subst}
+use Rattle.raptorq_c.proofs.Names.{◌≡◌, ◌<◌, ap, ◌∙◌, sym, subst, Configuration, state_of, IsPartOf}
 use Rattle.std.specs.Option.{option_copied}
-use Rattle.rq_standard.specs.Configuration.{Configuration}
-use Rattle.raptorq.specs.Decoder.{state_of}
 use Rattle.raptorq.proofs.AnsweredParts.{parts_of_decoder, parts_are_objects}
 use Rattle.raptorq.specs.BlockBytes.{AnswersPart}
-use Rattle.raptorq_c.specs.Decoders.{IsPartOf}
 use Rattle.raptorq_c.proofs.Answering.{fills_block}
 use Rattle.raptorq_c.proofs.decoders.write_part.Goals as goal
 

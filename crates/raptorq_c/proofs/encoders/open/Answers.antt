@@ -1,14 +1,10 @@
-use Rattle.std.proofs.Common.{◌≡◌, ◌∙◌, length, Ok, sym, subst, inr}
-use Rattle.std.proofs.lemmas.Result.{err_from_is_err_and, on_ok_weaker}
-use Rattle.rq_standard.specs.Configuration.{configuration_of_bytes}
+use Rattle.raptorq_c.proofs.Names.{◌≡◌, ◌∙◌, length, Ok, sym, subst, inr, err_from_is_err_and, on_ok_weaker, configuration_of_bytes, greatest_size, encoded_of}
 use Rattle.rq_standard.specs.Headline.{HasNonsingularRows}
-use Rattle.rq_standard.specs.TableRows.{greatest_size}
-use Rattle.raptorq.specs.Encoder.{encoded_of, IsEncoderOf}
+use Rattle.raptorq.specs.Encoder.{IsEncoderOf}
 use Rattle.raptorq.specs.Refused.{new_encoder, RefusesEncoder}
-use Rattle.raptorq_c.specs.Coders.{coder_at, encoder_in}
+use Rattle.raptorq_c.specs.Coders.{encoder_in, coder_at}
 use Rattle.raptorq_c.specs.Encoders.{IsEncoderIn}
-use Rattle.raptorq_c.proofs.Held.{said_kept}
-use Rattle.raptorq_c.proofs.Overs.{over}
+use Rattle.raptorq_c.proofs.Held.{over, said_kept}
 use Rattle.raptorq_c.proofs.encoders.open.Goals as goal
 
 pub returns-in_err-made-clause-refused : goal.returns-in_err-made-clause-refused

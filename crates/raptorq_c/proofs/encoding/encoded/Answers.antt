@@ -1,10 +1,7 @@
-use Rattle.std.proofs.Common.{[], length, ap, refl}
-use Rattle.std.proofs.lemmas.Result.{err_from_is_err_and}
-use Rattle.rq_bytes.specs.Error.{code_of}
-use Rattle.rq_standard.specs.Configuration.{configuration_of_bytes}
-use Rattle.raptorq.specs.Appended.{AppendsObject, RefusesPackets}
+use Rattle.raptorq_c.proofs.Names.{[], length, ap, refl, err_from_is_err_and, code_of, configuration_of_bytes, AppendsObject}
+use Rattle.raptorq.specs.Appended.{RefusesPackets}
 use Rattle.raptorq_c.specs.PacketBuffers.{no_memory, refused}
-use Rattle.raptorq_c.proofs.Overs.{over}
+use Rattle.raptorq_c.proofs.Held.{over}
 use Rattle.raptorq_c.proofs.encoding.encoded.Goals as goal
 
 pub returns-in_err-table-clause-stopped : goal.returns-in_err-table-clause-stopped

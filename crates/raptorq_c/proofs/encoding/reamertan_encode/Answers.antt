@@ -1,11 +1,6 @@
-use Rattle.std.proofs.Common.{◌≡◌, ◌≢◌, ℕ, List, length, Result, Ok, Err, refl, sym, ap, ◌∙◌, subst, arith}
-use Rattle.std.specs.Prelude.{OnOk, OnErr}
-use Rattle.rq_bytes.specs.declared.error.Error.{Error}
-use Rattle.rq_bytes.specs.Error.{code_of}
-use Rattle.rq_base.proofs.Accepted.{ok_of}
-use Rattle.raptorq_c.specs.declared.call_end.CallEnd.{CallEnd}
-use Rattle.raptorq_c.specs.PacketBuffers.{FillsWithPackets, IsEncoding, StopsAt, other_length}
-use Rattle.raptorq_c.specs.Numbers.{number_of}
+use Rattle.raptorq_c.proofs.Names.{◌≡◌, ◌≢◌, ℕ, List, length, Result, Ok, Err, refl, sym, ap, ◌∙◌, subst, arith, OnErr, Error, code_of, ok_of, CallEnd, IsEncoding, number_of}
+use Rattle.std.specs.Prelude.{OnOk}
+use Rattle.raptorq_c.specs.PacketBuffers.{FillsWithPackets, StopsAt, other_length}
 use Rattle.raptorq_c.proofs.Ending.{code_positive}
 use Rattle.raptorq_c.proofs.PacketLengths.{packets_room}
 use Rattle.raptorq_c.proofs.encoding.reamertan_encode.Goals as goal

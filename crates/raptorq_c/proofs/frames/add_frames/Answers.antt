@@ -1,7 +1,5 @@
-use Rattle.std.proofs.Common.{min, length, ap, ◌∙◌}
-use Rattle.std.specs.Slice.Iter.{chunks_rest, chunks_size}
-use Rattle.std.proofs.lemmas.Result.{err_from_is_err_and}
-use Rattle.rq_standard.specs.Streams.{frames_in}
+use Rattle.raptorq_c.proofs.Names.{length, ap, ◌∙◌, chunks_rest, chunks_size, err_from_is_err_and, frames_in}
+use Rattle.std.proofs.Common.{min}
 use Rattle.rq_standard.proofs.FrameLaws.{frames_in-next, frames_in-none}
 use Rattle.raptorq_c.proofs.FrameSteps.{taken_none, taken_all, taken_more, taken_some}
 use Rattle.raptorq_c.proofs.frames.add_frames.Goals as goal

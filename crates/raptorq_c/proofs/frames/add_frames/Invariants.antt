@@ -1,6 +1,4 @@
-use Rattle.std.proofs.Common.{◌≡◌}
-use Rattle.std.specs.Slice.Iter.{chunks_size, chunks_rest}
-use Rattle.rq_standard.specs.Streams.{frames_in}
+use Rattle.raptorq_c.proofs.Names.{◌≡◌, chunks_size, chunks_rest, frames_in}
 use Rattle.raptorq_c.proofs.FrameSteps.{TakenBefore}
 use Rattle.raptorq_c.proofs.frames.add_frames.Given as goal
 

@@ -1,11 +1,8 @@
-use Rattle.std.proofs.Common.{◌≡◌, Ok, sym, subst, inr}
-use Rattle.std.proofs.lemmas.Result.{err_from_is_err_and, on_ok_weaker}
+use Rattle.raptorq_c.proofs.Names.{◌≡◌, Ok, sym, subst, inr, err_from_is_err_and, on_ok_weaker, row_of, plan_of, plan_refusal, IsPlanIn}
 use Rattle.rq_standard.specs.Headline.{IsNonsingular}
-use Rattle.rq_standard.specs.TableRows.{row_of}
 use Rattle.rq_block.specs.Planned.{IsPlanOf}
-use Rattle.rq_block.specs.SourceBlockEncodingPlan.{RefusesPlan, plan_of, plan_refusal}
-use Rattle.raptorq_c.specs.Coders.{coder_at, plan_in}
-use Rattle.raptorq_c.specs.Encoders.{IsPlanIn}
+use Rattle.rq_block.specs.SourceBlockEncodingPlan.{RefusesPlan}
+use Rattle.raptorq_c.specs.Coders.{plan_in, coder_at}
 use Rattle.raptorq_c.proofs.Held.{said_kept}
 use Rattle.raptorq_c.proofs.plans.open.Goals as goal
 

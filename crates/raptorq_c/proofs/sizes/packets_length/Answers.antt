@@ -1,13 +1,4 @@
-use Rattle.std.proofs.Common.{◌≡◌, List, inr, subst}
-use Rattle.std.proofs.lemmas.Result.{err_from_is_err_and}
-use Rattle.rq_base.proofs.Accepted.{ok_of}
-use Rattle.rq_base.specs.RefusedInput.{checked_configuration}
-use Rattle.rq_standard.specs.Configuration.{Configuration}
-use Rattle.rq_standard.specs.TableRows.{greatest_size}
-use Rattle.rq_standard.specs.declared.row.TableRow.{TableRow}
-use Rattle.rq_rows.specs.FullTable.{full_rows}
-use Rattle.raptorq.specs.Encoder.{packets_length}
-use Rattle.raptorq_c.specs.Sizes.{bytes_of_packets}
+use Rattle.raptorq_c.proofs.Names.{◌≡◌, List, inr, subst, err_from_is_err_and, ok_of, checked_configuration, Configuration, greatest_size, TableRow, full_rows, packets_length, bytes_of_packets}
 use Rattle.raptorq_c.proofs.Ending.{fills_done, fills_refused}
 use Rattle.raptorq_c.proofs.Sized.{too_many, enough}
 use Rattle.raptorq_c.proofs.sizes.packets_length.Goals as goal

@@ -1,11 +1,4 @@
-use Rattle.std.proofs.Common.{◌≡◌, ◌∙◌, Some, Err, ap, sym, subst}
-use Rattle.std.proofs.lemmas.Option.{slice_get-get_or, slice_get_past}
-use Rattle.rq_base.proofs.Accepted.{ok_of}
-use Rattle.rq_bytes.specs.declared.error.Error.TheVariants.{UnknownBlock}
-use Rattle.rq_block.specs.SourceBlockEncoder.{block_encoded_of}
-use Rattle.rq_block.specs.declared.encoder.block.SourceBlockEncoder.{SourceBlockEncoder}
-use Rattle.raptorq.specs.Encoder.{encoded_of}
-use Rattle.raptorq_c.specs.Encoders.{block_in}
+use Rattle.raptorq_c.proofs.Names.{◌≡◌, Err, subst, ok_of, UnknownBlock, block_encoded_of, encoded_of, block_in}
 use Rattle.raptorq_c.proofs.StretchSteps.{block_found, block_missing}
 use Rattle.raptorq_c.proofs.stretches.block_encoder.Goals as goal
 
@@ -16,10 +9,10 @@ returns-in-Some-clause-found c =
     let x = c.in-Some.found.now in
     let there = c.in-Some.ensures.lookup.3 in
     subst (λ n. block_in e n ≡ ok_of (block_encoded_of x)) c.from.ensures
-    (block_found e blocks c.from.result c.get_block_encoders.ensures x (slice_get-get_or blocks c.from.result x there.0 ∙ ap (λ (b : SourceBlockEncoder). Some b) (sym (there.1 x))))
+    (block_found e blocks c.from.result c.get_block_encoders.ensures x there.0 (there.1 x))
 
 pub returns-in-None-clause-refused : goal.returns-in-None-clause-refused
 returns-in-None-clause-refused c =
     let e = encoded_of c.args.encoder.now in
     let blocks = c.get_block_encoders.result.now in
-    subst (λ n. block_in e n ≡ Err UnknownBlock) c.from.ensures (block_missing e blocks c.from.result c.get_block_encoders.ensures (slice_get_past blocks c.from.result c.in-None.ensures.lookup.3))
+    subst (λ n. block_in e n ≡ Err UnknownBlock) c.from.ensures (block_missing e blocks c.from.result c.get_block_encoders.ensures c.in-None.ensures.lookup.3)

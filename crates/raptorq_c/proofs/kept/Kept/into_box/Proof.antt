@@ -1,43 +1,11 @@
 -- `into_box` hands what the pointer owns to `from_raw`.
 use Rattle.std.proofs.Common.{◌≡◌, List, [], ◌∷◌, ◌++◌, refl, sym, ap, ◌∙◌, subst, Option, Some, IsSome}
-use mir.Raw.{raw as bare}
-use mir.Val.{Val, vptr}
-use base.Fraction.{full_share}
-use base.Logic.{SProp, emp, never, id⊢, fst∗}
-use base.Fml.{ftrue, flft}
-use prog.Wp.{WpFn}
-use types.Logic.{sem}
-use types.Kit.{‵, raw, ◌⊛◌, some, later, prop, at_ret, ◌$◌, ◌∵◌, !, qed, by, move, keep, drop, split, split3, join, fsplit, fjoin, pick, regoal, use0, use1, await, rewrite, feq_i}
-use types.Run.{stop, fld, of_opd, no_more, and_then, first, blocks, exec, returns, enter}
-use types.ByLocal.{alloc_all, pass_all, free_all, look_at, get, get_in, sets, lands_last, env}
-use types.Part.{sub, whole}
-use contract.Monad.{fact, fact_i}
-use contract.BorrowLft.{◌⊑◌}
-use contract.Running.{tables}
-use denote.Exit.{yes}
-use denote.RattleType.{owns}
-use denote.Signature.{types_at, plain}
-use denote.RawPtr.{Ptr, block_ptr, null_ptr, in_a_block}
-use denote.Steps.{nothing, only, heard}
-use denote.Param.{layout}
-use denote.Param.NoDrop.{glues}
-use denote.Triple.Clauses.{Lasts, lasts}
-use denote.Triple.Entry.{alive}
-use denote.Triple.Spec.{triple_of}
-use denote.Triple.Call.{calls_at_last}
-use denote.Triple.Table.{framed}
-use denote.Triple.Walked.{Stays, stay_dropped, walk_of}
-use Rattle.std.proofs.alloc.Calls.{Goes-blank}
-use Rattle.std.proofs.cell.Inside.{Good, one}
-use Rattle.std.proofs.raw_atomic.Walks.{proved_at, leaves}
+use Rattle.raptorq_c.proofs.Walking.{bare, Val, vptr, full_share, SProp, emp, never, id⊢, fst∗, ftrue, flft, WpFn, sem, ‵, raw, ◌⊛◌, some, later, prop, at_ret, ◌$◌, ◌∵◌, !, qed, by, move, keep, drop, split, split3, join, fsplit, fjoin, pick, regoal, use0, use1, await, rewrite, feq_i, stop, fld, of_opd, no_more, and_then, first, blocks}
+use Rattle.raptorq_c.proofs.Walking.{exec, returns, enter, alloc_all, pass_all, free_all, look_at, get, get_in, sets, lands_last, env, sub, whole, fact, fact_i, ◌⊑◌, tables, yes, owns, types_at, plain, Ptr, block_ptr, null_ptr, in_a_block, nothing, only, heard, layout, glues, Lasts, lasts, alive, triple_of, calls_at_last, framed, Stays}
+use Rattle.raptorq_c.proofs.Walking.{stay_dropped, walk_of, Goes-blank, Good, one, proved_at, leaves, ghosts, dict, passed, value_of, box_owns, box_out, box_in, A, LA, dd, word, word_typed, told}
 use Rattle.std.specs.contracts.alloc.Global as global
-use Rattle.std.specs.contracts.impls.GlobalAllocator.TheImpl.{ghosts, dict}
 use Rattle.std.proofs.alloc.Global.TheLaws as heap_laws
-use Rattle.std.proofs.impls.GlobalAllocator.TheImpl.Met.{passed}
-use Rattle.rq_standard.proofs.OptionValues.{value_of}
-use Rattle.std_alloc.specs.Box.Ownership.{box_owns}
 use Rattle.std_alloc.proofs.BoxSteps.Form as box
-use Rattle.std_alloc.proofs.BoxSteps.Steps.{box_out, box_in}
 use Rattle.std_alloc.specs.contracts.boxed.Box.from_raw as callee
 use Rattle.std_alloc.proofs.boxed.Box.from_raw.Met.{met}
 use Rattle.raptorq_c.specs.Kept.{kept_at}
@@ -47,8 +15,7 @@ use Rattle.raptorq_c.specs.contracts.kept.Kept as owned
 use Rattle.raptorq_c.proofs.kept.Coder.TheLaws as coder_laws
 use Rattle.raptorq_c.specs.contracts.kept.Kept.into_box.{ended, clauses}
 use Rattle.raptorq_c.specs.contracts.kept.Kept.into_box.Key.{name as #self}
-use Rattle.raptorq_c.proofs.Boxes.{T, A, LT, LA, dd, E, B}
-use Rattle.raptorq_c.proofs.Pointers.{word, word_typed, told}
+use Rattle.raptorq_c.proofs.Boxes.{T, LT, E, B}
 use Rattle.raptorq_c.proofs.kept.Kept.into_box.Statement.{statement}
 use Rattle.raptorq_c.proofs.kept.Kept.into_box.Code as compiled
 

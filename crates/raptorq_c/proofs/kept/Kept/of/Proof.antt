@@ -1,47 +1,18 @@
 -- `of` takes the box apart, and the pointer owns what it owned.
 use Rattle.std.proofs.Common.{◌≡◌, List, [], ◌∷◌, ◌++◌, refl, ap, Some}
-use mir.Val.{Val}
-use base.Fraction.{full_share}
-use base.Logic.{SProp, emp, id⊢}
-use base.Fml.{ftrue, flft}
-use prog.Wp.{WpFn}
-use types.Kit.{‵, raw, ◌⊛◌, some, later, prop, ◌$◌, ◌∵◌, !, qed, by, move, keep, drop, split, join, fsplit, fjoin, pick, regoal, use0, use1, await, feq_l}
-use types.Run.{of_opd, no_more, and_then, returns, enter}
-use types.ByLocal.{alloc_all, pass_all, free_all, look_at, get, sets, lands_as}
-use types.Part.{agg}
-use contract.Monad.{fact, fact_i}
-use contract.BorrowLft.{◌⊑◌}
-use contract.Running.{tables}
-use denote.Exit.{yes}
-use denote.RattleType.{RattleType, owns}
-use denote.Signature.{types_at, plain}
-use denote.RawPtr.{Ptr, RawPtr}
-use denote.Steps.{nothing, only}
-use denote.Param.NoDrop.{glues}
-use denote.Triple.Clauses.{Lasts, lasts}
-use denote.Triple.Entry.{alive}
-use denote.Triple.Spec.{triple_of}
-use denote.Triple.Call.{calls_at}
-use denote.Triple.Table.{framed}
-use denote.Triple.Walked.{Stays, stay_dropped, walk_of}
-use Rattle.std.proofs.alloc.Calls.{Goes-blank}
-use Rattle.std.proofs.raw_atomic.Walks.{proved_at, leaves}
+use Rattle.raptorq_c.proofs.Walking.{Val, full_share, SProp, emp, id⊢, ftrue, flft, WpFn, ‵, raw, ◌⊛◌, some, later, prop, ◌$◌, ◌∵◌, !, qed, by, move, keep, drop, split, join, fsplit, fjoin, pick, regoal, use0, use1, await, feq_l, of_opd, no_more, and_then, returns, enter, alloc_all, pass_all, free_all, look_at, get, sets, lands_as, agg}
+use Rattle.raptorq_c.proofs.Walking.{fact, fact_i, ◌⊑◌, tables, yes, RattleType, owns, types_at, plain, Ptr, RawPtr, nothing, only, glues, Lasts, lasts, alive, triple_of, calls_at, framed, Stays, stay_dropped, walk_of, Goes-blank, proved_at, leaves, box_out, box_in, box_owns, ghosts, dict, passed, A, LA, dd, word, word_typed, ptr_typed, field_own, made}
 use Rattle.std_alloc.proofs.BoxSteps.Form as box
-use Rattle.std_alloc.proofs.BoxSteps.Steps.{box_out, box_in}
-use Rattle.std_alloc.specs.Box.Ownership.{box_owns}
 use Rattle.std.specs.contracts.alloc.Global as global
 use Rattle.std_alloc.specs.contracts.boxed.Box as boxes
 use Rattle.std_alloc.specs.contracts.boxed.Box.into_raw as callee
 use Rattle.std_alloc.proofs.boxed.Box.into_raw.Met.{met}
-use Rattle.std.specs.contracts.impls.GlobalAllocator.TheImpl.{ghosts, dict}
 use Rattle.std.proofs.alloc.Global.TheLaws as heap_laws
-use Rattle.std.proofs.impls.GlobalAllocator.TheImpl.Met.{passed}
 use Rattle.raptorq_c.specs.contracts.kept.Coder as coder
 use Rattle.raptorq_c.proofs.kept.Coder.TheLaws as coder_laws
 use Rattle.raptorq_c.specs.contracts.kept.Kept.of.{ended, clauses}
 use Rattle.raptorq_c.specs.contracts.kept.Kept.of.Key.{name as #self}
-use Rattle.raptorq_c.proofs.Boxes.{T, A, LT, LA, dd, dx, E, coder_glue}
-use Rattle.raptorq_c.proofs.Pointers.{word, word_typed, ptr_typed, field_own, made}
+use Rattle.raptorq_c.proofs.Boxes.{T, LT, dx, E, coder_glue}
 use Rattle.raptorq_c.proofs.kept.Kept.of.Statement.{statement}
 use Rattle.raptorq_c.proofs.kept.Kept.of.Code as compiled
 

@@ -1,8 +1,8 @@
 -- What the pointer owns may cross threads, as a box of what is kept may.
+use Rattle.raptorq_c.proofs.Walking.{Ptr}
 use mir.Raw.{raw}
 use base.Shift.{Keyless}
 use denote.Memory.{lone}
-use denote.RawPtr.{Ptr}
 use denote.Struct.Struct.{exits_of}
 use denote.Struct.Owning.{shape, fields, to}
 use denote.Param.Send.{IsSend, AllSend, owning_send, struct_send, sendable}

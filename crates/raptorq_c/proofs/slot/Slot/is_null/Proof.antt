@@ -1,28 +1,24 @@
 -- `is_null` compares the pointer behind the reference with null.
 use Rattle.std.proofs.Common.{List, [], ◌∷◌, refl, sym}
+use Rattle.raptorq_c.proofs.Walking.{Val, full_share, ftrue, flft, tables, ‵, ◌⊛◌, ◌$◌, ◌∵◌, !, qed, move, keep, use1, split, join, fsplit, fjoin, feq_i, rewrite, whole, sub, enter, of_opd, lit, stop, fld, returns, alloc_all, pass_all, free_all, look_at, get, sets, plain, nothing, Stays, walk_of, ptr_typed}
 use Rattle.std.specs.Prelude.{is_some, not}
 use mir.Syntax.{named}
-use mir.Val.{Val, vbool}
-use base.Fraction.{full_share}
-use base.Fml.{ftrue, flft}
-use contract.Running.{tables}
-use types.Kit.{‵, ◌⊛◌, given, ◌$◌, ◌∵◌, !, qed, done, move, keep, learn, use1, split, join, fsplit, fsplit3, fjoin, feq_i, rewrite, suffices, frame, group}
-use types.Part.{whole, sub, look_in}
-use types.Run.{enter, of_opd, bin, lit, load, stop, fld, returns}
-use types.ByLocal.{alloc_all, pass_all, free_all, look_at, get, is, through, sets}
+use mir.Val.{vbool}
+use types.Kit.{given, done, learn, fsplit3, suffices, frame, group}
+use types.Part.{look_in}
+use types.Run.{bin, load}
+use types.ByLocal.{is, through}
 use denote.Laws.{shows}
 use denote.Memory.{cell_at}
 use denote.RawPtr.{tests_null}
 use denote.Ref.{MutRef, mut_vals, mut_Tells}
-use denote.Signature.{plain}
-use denote.Steps.{nothing, opens, closes, peeks}
-use denote.Triple.Walked.{Stays, walk_of, says, stay_ref, Goes-ref, ends_at}
+use denote.Steps.{opens, closes, peeks}
+use denote.Triple.Walked.{says, stay_ref, Goes-ref, ends_at}
 use Rattle.std.proofs.raw_atomic.Walks.{proved}
 use Rattle.raptorq_c.specs.Slot.{slot_at}
 use Rattle.raptorq_c.specs.contracts.slot.Slot.is_null as f
 use Rattle.raptorq_c.specs.contracts.slot.Slot.{the_row as R}
 use Rattle.raptorq_c.proofs.Nullness.{Nullness, compared, told}
-use Rattle.raptorq_c.proofs.Pointers.{ptr_typed}
 use Rattle.raptorq_c.proofs.slot.Slot.TheLaws.{lowers}
 use Rattle.raptorq_c.proofs.slot.Slot.is_null.Statement.{statement}
 use Rattle.raptorq_c.proofs.slot.Slot.is_null.Code as code

@@ -1,25 +1,12 @@
 -- `let_go` forgets a pointer that owns nothing.
 use Rattle.std.proofs.Common.{List, [], ◌∷◌, ◌++◌, refl}
-use mir.Val.{Val, vunit}
-use base.Logic.{SProp}
-use prog.Wp.{WpFn}
-use contract.Running.{tables}
-use types.Kit.{‵, raw, ◌⊛◌, prop, ◌$◌, ◌∵◌, !, qed, by, move, keep, drop, split, regoal, fsplit, fjoin, feq_i}
-use types.Part.{whole, sub}
-use types.Run.{stop, fld, unit_lit, of_opd, returns, enter}
-use types.ByLocal.{alloc_all, pass_all, free_all, look_at, get_in, sets}
-use denote.Exit.{yes}
-use denote.RattleType.{owns}
-use denote.Signature.{types_at, plain}
-use denote.Steps.{nothing}
-use denote.Triple.Entry.{alive}
-use denote.Triple.Walked.{Stays, stay_dropped, walk_of}
-use Rattle.std.proofs.alloc.Calls.{Goes-blank}
-use Rattle.std.proofs.raw_atomic.Walks.{proved_at, leaves}
+use Rattle.raptorq_c.proofs.Walking.{Val, SProp, WpFn, tables, ‵, raw, ◌⊛◌, prop, ◌$◌, ◌∵◌, !, qed, by, move, keep, drop, split, regoal, fsplit, fjoin, feq_i, whole, sub, stop, fld, of_opd, returns, enter, alloc_all, pass_all, free_all, look_at, get_in, sets, yes, owns, types_at, plain, nothing, alive, Stays, stay_dropped, walk_of}
+use Rattle.raptorq_c.proofs.Walking.{Goes-blank, proved_at, leaves, word, word_typed, ptr_typed, told}
+use mir.Val.{vunit}
+use types.Run.{unit_lit}
 use Rattle.raptorq_c.specs.contracts.slot.Slot as owned
 use Rattle.raptorq_c.specs.contracts.slot.Slot.let_go.{ended, clauses}
 use Rattle.raptorq_c.specs.contracts.slot.Slot.let_go.Key.{name as #self}
-use Rattle.raptorq_c.proofs.Pointers.{word, word_typed, ptr_typed, told}
 use Rattle.raptorq_c.proofs.slot.Slot.let_go.Statement.{statement}
 use Rattle.raptorq_c.proofs.slot.Slot.let_go.Code as compiled
 

@@ -1,24 +1,9 @@
 -- `none` holds a null pointer, which owns nothing.
 use Rattle.std.proofs.Common.{◌≡◌, [], ◌∷◌, refl, Option, None}
-use mir.Val.{Val}
-use base.Logic.{SProp, emp}
-use base.Fml.{ftrue}
-use contract.Monad.{fact, fact_i}
-use contract.Running.{tables}
-use types.Kit.{‵, raw, ◌⊛◌, ◌$◌, ◌∵◌, !, qed, by, move, use0, split, drop, fjoin, feq_i}
-use types.Part.{agg}
-use types.Run.{lit, no_more, and_then, returns, enter}
-use types.ByLocal.{alloc_all, pass_all, free_all, look_at, sets}
-use denote.RattleType.{owns}
-use denote.RawPtr.{Ptr, null_ptr}
-use denote.Signature.{types_at}
-use denote.Triple.Entry.{alive}
-use denote.Triple.Walked.{walk_of}
-use Rattle.std.proofs.raw_atomic.Walks.{proved_at, leaves}
+use Rattle.raptorq_c.proofs.Walking.{Val, SProp, emp, ftrue, fact, fact_i, tables, ‵, raw, ◌⊛◌, ◌$◌, ◌∵◌, !, qed, by, move, use0, split, drop, fjoin, feq_i, agg, lit, no_more, and_then, returns, enter, alloc_all, pass_all, free_all, look_at, sets, owns, Ptr, null_ptr, types_at, alive, walk_of, proved_at, leaves, word, word_typed, field_own, made}
 use Rattle.raptorq_c.specs.declared.kept.Kept.{Kept}
 use Rattle.raptorq_c.specs.contracts.slot.Slot.none.{ended, clauses}
 use Rattle.raptorq_c.specs.contracts.slot.Slot.none.Key.{name as #self}
-use Rattle.raptorq_c.proofs.Pointers.{word, word_typed, field_own, made}
 use Rattle.raptorq_c.proofs.slot.Slot.none.Statement.{statement}
 use Rattle.raptorq_c.proofs.slot.Slot.none.Code as compiled
 

@@ -1,0 +1,63 @@
+use Rattle.raptorq_c.proofs.Names.{◌≡◌, ◌≢◌, ℕ, ◌++◌, List, Option, Ok, Err, map, option_map, refl, sym, ap, ◌∙◌, subst, arith, inr, err_from_is_err_and, code_of, Packet, packet_of_bytes, frame_size, frames_in, packets_of, AnswersRun, IsRunRefusal, Answered, frames_refusal, packets_in, IsListed, number_of, IsNumber}
+use Rattle.std.proofs.Common.{vec_items}
+use Rattle.rq_standard.specs.Headline.{AnswersExactly, AnswersWhereAnyCan}
+use Rattle.rq_standard.specs.Following.{IsAnswerAfter}
+use Rattle.raptorq_c.proofs.Ending.{code_positive, is_stopped}
+use Rattle.raptorq_c.proofs.FrameSteps.{frames_seen}
+use Rattle.raptorq_c.proofs.PacketFrames.{each_listed, first_refused}
+use Rattle.raptorq_c.proofs.Answering.{answered_by, refused_with, refused_frames, refused_run, filled_run}
+use Rattle.raptorq_c.proofs.decoding.decode_in.Goals as goal
+use Rattle.raptorq_c.proofs.decoding.decode_in.Goals.{In_ok-add_frames}
+
+-- the packets that were listed are those that the buffer holds, and none is refused
+module _ (c : In_ok-add_frames) where
+  abbrev bytes : List ℕ
+  bytes = c.args.packets.now
+
+  listed : (packets_of c.add_frames.new.receiver.items ≡ packets_of c.new-steps.result.items ++ map packet_of_bytes (frames_in c.frame_size.result bytes)) × (frames_refusal (frames_in c.frame_size.result bytes) ≡ Ok tt)
+  listed = each_listed _ (frames_in c.frame_size.result bytes) _ ((frames_seen (λ v. v.items) IsListed (frames_in c.frame_size.result bytes) 0 _ _ c.in_ok-add_frames.ensures).all refl)
+
+  came : packets_of c.add_frames.new.receiver.items ≡ packets_in c.args.config bytes
+  came = listed.0 ∙ ap (λ xs. packets_of xs ++ map packet_of_bytes (frames_in c.frame_size.result bytes)) c.new-steps.ensures.items ∙ ap (λ n. map packet_of_bytes (frames_in n bytes)) c.frame_size.ensures
+
+  spelled : frames_refusal (frames_in (frame_size c.args.config) bytes) ≡ Ok tt
+  spelled = ap (λ n. frames_refusal (frames_in n bytes)) (sym c.frame_size.ensures) ∙ listed.1
+
+pub returns-in_err-add_frames : goal.returns-in_err-add_frames
+returns-in_err-add_frames c =
+    let e = c.in_err-add_frames.field-0.0 in
+    let bytes = c.args.packets.now in
+    let frames = frames_in c.frame_size.result bytes in
+    let stopped : code_of e ≢ 0 = λ zero. omega (arith, zero, code_positive e) in
+    let first = first_refused frames (code_of e) _ _ stopped (frames_seen (λ v. v.items) IsListed frames (code_of e) _ _ c.in_err-add_frames.ensures) in
+    let refused = refused_frames c.args.table.now c.args.config bytes (code_of e) _ stopped refl (subst (λ n. IsNumber (code_of e) (frames_refusal (frames_in n bytes))) c.frame_size.ensures first) in
+    let p = err_from_is_err_and c.from_residual.result c.from_residual.ensures.1 in
+    rw (p.1, p.2) (refused_with c.args.table.now c.args.config bytes c.args.object.now e refused)
+
+pub returns-in_err-answer : goal.returns-in_err-answer
+returns-in_err-answer c =
+    let read = (goal.at.returns-in_err-answer c).In_ok-add_frames in
+    let e = c.in_err-answer.field-0.0 in
+    let run = subst (λ ps. AnswersRun {X = Unit {0}} c.args.table.now c.args.config ps (Err e)) (came read) c.in_err-answer.ensures.in_order in
+    let p = err_from_is_err_and c.from_residual-in_err-answer.result c.from_residual-in_err-answer.ensures.1 in
+    rw (p.1, p.2) (refused_with c.args.table.now c.args.config c.args.packets.now c.args.object.now e (refused_run c.args.table.now c.args.config c.args.packets.now (spelled read) e run))
+
+pub returns : goal.returns
+returns c =
+    let read = (goal.at.returns c).In_ok-add_frames in
+    let t = c.args.table.now in
+    let k = c.args.config in
+    let bytes = c.args.packets.now in
+    let number = number_of c.fill_answer.result in
+    let after = c.fill_answer.new.buffer in
+    let answer = option_map vec_items c.in_ok-answer.answer in
+    let answered = subst (λ a. Answered number c.args.object.now after (λ r. r ≡ a)) c.as_deref.ensures.value c.fill_answer.ensures.answered in
+    let filled : (P : List Packet → Option (List ℕ) → Type 0) → P (packets_of c.add_frames.new.receiver.items) answer → Answered number c.args.object.now after (P (packets_in k bytes)) =
+    λ P holds. answered_by (P (packets_in k bytes)) answer number c.args.object.now after (subst (λ ps. P ps answer) (came read) holds) answered in
+    record {
+      refused = filled_run t k bytes (spelled read) number (subst (λ ps. IsRunRefusal t k ps (Ok tt)) (came read) c.in_ok-answer.ensures.in_order) (inr c.fill_answer.ensures.number);
+      answered = filled (IsAnswerAfter t k) c.in_ok-answer.ensures.answer;
+      headline = filled (AnswersExactly t k) c.in_ok-answer.ensures.headline;
+      only_object = filled (AnswersWhereAnyCan t k) c.in_ok-answer.ensures.only_object;
+      kept = is_stopped c.fill_answer.result (after ≡ c.args.object.now) c.fill_answer.ensures.kept;
+    }
