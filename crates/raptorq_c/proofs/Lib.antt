@@ -1,5 +1,6 @@
 pub mod Answering
 pub mod Boxes
+pub mod CutObjects
 pub mod Ending
 pub mod FrameSteps
 pub mod Held
@@ -11,4 +12,5 @@ pub mod PlannedBlocks
 pub mod Sized
 pub mod SlotBoxes
 pub mod StretchSteps
+pub mod Turns
 pub mod Walking

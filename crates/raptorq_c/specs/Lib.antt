@@ -10,3 +10,4 @@ pub mod Encoders
 pub mod Frames
 pub mod Decoders
 pub mod BlockDecoders
+pub mod Laws
