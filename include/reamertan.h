@@ -158,8 +158,8 @@ struct reamertan_range {
 
 /* Writes the configuration of an object of `object_length` bytes in symbols of `symbol_size` bytes, cut into as few
  * source blocks as have at most `block_symbols` symbols each, with one sub-block and an alignment of 1. Coders take it.
- * Blocks of REAMERTAN_FAST_BLOCK symbols are coded several times as fast as those of REAMERTAN_GREATEST_BLOCK; of
- * larger blocks more packets can stand for a lost one.
+ * Blocks of REAMERTAN_FAST_BLOCK symbols are coded 4 to 7 times as fast as those of REAMERTAN_GREATEST_BLOCK, where a
+ * symbol has 1280 bytes, and twice as fast at 64; of larger blocks more packets can stand for a lost one.
  *
  * Refuses, in this order: SYMBOL_SIZE_ZERO, TRANSFER_LENGTH_ZERO, TOO_MANY_BLOCKS, also where `block_symbols` is 0,
  * TRANSFER_TOO_LONG, TOO_MANY_SYMBOLS. */

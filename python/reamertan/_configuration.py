@@ -71,8 +71,8 @@ class ObjectTransmissionInformation:
     def cut(transfer_length: int, symbol_size: int, block_symbols: int = FAST_BLOCK) -> ObjectTransmissionInformation:
         """The configuration of an object in as few source blocks as have at most so many symbols each.
 
-        Where nothing else is said they are coded fastest: an object of 100 MB several times as fast as by `with_defaults`. An object
-        has 255 blocks at most, so that a larger one needs more symbols a block. In larger blocks fewer repair packets do.
+        Where nothing else is said they are coded fastest. An object has 255 blocks at most, so that a larger one needs more symbols a
+        block. In larger blocks fewer repair packets do.
 
         >>> config = ObjectTransmissionInformation.cut(10_000_000, 1280)
         >>> config.source_blocks, config.source_symbols(0)
