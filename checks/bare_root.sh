@@ -36,7 +36,7 @@ loss_demo() {
 
 # Sends the licence as cells, cuts some of them out and receives it: RQCAST..
 cell_demo() {
-    "$@" send 300 20% <LICENSE >cells 2>/dev/null
+    "$@" send --quiet --cell 300 --repair 20% LICENSE >cells
     (head -c 5000 cells && tail -c +5500 cells) | "$@" receive >back 2>told || { cat told >&2 && failed "cells weren't received"; }
     cmp LICENSE back
 }
@@ -123,14 +123,14 @@ by_apt() {
     apt-get install --yes --quiet=2 ./out/reamertan_*.deb ./out/libreamertan*_amd64.deb >/dev/null
     first_in_c
     loss_demo reamertan-rq
-    cell_demo reamertan-rqcast
+    cell_demo rqcast
     zcat /usr/share/man/man1/reamertan-rq.1.gz | grep -q '^reamertan.-rq ' || failed "the man page has another name"
-    zcat /usr/share/man/man1/reamertan-rqcast.1.gz | grep -q '^reamertan.-rqcast ' || failed "the man page has another name"
+    zcat /usr/share/man/man1/rqcast.1.gz | grep -q '^rqcast ' || failed "the man page has another name"
     zcat /usr/share/man/man3/reamertan.3.gz | grep -q reamertan_encoder_share || failed "the library has no man page"
     by_cmake /usr /usr/share/doc/libreamertan-dev
     say "installed by apt, a stream without each tenth frame was received, and cells with a hole"
     in_c /usr/lib/x86_64-linux-gnu
-    on_processors /usr/bin/reamertan-rq /usr/bin/reamertan-rqcast
+    on_processors /usr/bin/reamertan-rq /usr/bin/rqcast
 }
 
 on_arm() {

@@ -41,7 +41,7 @@ def rooms():
 def misused(usage):
     """Ends a script that can't be called so."""
     print(usage, file=sys.stderr)
-    sys.exit(2)
+    sys.exit(64)
 
 
 def arguments(usage, names=None, least=1):

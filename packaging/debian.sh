@@ -123,22 +123,22 @@ make_dev_deb() {
         "Multi-Arch: same"
 }
 
-# python3-rq has a /usr/bin/rq: here each program has the name of this package before its own.
+# python3-rq has a /usr/bin/rq: here that program has the name of this package before its own.
 make_program_deb() {
     local program script programs=("${PROGRAMS[@]%% *}")
     begin reamertan amd64
-    for program in "${PROGRAMS[@]%% *}"; do
-        stage 755 "$work/x86/$program" "usr/bin/reamertan-$program"
-        sed "s/@VERSION@/$version/; s/^\(\.TH \)/\1REAMERTAN-/; s/\b$program\b/reamertan\\\\-$program/g" "$top/docs/$program.1" |
-            sed 's/share\/doc\/reamertan\/LINKED/\/usr\/share\/doc\/reamertan\/copyright/' | gzip -9n >"$work/$program.1.gz"
-        stage 644 "$work/$program.1.gz" "usr/share/man/man1/reamertan-$program.1.gz"
+    sed 's/^\(\.TH \)/\1REAMERTAN-/; s/\brq\b/reamertan\\-rq/g' "$top/docs/rq.1" >"$work/reamertan-rq.1"
+    cp "$top/docs/rqcast.1" "$work/rqcast.1"
+    stage 755 "$work/x86/rq" usr/bin/reamertan-rq
+    stage 755 "$work/x86/rqcast" usr/bin/rqcast
+    for program in reamertan-rq rqcast; do
+        sed "s/@VERSION@/$version/; s/share\/doc\/reamertan\/LINKED/\/usr\/share\/doc\/reamertan\/copyright/" "$work/$program.1" | gzip -9n >"$work/$program.1.gz"
+        stage 644 "$work/$program.1.gz" "usr/share/man/man1/$program.1.gz"
     done
-    for script in "${SCRIPTS[@]}"; do
-        sed 's/:-rqcast}/:-reamertan-rqcast}/; s/RQCAST=rqcast\b/RQCAST=reamertan-rqcast/' "$top/examples/$script" >"$work/$script"
-        stage 755 "$work/$script" "usr/share/doc/reamertan/examples/$script"
-    done
+    stage 644 "$top/docs/rqcast.bash" usr/share/bash-completion/completions/rqcast
+    for script in "${SCRIPTS[@]}"; do stage 755 "$top/examples/$script" "usr/share/doc/reamertan/examples/$script"; done
     finish utils "$(needed_glibc "${programs[@]/#/$work/x86/}")" "sends files over links that lose data (RaptorQ, RFC 6330)" \
-        "These are the programs rq and rqcast of Reamertan, as reamertan-rq and reamertan-rqcast. They make packets or cells of a file, and the file of any that determine it." \
+        "These are the programs rq and rqcast of Reamertan, the first as reamertan-rq. They make packets or cells of a file, and the file of any that determine it." \
         "Suggests: parallel, python3, socat"
 }
 

@@ -144,6 +144,7 @@ stage_programs() {
         sed "s/@VERSION@/$version/" "$top/docs/$program.1" >"$made/$program.1"
         stage 644 "$made/$program.1" "share/man/man1/$program.1"
     done
+    stage 644 "$top/docs/rqcast.bash" share/bash-completion/completions/rqcast
     for script in "${SCRIPTS[@]}"; do stage 755 "$top/examples/$script" "share/doc/reamertan/examples/$script"; done
 }
 

@@ -7,10 +7,9 @@ use Rattle.rq_standard.specs.Headline.{HasNonsingularRows}
 use Rattle.raptorq.specs.Encoder.{IsEncoderOf}
 use Rattle.rq_streams.specs.declared.run.Stop.{Stop}
 use Rattle.rq_streams.specs.declared.run.Stop.TheVariants.{Refused}
-use Rattle.rq_cast.specs.declared.jobs.Order.{Order}
+use Rattle.rq_cast.specs.declared.order.Order.{Order}
 use Rattle.rq_cast.specs.declared.sending.Sender.{Sender}
-use Rattle.rq_cast.specs.Ids.{id_end}
-use Rattle.rq_cast.specs.Sent.{sending_of, object_head, IsSeries}
+use Rattle.rq_cast.specs.Sent.{sending_of, object_head, IsSeriesOf}
 use Rattle.rq_cast.specs.Preparing.{IsFitting, IsPrepared, RefusesObject, StopsPreparing}
 
 -- a sender over a configuration that fits
@@ -19,7 +18,7 @@ pub prepared_by : (order : Order) (object : List ℕ) (table : List TableRow) (c
     → OnOk r (HasNonsingularRows table c) → IfOk r (λ s. IsEncoderOf table object (sending_of s).encoded)
     → IfOk r (λ s. (sending_of s).encoded.configuration ≡ c)
     → IfOk r (λ s. (sending_of s).head ≡ object_head object c)
-    → IfOk r (λ s. IsSeries order.ids.first order.ids.step (id_end (largest_block c) order.repair) (sending_of s).series)
+    → IfOk r (λ s. IsSeriesOf order.ids.first order.ids.step (largest_block c) order.repair (sending_of s).series)
     → IfOk r (λ s. IsPrepared order object (sending_of s))
 prepared_by order object table c (Err e) fits nonsingular encoder is head series = tt
 prepared_by order object table c (Ok s) fits nonsingular encoder is head series = record {
@@ -28,7 +27,7 @@ prepared_by order object table c (Ok s) fits nonsingular encoder is head series 
   nonsingular = subst (HasNonsingularRows table) (sym is) nonsingular;
   encoder = encoder;
   head = head ∙ ap (object_head object) (sym is);
-  series = subst (λ k. IsSeries order.ids.first order.ids.step (id_end (largest_block k) order.repair) (sending_of s).series) (sym is) series;
+  series = subst (λ k. IsSeriesOf order.ids.first order.ids.step (largest_block k) order.repair (sending_of s).series) (sym is) series;
 }
 
 -- a refusal of what was read

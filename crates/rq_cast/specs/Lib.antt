@@ -1,7 +1,6 @@
-pub mod Asked
-pub mod Endings
 pub mod Ids
 pub mod Input
+pub mod Loss
 pub mod Missing
 pub mod Output
 pub mod Preparing
@@ -10,5 +9,6 @@ pub mod Received
 pub mod Receiving
 pub mod Searching
 pub mod Sent
+pub mod Surveyed
 pub mod Taken
 pub mod Writing

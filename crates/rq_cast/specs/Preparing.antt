@@ -13,9 +13,8 @@ use Rattle.rq_rows.specs.declared.further_rows.TheConstants.{FURTHER_ROWS}
 use Rattle.rq_streams.specs.Sent.{default_parameters}
 use Rattle.rq_streams.specs.declared.run.Stop.{Stop}
 use Rattle.rq_streams.specs.declared.run.Stop.TheVariants.{Fault, Refused}
-use Rattle.rq_cast.specs.declared.jobs.Order.{Order}
-use Rattle.rq_cast.specs.Ids.{id_end}
-use Rattle.rq_cast.specs.Sent.{Sending, IsSeries, object_head}
+use Rattle.rq_cast.specs.declared.order.Order.{Order}
+use Rattle.rq_cast.specs.Sent.{Sending, IsSeriesOf, object_head}
 
 -- A default configuration over the built-in rows where the object fits them, and else over all.
 abbrev pub IsFitting : ℕ → ℕ → List TableRow → Configuration → Type 0
@@ -38,7 +37,7 @@ pub record IsPrepared (order : Order) (object : List ℕ) (s : Sending) : Type 0
   pub nonsingular : HasNonsingularRows table s.encoded.configuration
   pub encoder : IsEncoderOf table object s.encoded
   pub head : s.head ≡ object_head object s.encoded.configuration
-  pub series : IsSeries order.ids.first order.ids.step (id_end (largest_block s.encoded.configuration) order.repair) s.series
+  pub series : IsSeriesOf order.ids.first order.ids.step (largest_block s.encoded.configuration) order.repair s.series
 
 -- what is refused of an object: its configuration, or its encoder
 abbrev pub RefusesObject : Order → List ℕ → Error → Type 0

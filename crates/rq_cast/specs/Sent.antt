@@ -13,6 +13,8 @@ use Rattle.rq_cells.specs.Cells.{name_of, cell_bytes}
 use Rattle.rq_cast.specs.declared.series.Series.{Series}
 use Rattle.rq_cast.specs.declared.sending.Sender.{Sender}
 use Rattle.rq_cast.specs.declared.output.Output.{Output}
+use Rattle.rq_cast.specs.declared.series.Repair.{Repair}
+use Rattle.rq_cast.specs.Ids.{IsIdEnd}
 use Rattle.rq_cast.specs.Output.{CountsLost}
 
 -- ---- which cells
@@ -22,6 +24,10 @@ pub record IsSeries (first step end : ℕ) (s : Series) : Type 0 where
   pub begins : s.first ≡ first
   pub by : s.step ≡ step
   pub below : (k : ℕ) → (k < s.count) ↔ (first + step * k < end)
+
+-- those below the end that so many repair packets ask for, where the largest block has so many source symbols
+abbrev pub IsSeriesOf : ℕ → ℕ → ℕ → Repair → Series → Type 0
+IsSeriesOf first step largest repair s = (end : ℕ) × IsIdEnd largest repair end × IsSeries first step end s
 
 -- what a sender sends: packets of an object's encoder, under the head of its cells, with these ids
 pub record Sending : Type 0 where

@@ -2,12 +2,11 @@
 //! of the cells among them out.
 #![tactic(auto)]
 
-mod ending;
 mod input;
-mod jobs;
+mod loss;
 mod missing;
 mod naming;
-mod numbers;
+mod order;
 mod output;
 mod preparing;
 mod progress;
@@ -16,21 +15,21 @@ mod receiver;
 mod run;
 mod sending;
 mod series;
-mod words;
+mod survey;
 
-pub use ending::{ProgramEnd, announce, report};
 pub use input::Input;
-pub use jobs::{Ids, Job, Order};
+pub use loss::Loss;
 pub use missing::missing_packets;
+pub use order::{Ids, Order};
 pub use output::Output;
-pub use preparing::read_sender;
+pub use preparing::{check_length, read_sender};
 pub use progress::{Progress, Silent};
 pub use reading::Wanted;
 pub use receiver::Seen;
 pub use run::{Ending, run_receive};
 pub use sending::{Pace, Sender};
 pub use series::{Repair, Series};
-pub use words::job;
+pub use survey::{Standing, standings_in};
 
 #[cfg(test)]
 mod tests;

@@ -34,6 +34,18 @@ impl<W> Output<W> {
             is_flushed: false,
         }
     }
+
+    /// The writer that counts its failed calls.
+    pub fn into_counted(self) -> Counted<W>
+        ensures { result ≡ counting self }
+    {
+        let Output {
+            writer,
+            refused: _,
+            is_flushed: _,
+        } = self;
+        writer
+    }
 }
 
 impl<W: Write> Output<W> {

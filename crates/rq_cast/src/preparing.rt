@@ -1,11 +1,13 @@
 //! How an object is read and made ready to be sent.
-ghost use Rattle.std.specs.Prelude.{◌≡◌, ◌+◌, ◌-◌, ◌^◌, ◌<◌, length, IfSome, IfOk, IfErr};
+ghost use Rattle.std.specs.Prelude.{◌≡◌, ◌+◌, ◌-◌, ◌^◌, ◌<◌, List, length, IfSome, IfOk, IfErr, OnOk};
+ghost use Rattle.rq_standard.specs.declared.row.TableRow.{TableRow};
+ghost use Rattle.rq_standard.specs.Configuration.{Configuration};
 ghost use Rattle.rq_streams.specs.Counted.{failed_count, inner};
 ghost use Rattle.rq_streams.specs.Ends.{failed_calls};
 ghost use Rattle.rq_cast.specs.Preparing.{IsFitting, RefusesFitting, IsPrepared, RefusesObject, StopsPreparing};
 ghost use Rattle.rq_cast.specs.Sent.{sending_of};
 
-use crate::jobs::Order;
+use crate::order::Order;
 use crate::sending::Sender;
 use raptorq::ObjectTransmissionInformation;
 use raptorq::error::Error;
@@ -39,6 +41,16 @@ fn fitting(
         }
         Err(refusal) => Err(refusal),
     }
+}
+
+/// Refuses what [`read_sender`] refuses of the configuration of an object of so many bytes, before one of
+/// them is read. [`Error::OutOfMemory`] may come before that.
+pub fn check_length(alloc: Global, length: u64, symbol_size: u16) -> Result<(), Error>
+    ensures fits { OnOk result ((table : List TableRow) × (c : Configuration) × IsFitting length symbol_size table c) }
+    ensures refused { IfErr result (RefusesFitting length symbol_size) }
+{
+    fitting(alloc, length, symbol_size)?;
+    Ok(())
 }
 
 // The sender of an object.

@@ -60,8 +60,7 @@ impl Sender {
     ghost use Rattle.raptorq.specs.Encoder.{IsEncoderOf};
     ghost use Rattle.raptorq.specs.Refused.{new_encoder, RefusesEncoder};
     ghost use Rattle.rq_cells.specs.Cells.{head_bytes};
-    ghost use Rattle.rq_cast.specs.Ids.{id_end};
-    ghost use Rattle.rq_cast.specs.Sent.{IsSeries, sending_of, object_head, cell_count, IsSentCell, SendsFirst, StopsSending};
+    ghost use Rattle.rq_cast.specs.Sent.{IsSeriesOf, sending_of, object_head, cell_count, IsSentCell, SendsFirst, StopsSending};
     ghost use Rattle.rq_cast.specs.Output.{CountsLost};
 
     /// The sender of an object, in bytes. It sends the symbols whose ids are `first`, `first + step`,
@@ -85,7 +84,7 @@ impl Sender {
         ensures encoder { IfOk result (λ s. IsEncoderOf table.now object.now (sending_of s).encoded) }
         ensures configuration { IfOk result (λ s. (sending_of s).encoded.configuration ≡ configuration) }
         ensures head { IfOk result (λ s. (sending_of s).head ≡ object_head object.now configuration) }
-        ensures series { IfOk result (λ s. IsSeries first step (id_end (largest_block configuration) repair) (sending_of s).series) }
+        ensures series { IfOk result (λ s. IsSeriesOf first step (largest_block configuration) repair (sending_of s).series) }
     {
         let encoder = Encoder::new(alloc, table, object, configuration)?;
         let end = repair.end(configuration.largest_block());

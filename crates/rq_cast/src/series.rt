@@ -2,6 +2,7 @@
 ghost use Rattle.std.specs.Prelude.{◌≡◌, ◌^◌, ◌<◌, ◌≤◌};
 ghost use Rattle.rq_cast.specs.Ids.{AreIds};
 
+use crate::loss::Loss;
 use raptorq::base::ENCODING_SYMBOL_IDS;
 
 /// How many repair packets a block has.
@@ -9,28 +10,39 @@ use raptorq::base::ENCODING_SYMBOL_IDS;
 pub enum Repair {
     /// So many.
     Packets(u32),
-    /// So many for each hundred source symbols of the largest block, rounded up.
-    Percent(u32),
+    /// So many for each hundred thousand source symbols of the largest block, rounded up.
+    Share(u32),
+    /// As many as it takes to live through a loss: what [`Loss::repair`] answers.
+    Against(Loss),
     /// All that there are ids for.
     All,
 }
 
 impl Repair {
-    ghost use Rattle.rq_cast.specs.Ids.{id_end};
+    ghost use Rattle.rq_cast.specs.Ids.{IsIdEnd, IsRepairCount};
 
     /// The first encoding symbol id that isn't sent any more, one for all blocks, where the largest
     /// has so many source symbols. There are 2^24 ids.
     pub fn end(self, largest_block: u64) -> u32
         requires { largest_block < 65536 }
-        ensures { result ≡ id_end largest_block self }
+        ensures { IsIdEnd largest_block self result }
     {
-        let all = u64::from(ENCODING_SYMBOL_IDS);
-        let repair = match self {
+        let end = largest_block + self.count(largest_block);
+        end.min(u64::from(ENCODING_SYMBOL_IDS)) as u32
+    }
+
+    // How many there are, where the largest block has so many source symbols.
+    fn count(self, largest_block: u64) -> u64
+        requires { largest_block < 65536 }
+        ensures value { IsRepairCount largest_block self result }
+        ensures few { result < 2 ^ 48 }
+    {
+        match self {
             Repair::Packets(number) => u64::from(number),
-            Repair::Percent(percent) => (largest_block * u64::from(percent)).div_ceil(100),
-            Repair::All => all,
-        };
-        all.min(largest_block + repair) as u32
+            Repair::Share(parts) => (largest_block * u64::from(parts)).div_ceil(100_000),
+            Repair::Against(loss) => loss.repair(largest_block),
+            Repair::All => u64::from(ENCODING_SYMBOL_IDS),
+        }
     }
 }
 

@@ -6,9 +6,9 @@ use std::alloc::Global;
 use std::io;
 use std::io::{ErrorKind, Read};
 
-mod ending;
+mod loss;
 mod sending;
-mod words;
+mod survey;
 
 const OBJECT: [u8; 3] = [7, 8, 9];
 

@@ -1,89 +1,87 @@
-//! The program `rqcast`: an object as cells that are read alone, and back from any bytes among which
-//! they stand. It is called as `rqcast send SIZE REPAIR [FIRST STEP [RATE]]`, with the object on standard
-//! input, or `rqcast receive [NAME]`, with the bytes there; the other one comes on standard output.
+//! The program `rqcast`: a file as cells that are read alone, and back from any bytes among which they
+//! stand. `rqcast --help` says how it is called.
 #![tactic(auto)]
 
-ghost use Rattle.std.specs.Prelude.{◌<◌, IfOk};
-ghost use Rattle.rq_cast.specs.Asked.{StepsOn};
-
+mod amounts;
+mod failure;
+mod line;
 mod pace;
+mod pulse;
+mod source;
+mod system;
+mod target;
 #[cfg(test)]
 mod tests;
 mod watch;
+mod words;
 
-use crate::pace::Pacer;
+use crate::failure::Failure;
+use crate::system::System;
 use crate::watch::Watch;
-use rq_cast::{
-    Input, Job, Order, Output, ProgramEnd, Seen, Wanted, announce, job, read_sender, report,
-    run_receive,
-};
-use rq_rows::full_table;
-use rq_streams::{Counted, Stop};
-use std::alloc::AllocError;
-use std::env;
+use crate::words::{Words, read_words};
+use rq_command::{End, Telling, run, write_end, write_standings};
+use std::cell::Cell;
+use std::io;
 use std::io::{ErrorKind, IsTerminal};
 use std::process::ExitCode;
 
-fn main(rt: HostRuntime) -> ExitCode {
-    let ended = match asked(&rt) {
-        Ok(Some(Job::Send(order))) => send(&rt, order),
-        Ok(Some(Job::Receive(name))) => receive(&rt, &name),
-        Ok(None) => Ok(ProgramEnd::Unasked),
-        Err(refused) => Err(Stop::from(refused)),
-    };
-    let ended = match ended {
-        Ok(ended) => ended,
-        Err(stop) => ProgramEnd::Stopped(stop),
-    };
-    ExitCode::from(report(&ended, &mut rt.stderr()))
-}
+// The status where the words are wrong, and after a fault of the system.
+const WRONG: u8 = 64;
 
-// The job that the program's words ask for. Words that are no text ask for none.
-fn asked(rt: &HostRuntime) -> Result<Option<Job>, AllocError>
-    ensures { IfOk result StepsOn }
-{
-    match env::args(rt) {
-        Ok(words) => {
-            let words: Vec<String> = words.skip(1).collect(rt.alloc())?;
-            job(rt.alloc(), words.as_slice())
+const FAULT: u8 = 1;
+
+fn main(rt: HostRuntime) -> ExitCode {
+    let words = match read_words(&rt) {
+        Words::Texts(words) => words,
+        Words::NoText(number) => {
+            let _ = eprintln!(rt; "error: the word number {number} isn't UTF-8");
+            return ExitCode::from(WRONG);
         }
-        Err(error) if error.kind() == ErrorKind::OutOfMemory => Err(AllocError),
-        Err(_) => Ok(None),
+        Words::NoMemory => {
+            let _ = eprintln!(rt; "rqcast: there is too little memory");
+            return ExitCode::from(FAULT);
+        }
+    };
+    let failure = Cell::new(None);
+    let mut system = System {
+        rt: &rt,
+        failure: &failure,
+    };
+    let mut watch = Watch::new(&rt, rt.stderr(), rt.stderr().is_terminal());
+    let ended = run(rt.alloc(), words.as_slice(), &mut system, &mut watch);
+    watch.end(&ended);
+    match say(&rt, &ended, failure.get(), watch.telling()) {
+        Ok(()) => ExitCode::from(ended.status()),
+        Err(error) => {
+            if error.kind() != ErrorKind::BrokenPipe {
+                let _ = eprintln!(rt; "rqcast: writing to standard output: {error}");
+            }
+            ExitCode::from(FAULT)
+        }
     }
 }
 
-// Sends the object on standard input as it is ordered.
-fn send(rt: &HostRuntime, order: Order) -> Result<ProgramEnd, Stop>
-    requires { 0 < order.ids.step }
-{
-    let mut reader = Counted::new(rt.stdin());
-    let sender = read_sender(rt.alloc(), &order, &mut reader)?;
-    let _ = announce(&sender, &mut rt.stderr());
-    let mut output = Output::new(Counted::new(rt.stdout()));
-    let lost = sender.send(rt.alloc(), &mut output, &mut Pacer::new(rt, order.ids.rate))?;
-    Ok(ProgramEnd::Sent(lost))
-}
-
-// Receives the object on standard input whose name and configuration begin with these bytes.
-fn receive(rt: &HostRuntime, name: &[u8]) -> Result<ProgramEnd, Stop> {
-    let table = full_table(rt.alloc())?;
-    let wanted = Wanted {
-        table: &table,
-        name,
-    };
-    let mut input = Input::new(Counted::new(rt.stdin()));
-    let mut writer = Counted::new(rt.stdout());
-    let mut seen = Seen::default();
-    let terminal = rt.stderr();
-    let mut watch = Watch::new(rt, terminal.is_terminal().then_some(terminal));
-    let ended = run_receive(
-        rt.alloc(),
-        &wanted,
-        &mut input,
-        &mut writer,
-        &mut seen,
-        &mut watch,
-    );
-    watch.end();
-    Ok(ProgramEnd::Received(ended, seen))
+// Says how the program ended. What is asked for goes to standard output, and an error comes of that alone.
+fn say(
+    rt: &HostRuntime,
+    ended: &End,
+    failure: Option<Failure<'_>>,
+    telling: Telling,
+) -> io::Result<()> {
+    if let Some(failure) = failure {
+        let _ = failure.write(rt.alloc(), &mut rt.stderr());
+    }
+    let _ = write_end(ended, &mut rt.stderr());
+    match ended {
+        End::Unasked(error) if error.use_stderr() => {
+            let _ = error.print(rt);
+            Ok(())
+        }
+        End::Unasked(error) => error.print(rt),
+        End::Surveyed(standings) => {
+            let is_json = telling == Telling::Json;
+            write_standings(standings.as_slice(), is_json, &mut rt.stdout())
+        }
+        _ => Ok(()),
+    }
 }

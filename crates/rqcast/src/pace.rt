@@ -31,6 +31,11 @@ impl<'a, C: Clock> Pacer<'a, C> {
         }
     }
 
+    /// Lets cells leave at another rate from now on.
+    pub fn set_rate(&mut self, rate: Option<u64>) {
+        self.rate = rate;
+    }
+
     // Nanoseconds from the first cell on.
     fn elapsed(&mut self) -> io::Result<u64> {
         let start = match self.start {

@@ -1,97 +1,224 @@
-//! What is told at a terminal while cells come.
+//! What is told while a run goes on, and of its end.
 
+use crate::amounts::Amount;
+use crate::line::{COLUMNS, Course};
+use crate::pace::Pacer;
+use crate::pulse::Pulse;
 use raptorq::Decoder;
-use rq_cast::{Progress, Seen, missing_packets};
+use rq_cast::{Ending, Pace, Progress, Seen, Sender, missing_packets};
+use rq_command::{End, Teller, Telling, announce};
 use std::io;
 use std::io::Write;
-use std::time::{Clock, Instant};
-
-// How long a line stands before it is written anew, in milliseconds.
-const PERIOD: u128 = 1000;
+use std::time::Clock;
 
 // What clears a line of a terminal from here on.
 const CLEAR: &str = "\x1b[K";
 
-/// Writes a line at the first read past each second, over the one before: how many cells came, how many
-/// packets are missing, and how many bytes came a second.
+/// Tells on a terminal, or wherever standard error goes, at the first read or write past each second.
 #[derive(Drop)]
 pub struct Watch<'a, C: Clock, W: Write> {
-    clock: &'a C,
-    // A terminal, where there is one.
-    out: Option<W>,
-    told: Option<Instant>,
-    bytes: u64,
-    is_told: bool,
+    out: W,
+    is_terminal: bool,
+    telling: Telling,
+    pulse: Pulse<'a, C>,
+    pacer: Pacer<'a, C>,
+    // How many bytes there are to read, how many cells to send, and how many symbols an object has, where
+    // that is known.
+    length: Option<u64>,
+    cells: Option<u64>,
+    symbols: Option<u64>,
+    sent: u64,
+    // A line stands there that is to be cleared.
+    is_shown: bool,
 }
 
 impl<'a, C: Clock, W: Write> Watch<'a, C, W> {
-    /// Tells on a terminal, or nowhere.
-    pub fn new(clock: &'a C, out: Option<W>) -> Watch<'a, C, W> {
+    /// Tells on a writer, which may be a terminal.
+    pub fn new(clock: &'a C, out: W, is_terminal: bool) -> Watch<'a, C, W> {
         Watch {
-            clock,
             out,
-            told: None,
-            bytes: 0,
-            is_told: false,
+            is_terminal,
+            telling: Telling::default(),
+            pulse: Pulse::new(clock),
+            pacer: Pacer::new(clock, None),
+            length: None,
+            cells: None,
+            symbols: None,
+            sent: 0,
+            is_shown: false,
         }
     }
 
-    /// Ends the line, where one was written.
-    pub fn end(&mut self) {
-        if self.is_told
-            && let Some(out) = &mut self.out
-        {
-            let _ = writeln!(out, "");
-        }
+    /// What is told.
+    pub fn telling(&self) -> Telling {
+        self.telling
     }
 
-    // Where a second has passed, how many bytes came a second in it.
-    fn past_second(&mut self) -> io::Result<Option<u64>> {
-        let now = Instant::now(self.clock)?;
-        let Some(told) = self.told else {
-            self.told = Some(now);
-            return Ok(None);
+    // Counts bytes. Answers how many came a second, where that is to be told now.
+    fn pass(&mut self, bytes: usize) -> Option<u64> {
+        self.pulse.count(bytes);
+        let tells = match self.telling {
+            Telling::Usual => self.is_terminal,
+            Telling::Quiet => false,
+            Telling::Progress | Telling::Json => true,
         };
-        let passed = now.duration_since(told).as_millis();
-        if passed < PERIOD {
-            return Ok(None);
-        }
-        self.told = Some(now);
-        let rate = u128::from(self.bytes) * 1000 / passed.max(PERIOD);
-        self.bytes = 0;
-        Ok(Some(u64::try_from(rate).unwrap_or(u64::MAX)))
+        if tells { self.pulse.rate() } else { None }
     }
 
     // Writes a line over the one before.
-    fn write_line(&mut self, seen: &Seen, decoder: Option<&Decoder>, rate: u64) {
-        let Some(out) = &mut self.out else {
+    fn show(&mut self, course: &Course) -> io::Result<()> {
+        let mut line = [0u8; COLUMNS];
+        let columns = course.fill(&mut line);
+        self.is_shown = true;
+        write!(self.out, "\r")?;
+        self.out.write_all(&line[..columns])?;
+        write!(self.out, "{CLEAR}")
+    }
+
+    // Writes all counts as a line of JSON.
+    fn show_json(&mut self, seen: &Seen, missing: Option<u64>) -> io::Result<()> {
+        let (bytes, time) = (self.pulse.bytes(), self.pulse.elapsed().as_millis());
+        let (sent, cells) = (self.sent, seen.cells);
+        let (damaged, others) = (seen.damaged, seen.others);
+        write!(
+            self.out,
+            "{{\"milliseconds\":{time},\"bytes\":{bytes},\"sent\":{sent},\"cells\":{cells},"
+        )?;
+        write!(self.out, "\"damaged\":{damaged},\"others\":{others}")?;
+        if let Some(missing) = missing {
+            write!(self.out, ",\"missing\":{missing}")?;
+        }
+        writeln!(self.out, "}}")
+    }
+
+    // Tells how far the run has come. That it can't be told is no fault of the run.
+    fn tell_course(&mut self, seen: &Seen, course: &Course) {
+        let _ = if self.telling == Telling::Json {
+            self.show_json(seen, course.missing)
+        } else {
+            self.show(course)
+        };
+    }
+
+    /// Takes the line away, and says how much passed and was seen.
+    pub fn end(&mut self, ended: &End) {
+        if self.is_shown {
+            let _ = write!(self.out, "\r{CLEAR}");
+        }
+        if self.telling == Telling::Quiet {
             return;
-        };
-        self.is_told = true;
-        let cells = seen.cells;
-        // The line before may have been longer: what it leaves is cleared.
-        let _ = match decoder {
-            Some(decoder) => {
-                let missing = missing_packets(decoder);
-                write!(
-                    out,
-                    "\r{cells} cells, {missing} packets missing, {rate} bytes a second{CLEAR}"
-                )
+        }
+        let _ = match ended {
+            End::Sent { cells, lost } => self.say_sent(*cells, *lost),
+            End::Received(Ok(Ending::Written), seen) => self.say_received(seen, None),
+            End::Received(Ok(Ending::Incomplete { missing }), seen) => {
+                self.say_received(seen, *missing)
             }
-            None => write!(out, "\r{cells} cells, {rate} bytes a second{CLEAR}"),
+            End::Received(Ok(Ending::AnotherObject), seen) => self.say_received(seen, None),
+            End::Received(Err(_), seen) => self.say_received(seen, None),
+            _ => Ok(()),
         };
+    }
+
+    // Writes how much passed, and how long it took.
+    fn say_passed(&mut self) -> io::Result<()> {
+        let tenths = self.pulse.elapsed().as_millis() / 100;
+        let (bytes, seconds, tenth) = (Amount(self.pulse.bytes()), tenths / 10, tenths % 10);
+        write!(self.out, "{bytes} in {seconds}.{tenth} s, ")
+    }
+
+    fn say_sent(&mut self, cells: u64, lost: u64) -> io::Result<()> {
+        if self.telling == Telling::Json {
+            return writeln!(self.out, "{{\"cells\":{cells},\"lost\":{lost}}}");
+        }
+        self.say_passed()?;
+        match lost {
+            0 => writeln!(self.out, "{cells} cells, none lost"),
+            _ => writeln!(self.out, "{lost} of {cells} cells lost: nobody listened"),
+        }
+    }
+
+    // Writes how many symbols are missing, where some are, and what was seen.
+    fn say_received(&mut self, seen: &Seen, missing: Option<u64>) -> io::Result<()> {
+        if self.telling == Telling::Json {
+            return self.show_json(seen, missing);
+        }
+        self.say_passed()?;
+        match (missing, self.symbols) {
+            (Some(missing), Some(symbols)) => {
+                write!(self.out, "{missing} of {symbols} cells missing")?;
+            }
+            _ => {
+                let cells = seen.cells;
+                write!(self.out, "{cells} cells")?;
+            }
+        }
+        match seen.damaged {
+            0 => write!(self.out, ", none damaged")?,
+            damaged => write!(self.out, ", {damaged} damaged")?,
+        }
+        match seen.others {
+            0 => writeln!(self.out, ""),
+            others => writeln!(self.out, ", {others} of other objects"),
+        }
+    }
+}
+
+impl<C: Clock, W: Write> Pace for Watch<'_, C, W> {
+    fn wait(&mut self, bytes: usize) {
+        self.pacer.wait(bytes);
+        self.sent = self.sent.saturating_add(1);
+        if let Some(rate) = self.pass(bytes) {
+            let course = Course {
+                done: self.sent,
+                all: self.cells,
+                missing: None,
+                rate,
+                seconds: self.pulse.elapsed().as_secs(),
+            };
+            self.tell_course(&Seen::default(), &course);
+        }
     }
 }
 
 impl<C: Clock, W: Write> Progress for Watch<'_, C, W> {
     fn tell(&mut self, bytes: usize, seen: &Seen, decoder: Option<&Decoder>) {
-        // Where nobody is told, the clock isn't asked.
-        if self.out.is_none() {
-            return;
+        let rate = self.pass(bytes);
+        if let Some(decoder) = decoder {
+            self.symbols = Some(decoder.get_config().total_symbols());
         }
-        self.bytes = self.bytes.saturating_add(bytes as u64);
-        if let Ok(Some(rate)) = self.past_second() {
-            self.write_line(seen, decoder, rate);
+        let Some(rate) = rate else {
+            return;
+        };
+        let missing = decoder.map(missing_packets);
+        let (done, all) = match (missing, self.symbols) {
+            (Some(missing), Some(symbols)) => (symbols.saturating_sub(missing), self.symbols),
+            _ => (self.pulse.bytes(), self.length),
+        };
+        let course = Course {
+            done,
+            all,
+            missing,
+            rate,
+            seconds: self.pulse.elapsed().as_secs(),
+        };
+        self.tell_course(seen, &course);
+    }
+}
+
+impl<C: Clock, W: Write> Teller for Watch<'_, C, W> {
+    fn begin(&mut self, telling: Telling, rate: Option<u64>, length: Option<u64>) {
+        self.telling = telling;
+        self.length = length;
+        self.pacer.set_rate(rate);
+        self.pulse.begin();
+    }
+
+    fn announce(&mut self, sender: &Sender) {
+        self.cells = Some(sender.cells());
+        if self.telling != Telling::Quiet {
+            let is_json = self.telling == Telling::Json;
+            let _ = announce(sender, is_json, &mut self.out);
         }
     }
 }

@@ -1,0 +1,34 @@
+//! The objects that are found among bytes.
+use super::{FIRST, FIRST_MISNAMED, SECOND, SECOND_MISNAMED, joined};
+use crate::{Ending, standings_in};
+use raptorq::systematic_constants::SystematicTable;
+
+#[test]
+fn objects_are_listed(rt: HostRuntime) {
+    let alloc = rt.alloc();
+    let table = SystematicTable::built_in(alloc).expect(&rt, "a table");
+    let one = Ending::Incomplete { missing: Some(1) };
+    let rows: [(&[&[u8]], &[(u8, Ending)]); 4] = [
+        (&[b"RQC", &FIRST[..49]], &[]),
+        (&[&FIRST, b"RQC", &FIRST], &[(187, one)]),
+        (
+            &[&FIRST, &FIRST_MISNAMED, &SECOND],
+            &[(187, Ending::Written), (0, one)],
+        ),
+        (
+            &[&FIRST_MISNAMED, &SECOND_MISNAMED],
+            &[(0, Ending::AnotherObject)],
+        ),
+    ];
+    for (parts, wanted) in rows {
+        let bytes = joined(alloc, parts).expect(&rt, "bytes");
+        let standings = standings_in(alloc, &table, bytes.as_slice()).expect(&rt, "memory");
+        assert_eq!(rt; standings.len(), wanted.len());
+        for (standing, (name, ending)) in standings.iter().zip(wanted) {
+            assert_eq!(rt;
+                (standing.head.name[0], standing.ended),
+                (*name, Ok(*ending))
+            );
+        }
+    }
+}

@@ -1,0 +1,5 @@
+pub mod Asking
+pub mod Doing
+pub mod Local
+pub mod Parsed
+pub mod Reading

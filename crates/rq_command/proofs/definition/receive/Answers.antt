@@ -1,0 +1,15 @@
+use Rattle.std.proofs.Common.{◌≡◌, ◌∙◌, ap, ap₂}
+use Rattle.std.proofs.lemmas.Result.{IfOk-weaker}
+use Rattle.clap.specs.Words.{App, with_rule, with_subcommand}
+use Rattle.rq_command.specs.Definition.{program_app, send_app, receive_app, with_common, with_ids, with_places, with_repair}
+use Rattle.rq_command.proofs.Local.{adds_local}
+use Rattle.rq_command.proofs.definition.receive.Goals as goal
+
+pub returns-clause-app : goal.returns-clause-app
+unfolding receive_app
+returns-clause-app c = IfOk-weaker c.arg.result _ _ (λ m h. h.shape c.cells.ensures.local
+    ∙ ap₂ with_rule (c.in_ok-common.ensures.app ∙ ap with_common (c.in_ok-placed.ensures.app ∙ ap with_places c.subcommand.ensures.app)) c.cells.ensures.rule) c.arg.ensures
+
+pub returns-clause-local : goal.returns-clause-local
+returns-clause-local c = IfOk-weaker c.arg.result _ _ (λ m h. adds_local _ _ m h c.cells.ensures.local ∙ c.in_ok-common.ensures.local
+    ∙ c.in_ok-placed.ensures.local ∙ c.subcommand.ensures.local) c.arg.ensures

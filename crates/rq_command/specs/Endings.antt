@@ -1,0 +1,53 @@
+-- The status that the program ends with.
+use Rattle.std.specs.Prelude.{ℕ, ◌==◌, ◌&&◌, List, [], ◌∷◌, Ok, Err, nat_lt, if◌then◌else◌}
+use Rattle.clap.specs.Values.{kind_of}
+use Rattle.clap.specs.declared.error.kind.ErrorKind.{ErrorKind}
+use Rattle.clap.specs.declared.error.kind.ErrorKind.TheVariants as kind
+use Rattle.rq_bytes.specs.declared.error.Error.{Error}
+use Rattle.rq_bytes.specs.declared.error.Error.TheVariants as refusal
+use Rattle.rq_streams.specs.declared.run.Stop.{Stop}
+use Rattle.rq_streams.specs.declared.run.Stop.TheVariants.{Fault, Refused}
+use Rattle.rq_cast.specs.declared.run.Ending.{Ending}
+use Rattle.rq_cast.specs.declared.run.Ending.TheVariants.{Written, Incomplete, AnotherObject}
+use Rattle.rq_cast.specs.declared.survey.Standing.{Standing}
+use Rattle.rq_command.specs.declared.ending.End.{End}
+use Rattle.rq_command.specs.declared.ending.End.TheVariants.{Unasked, AtTerminal, Sent, Received, Surveyed, Stopped}
+
+-- of words that ask for no job
+abbrev pub word_status : ErrorKind → ℕ
+word_status kind.DisplayHelp = 0
+word_status kind.DisplayVersion = 0
+word_status kind.OutOfMemory = 1
+word_status _ = 64
+
+abbrev pub ending_status : Ending → ℕ
+ending_status Written = 0
+ending_status (Incomplete missing) = 2
+ending_status AnotherObject = 3
+
+-- memory that is refused is a fault of the system
+abbrev pub refusal_status : Error → ℕ
+refusal_status refusal.OutOfMemory = 1
+refusal_status _ = 3
+
+abbrev pub stop_status : Stop → ℕ
+stop_status Fault = 1
+stop_status (Refused e) = refusal_status e
+
+-- all cells that were to be sent are lost, and there were some
+abbrev pub sent_status : ℕ → ℕ → ℕ
+sent_status cells lost = if nat_lt 0 cells && lost == cells then 1 else 0
+
+-- nothing that was looked for is there
+abbrev pub survey_status : List Standing → ℕ
+survey_status [] = 2
+survey_status (standing ∷ others) = 0
+
+abbrev pub status_of : End → ℕ
+status_of (Unasked e) = word_status (kind_of e)
+status_of AtTerminal = 64
+status_of (Sent cells lost) = sent_status cells lost
+status_of (Received (Ok ending) seen) = ending_status ending
+status_of (Received (Err stop) seen) = stop_status stop
+status_of (Surveyed standings) = survey_status standings.items
+status_of (Stopped stop) = stop_status stop

@@ -1,0 +1,7 @@
+pub mod Asked
+pub mod Definition
+pub mod Endings
+pub mod Numbers
+pub mod Placed
+pub mod Program
+pub mod Values

@@ -1,0 +1,64 @@
+//! What a run reads from, writes to and tells.
+ghost use Rattle.std.specs.Prelude.{◌≡◌, ℕ, List, [], length, Option, map, IfOk, IfErr, IfSome};
+ghost use Rattle.rq_command.specs.Placed.{IsFinished};
+
+use crate::jobs::Telling;
+use rq_cast::{Pace, Progress, Sender};
+use rq_streams::Stop;
+use std::io::{Read, Write};
+
+/// Where a run reads and writes: files by their names, and standard input and output. A call that fails is
+/// a [`Stop::Fault`], and the devices know why.
+pub trait Devices<'w> {
+    /// What is read.
+    type Reader: Read + Drop;
+
+    /// What is written.
+    type Writer: Write + Drop;
+
+    /// What stands in files, one behind another, by their names; on standard input, where there are none.
+    ghost stands: { Self → List (List ℕ) → Option (List ℕ) };
+
+    /// What stands where the run puts what it writes.
+    ghost placed: { Self → Option (List ℕ) };
+
+    /// Whether standard output is a terminal.
+    fn shows_output(&self) -> bool;
+
+    /// What reads these files, one behind another, or standard input, where there are none.
+    fn open(&mut self, files: Vec<&'w str>) -> Result<Self::Reader, Stop>
+        ensures bytes { IfOk result (λ r. Self.Reader.remaining r ≡ stands self.old (map (λ s. s.now) files.entry.items)) }
+        ensures fault { IfErr result (λ stop. stop ≡ Stop.Fault) }
+        ensures kept { placed self.new ≡ placed self.old };
+
+    /// How many bytes a reader has, where that is known before they are read.
+    fn length(&self, reader: &Self::Reader) -> Option<u64>
+        ensures { IfSome result (λ n. IfSome (Self.Reader.remaining reader.now) (λ bytes. length bytes ≡ n)) };
+
+    /// What writes beside a file, or on standard output.
+    fn create(&mut self, file: Option<&'w str>) -> Result<Self::Writer, Stop>
+        ensures empty { IfOk result (λ w. IfSome (Self.Writer.contents w) (λ bytes. bytes ≡ [])) }
+        ensures fault { IfErr result (λ stop. stop ≡ Stop.Fault) }
+        ensures kept { placed self.new ≡ placed self.old };
+
+    /// Puts what is written in the file's place where it is whole, and takes it away where it isn't. What is
+    /// written on standard output is in its place.
+    fn finish(
+        &mut self,
+        file: Option<&'w str>,
+        writer: Self::Writer,
+        is_whole: bool,
+    ) -> Result<(), Stop>
+        ensures fault { IfErr result (λ stop. stop ≡ Stop.Fault) }
+        ensures placed { IsFinished file.entry is_whole result (Self.Writer.contents writer) (placed self.old) (placed self.new) };
+}
+
+/// What is told of a run while it goes on. Nothing is promised of it: the run does the same whoever is told.
+pub trait Teller: Pace + Progress {
+    /// Called first: what is to be told, how many bits a second are sent at most, and how many bytes there
+    /// are to read, where these are known.
+    fn begin(&mut self, telling: Telling, rate: Option<u64>, length: Option<u64>);
+
+    /// Called before the first cell is written.
+    fn announce(&mut self, sender: &Sender);
+}

@@ -1,0 +1,89 @@
+//! How the program ends.
+ghost use Rattle.std.specs.Prelude.{◌≡◌};
+ghost use Rattle.rq_command.specs.Endings.{ending_status, stop_status, status_of, word_status, sent_status};
+
+use clap::Error;
+use clap::error::ErrorKind;
+use raptorq::error::Error as Refusal;
+use rq_cast::{Ending, Seen, Standing};
+use rq_streams::Stop;
+
+/// How the program ended.
+#[derive(Debug, Drop)]
+pub enum End {
+    /// Its words ask for no job: they are wrong, or ask for help or the version.
+    Unasked(Error),
+    /// Its cells would have gone to a terminal, and nothing was read.
+    AtTerminal,
+    /// It has sent cells.
+    Sent {
+        /// How many were to be sent.
+        cells: u64,
+        /// How many of them were lost.
+        lost: u64,
+    },
+    /// It has received, and seen so much, also where something stopped it.
+    Received(Result<Ending, Stop>, Seen),
+    /// It has listed the objects whose cells stand among bytes.
+    Surveyed(Vec<Standing>),
+    /// Something stopped it.
+    Stopped(Stop),
+}
+
+impl End {
+    /// The status that the program ends with: 0 where all is done, 1 after a fault of the system, 2 where
+    /// too little came, 3 where what came is refused or isn't what it says, and 64 where the words are wrong.
+    pub fn status(&self) -> u8
+        ensures { result ≡ status_of self.now }
+    {
+        match self {
+            End::Unasked(error) => word_status(error.kind()),
+            End::AtTerminal => 64,
+            End::Sent { cells, lost } => sent_status(*cells, *lost),
+            End::Received(Ok(ending), _) => ending_status(*ending),
+            End::Received(Err(stop), _) => stop_status(*stop),
+            End::Surveyed(standings) => if standings.is_empty() { 2 } else { 0 },
+            End::Stopped(stop) => stop_status(*stop),
+        }
+    }
+}
+
+// Of words that ask for no job.
+fn word_status(kind: ErrorKind) -> u8
+    ensures { result ≡ word_status kind }
+{
+    match kind {
+        ErrorKind::DisplayHelp | ErrorKind::DisplayVersion => 0,
+        ErrorKind::OutOfMemory => 1,
+        _ => 64,
+    }
+}
+
+// Of cells that were sent: a fault where all are lost.
+fn sent_status(cells: u64, lost: u64) -> u8
+    ensures { result ≡ sent_status cells lost }
+{
+    if cells > 0 && lost == cells { 1 } else { 0 }
+}
+
+// Of a run that nothing stopped.
+fn ending_status(ending: Ending) -> u8
+    ensures { result ≡ ending_status ending }
+{
+    match ending {
+        Ending::Written => 0,
+        Ending::Incomplete { .. } => 2,
+        Ending::AnotherObject => 3,
+    }
+}
+
+// Of what stopped a run. Memory that is refused is a fault of the system.
+fn stop_status(stop: Stop) -> u8
+    ensures { result ≡ stop_status stop }
+{
+    match stop {
+        Stop::Fault => 1,
+        Stop::Refused(Refusal::OutOfMemory) => 1,
+        Stop::Refused(_) => 3,
+    }
+}

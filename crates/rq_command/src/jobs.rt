@@ -1,0 +1,61 @@
+//! What the program can be asked to do.
+
+use rq_cast::Order;
+
+/// What is told of a run beside what went wrong.
+#[derive(Clone, Copy, Debug, Default, PartialEq, Eq)]
+pub enum Telling {
+    /// How it ended, and on a terminal how far it has come.
+    #[default]
+    Usual,
+    /// Nothing.
+    Quiet,
+    /// How it ended, and how far it has come wherever that is read.
+    Progress,
+    /// All counts as JSON, in a line a second and one at the end.
+    Json,
+}
+
+/// How an object is sent.
+#[derive(Debug, PartialEq, Eq, Drop)]
+pub struct SendJob<'a> {
+    /// Which cells are sent, and how fast.
+    pub order: Order,
+    /// The file that is sent, or none for standard input.
+    pub files: Vec<&'a str>,
+    /// What is told.
+    pub telling: Telling,
+}
+
+/// Which object is received.
+#[derive(Debug, PartialEq, Eq, Drop)]
+pub struct ReceiveJob<'a> {
+    /// How its name and configuration begin: any do where there are no bytes.
+    pub name: Vec<u8>,
+    /// The file that it becomes, or none for standard output.
+    pub output: Option<&'a str>,
+    /// The files among whose bytes its cells stand, one behind another, or none for standard input.
+    pub files: Vec<&'a str>,
+    /// What is told.
+    pub telling: Telling,
+}
+
+/// Which bytes are looked through.
+#[derive(Debug, PartialEq, Eq, Drop)]
+pub struct InfoJob<'a> {
+    /// The files, one behind another, or none for standard input.
+    pub files: Vec<&'a str>,
+    /// What is told.
+    pub telling: Telling,
+}
+
+/// What the program is asked to do.
+#[derive(Debug, PartialEq, Eq, Drop)]
+pub enum Job<'a> {
+    /// Sends an object.
+    Send(SendJob<'a>),
+    /// Receives an object.
+    Receive(ReceiveJob<'a>),
+    /// Lists the objects whose cells stand among bytes.
+    Info(InfoJob<'a>),
+}

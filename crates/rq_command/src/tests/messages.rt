@@ -1,0 +1,82 @@
+//! What is said of a run.
+use super::runs::{CELLS, OBJECT};
+use crate::{End, announce, write_end, write_standings};
+use raptorq::ObjectTransmissionInformation;
+use raptorq::error::Error;
+use raptorq::systematic_constants::SystematicTable;
+use rq_cast::{Ending, Repair, Seen, Sender, standings_in};
+use rq_streams::Stop;
+
+#[test]
+fn ends_are_said(rt: HostRuntime) {
+    let alloc = rt.alloc();
+    let none = Seen::default();
+    let received = |ended| End::Received(ended, none);
+    let rows = [
+        (End::AtTerminal, "cells aren't written to a terminal", 64),
+        (End::Sent { cells: 5, lost: 4 }, "", 0),
+        (End::Sent { cells: 5, lost: 5 }, "all 5 cells were lost", 1),
+        (received(Ok(Ending::Written)), "", 0),
+        (
+            received(Ok(Ending::Incomplete { missing: Some(7) })),
+            "it takes 7 more packets",
+            2,
+        ),
+        (
+            received(Ok(Ending::Incomplete { missing: None })),
+            "no cell came",
+            2,
+        ),
+        (received(Ok(Ending::AnotherObject)), "another object", 3),
+        (received(Err(Stop::Fault)), "", 1),
+        (
+            End::Stopped(Stop::Refused(Error::Contradiction)),
+            "contradict",
+            3,
+        ),
+        (
+            End::Stopped(Stop::Refused(Error::OutOfMemory)),
+            "too little memory",
+            1,
+        ),
+        (
+            End::Stopped(Stop::Refused(Error::TransferLengthZero)),
+            "nothing to send",
+            3,
+        ),
+    ];
+    for (ended, text, status) in rows {
+        let mut out: Vec<u8> = Vec::new(alloc);
+        write_end(&ended, &mut out).expect(&rt, "memory");
+        let said = str::from_utf8(out.as_slice()).expect(&rt, "text");
+        assert_eq!(rt;
+            (said.is_empty(), said.contains(text)),
+            (text.is_empty(), true)
+        );
+        assert_eq!(rt; ended.status(), status);
+    }
+}
+
+#[test]
+fn senders_and_objects_are_named(rt: HostRuntime) {
+    let alloc = rt.alloc();
+    let table = SystematicTable::built_in(alloc).expect(&rt, "a table");
+    let config = ObjectTransmissionInformation::new(3, 2, 1, 1, 1).expect(&rt, "a configuration");
+    let repair = Repair::Packets(0);
+    let sender = Sender::new(alloc, &table, config, &OBJECT, repair, 0, 1).expect(&rt, "a sender");
+    let mut out: Vec<u8> = Vec::new(alloc);
+    announce(&sender, false, &mut out).expect(&rt, "memory");
+    announce(&sender, true, &mut out).expect(&rt, "memory");
+    let standings = standings_in(alloc, &table, &CELLS[..50]).expect(&rt, "memory");
+    write_standings(standings.as_slice(), false, &mut out).expect(&rt, "memory");
+    write_standings(standings.as_slice(), true, &mut out).expect(&rt, "memory");
+    let text = "\
+name bbc28135a52ff273b0ee175977e0ddb5000000000300000201000101
+blocks 1 of 2
+cells 2
+{\"name\":\"bbc28135a52ff273b0ee175977e0ddb5000000000300000201000101\",\"blocks\":1,\"symbols\":2,\"cells\":2}
+bbc28135a52ff273b0ee175977e0ddb5000000000300000201000101 3 bytes, lacks 1 packet
+{\"name\":\"bbc28135a52ff273b0ee175977e0ddb5000000000300000201000101\",\"bytes\":3,\"missing\":1}
+";
+    assert_eq!(rt; out.as_slice(), text.as_bytes());
+}

@@ -1,0 +1,198 @@
+//! The program from its words to its end, over memory.
+use crate::{Devices, End, Teller, Telling, run};
+use raptorq::Decoder;
+use rq_cast::{Pace, Progress, Seen, Sender};
+use rq_streams::Stop;
+use std::alloc::{AllocError, Global};
+use std::io;
+use std::io::{Read, Write};
+
+pub(super) const OBJECT: [u8; 3] = [7, 8, 9];
+
+// The cells of that object in symbols of two bytes, as Python's hashlib has them, and cells of the same
+// bytes under a name of zeros.
+pub(super) const CELLS: [u8; 100] = [
+    82, 81, 67, 1, 187, 194, 129, 53, 165, 47, 242, 115, 176, 238, 23, 89, 119, 224, 221, 181, 0,
+    0, 0, 0, 3, 0, 0, 2, 1, 0, 1, 1, 188, 146, 92, 230, 0, 0, 0, 0, 7, 8, 30, 213, 159, 95, 220,
+    120, 224, 122, 82, 81, 67, 1, 187, 194, 129, 53, 165, 47, 242, 115, 176, 238, 23, 89, 119, 224,
+    221, 181, 0, 0, 0, 0, 3, 0, 0, 2, 1, 0, 1, 1, 188, 146, 92, 230, 0, 0, 0, 1, 9, 0, 1, 42, 197,
+    181, 225, 64, 194, 50,
+];
+
+pub(super) const MISNAMED: [u8; 100] = [
+    82, 81, 67, 1, 0, 0, 0, 0, 0, 0, 0, 0, 0, 0, 0, 0, 0, 0, 0, 0, 0, 0, 0, 0, 3, 0, 0, 2, 1, 0, 1,
+    1, 200, 231, 154, 220, 0, 0, 0, 0, 7, 8, 99, 168, 43, 90, 5, 3, 73, 201, 82, 81, 67, 1, 0, 0,
+    0, 0, 0, 0, 0, 0, 0, 0, 0, 0, 0, 0, 0, 0, 0, 0, 0, 0, 3, 0, 0, 2, 1, 0, 1, 1, 200, 231, 154,
+    220, 0, 0, 0, 1, 9, 0, 50, 72, 164, 238, 173, 56, 37, 26,
+];
+
+#[derive(Drop)]
+struct Bytes<'a> {
+    rest: &'a [u8],
+}
+
+impl Read for Bytes<'_> {
+    fn read(&mut self, buf: &mut [u8]) -> io::Result<usize> {
+        self.rest.read(buf)
+    }
+}
+
+#[derive(Drop)]
+struct Written {
+    bytes: Vec<u8>,
+}
+
+impl Write for Written {
+    fn write(&mut self, buf: &[u8]) -> io::Result<usize> {
+        self.bytes.write(buf)
+    }
+
+    fn flush(&mut self) -> io::Result<()> {
+        Ok(())
+    }
+}
+
+// All files, and standard input, have the same bytes. A file that is written holds some before.
+#[derive(Drop)]
+struct Memory<'a> {
+    alloc: Global,
+    input: &'a [u8],
+    is_terminal: bool,
+    placed: Vec<u8>,
+    // How many files were read.
+    read: usize,
+}
+
+impl<'w, 'a> Devices<'w> for Memory<'a> {
+    ghost use Rattle.std.specs.Prelude.{None};
+
+    type Reader = Bytes<'a>;
+
+    type Writer = Written;
+
+    ghost stands = { λ _ _. None };
+
+    ghost placed = { λ _. None };
+
+    fn shows_output(&self) -> bool {
+        self.is_terminal
+    }
+
+    fn open(&mut self, files: Vec<&'w str>) -> Result<Bytes<'a>, Stop> {
+        self.read = files.len();
+        Ok(Bytes { rest: self.input })
+    }
+
+    fn length(&self, reader: &Bytes<'a>) -> Option<u64> {
+        Some(reader.rest.len() as u64)
+    }
+
+    fn create(&mut self, _file: Option<&'w str>) -> Result<Written, Stop> {
+        Ok(Written {
+            bytes: Vec::new(self.alloc),
+        })
+    }
+
+    fn finish(
+        &mut self,
+        file: Option<&'w str>,
+        writer: Written,
+        is_whole: bool,
+    ) -> Result<(), Stop> {
+        let Written { bytes } = writer;
+        if is_whole || file.is_none() {
+            self.placed = bytes;
+        }
+        Ok(())
+    }
+}
+
+#[derive(Drop)]
+struct Nobody;
+
+impl Pace for Nobody {
+    fn wait(&mut self, _bytes: usize) {}
+}
+
+impl Progress for Nobody {
+    fn tell(&mut self, _bytes: usize, _seen: &Seen, _decoder: Option<&Decoder>) {}
+}
+
+impl Teller for Nobody {
+    fn begin(&mut self, _telling: Telling, _rate: Option<u64>, _length: Option<u64>) {}
+
+    fn announce(&mut self, _sender: &Sender) {}
+}
+
+// What a run does: its status, what it placed, and how many files it read.
+type Done = (u8, Vec<u8>, usize);
+
+// The program with the words of a line, over bytes.
+fn done(alloc: Global, line: &str, input: &[u8], is_terminal: bool) -> Result<Done, AllocError> {
+    let words: Vec<&str> = line.split_whitespace().collect(alloc)?;
+    let mut memory = Memory {
+        alloc,
+        input,
+        is_terminal,
+        placed: Vec::from_slice(alloc, b"old")?,
+        read: 0,
+    };
+    let ended: End = run(alloc, words.as_slice(), &mut memory, &mut Nobody);
+    let Memory { placed, read, .. } = memory;
+    Ok((ended.status(), placed, read))
+}
+
+#[test]
+fn words_are_done(rt: HostRuntime) {
+    let alloc = rt.alloc();
+    let rows: [(&str, &[u8], u8, &[u8], usize); 11] = [
+        ("send --cell 50 --repair 0 FILE", &OBJECT, 0, &CELLS, 1),
+        (
+            "send --cell=50 -r0 --share 0/2",
+            &OBJECT,
+            0,
+            &CELLS[..50],
+            0,
+        ),
+        ("send -c50 -r 0 --from 1 -q", &OBJECT, 0, &CELLS[50..], 0),
+        ("send", b"", 3, b"old", 0),
+        ("receive", &CELLS, 0, &OBJECT, 0),
+        ("receive -o FILE --name bbc2 A B", &CELLS, 0, &OBJECT, 2),
+        ("receive -o FILE --name bbc3", &CELLS, 2, b"old", 0),
+        ("receive -o FILE", &CELLS[..99], 2, b"old", 0),
+        ("receive -o FILE", &MISNAMED, 3, b"old", 0),
+        ("receive", &MISNAMED, 3, b"", 0),
+        ("info A", &CELLS, 0, b"old", 1),
+    ];
+    for (line, input, status, placed, read) in rows {
+        let found = done(alloc, line, input, false).expect(&rt, "memory");
+        assert_eq!(rt;
+            (found.0, found.1.as_slice(), found.2),
+            (status, placed, read),
+            "{line}"
+        );
+    }
+}
+
+#[test]
+fn other_words_do_nothing(rt: HostRuntime) {
+    let alloc = rt.alloc();
+    for (line, status) in [
+        ("--help", 0),
+        ("send --version", 0),
+        ("", 64),
+        ("send -x", 64),
+    ] {
+        let found = done(alloc, line, &OBJECT, false).expect(&rt, "memory");
+        assert_eq!(rt;
+            (found.0, found.1.as_slice(), found.2),
+            (status, b"old".as_slice(), 0),
+            "{line}"
+        );
+    }
+    let found = done(alloc, "send FILE", &OBJECT, true).expect(&rt, "memory");
+    assert_eq!(rt;
+        (found.0, found.1.as_slice(), found.2),
+        (64, b"old".as_slice(), 0)
+    );
+}

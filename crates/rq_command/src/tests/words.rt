@@ -1,0 +1,140 @@
+//! What words ask for, and what is said where they ask for nothing.
+use crate::{Job, job};
+use rq_cast::{Ids, Loss, Order, Repair};
+use std::alloc::{AllocError, Global};
+
+// The order of a line of words behind `send`.
+fn ordered(alloc: Global, line: &str) -> Result<Option<Order>, AllocError> {
+    let words: Vec<&str> = line.split_whitespace().collect(alloc)?;
+    match job(alloc, words.as_slice()) {
+        Ok(Job::Send(job)) => Ok(Some(job.order)),
+        _ => Ok(None),
+    }
+}
+
+// The error of a line of words, where it is one.
+fn refused(alloc: Global, line: &str) -> Result<String, AllocError> {
+    let words: Vec<&str> = line.split_whitespace().collect(alloc)?;
+    match job(alloc, words.as_slice()) {
+        Ok(_) => Ok(String::new(alloc)),
+        Err(error) => format!(in alloc; "{error}"),
+    }
+}
+
+#[test]
+fn orders_are_read(rt: HostRuntime) {
+    let alloc = rt.alloc();
+    let rows = [
+        (
+            "send",
+            1424,
+            Repair::Against(Loss { parts: 5000 }),
+            0,
+            1,
+            None,
+        ),
+        (
+            "send -l 0.5",
+            1424,
+            Repair::Against(Loss { parts: 500 }),
+            0,
+            1,
+            None,
+        ),
+        (
+            "send --loss 10",
+            1424,
+            Repair::Against(Loss { parts: 10000 }),
+            0,
+            1,
+            None,
+        ),
+        (
+            "send --cell 1.3k -r 15%",
+            1252,
+            Repair::Share(15000),
+            0,
+            1,
+            None,
+        ),
+        (
+            "send -c65583 -r 2k",
+            65535,
+            Repair::Packets(2000),
+            0,
+            1,
+            None,
+        ),
+        (
+            "send -rall --rate 0.5G",
+            1424,
+            Repair::All,
+            0,
+            1,
+            Some(500_000_000),
+        ),
+        (
+            "send -r7 --share 3/20 --from 100",
+            1424,
+            Repair::Packets(7),
+            103,
+            20,
+            None,
+        ),
+    ];
+    for (line, symbol_size, repair, first, step, rate) in rows {
+        let order = Order {
+            symbol_size,
+            repair,
+            ids: Ids { first, step, rate },
+        };
+        assert_eq!(rt;
+            ordered(alloc, line).expect(&rt, "memory"),
+            Some(order),
+            "{line}"
+        );
+    }
+}
+
+#[test]
+fn wrong_words_are_named(rt: HostRuntime) {
+    let alloc = rt.alloc();
+    for (line, word) in [
+        ("fetch", "'fetch'"),
+        ("send --loud", "'--loud'"),
+        ("send a b", "'b'"),
+        ("send --cell", "'--cell <BYTES>'"),
+        ("send --cell 48", "'48' for '--cell <BYTES>'"),
+        ("send --cell 65584", "'65584'"),
+        ("send --cell 1e3", "'1e3'"),
+        ("send --loss 50.001", "'50.001' for '--loss <PERCENT>'"),
+        (
+            "send --loss 5 --repair 7",
+            "'--loss <PERCENT>' cannot be used with '--repair <N|N%|all>'",
+        ),
+        ("send --repair -1", "'-1'"),
+        ("send --repair some", "'some' for '--repair <N|N%|all>'"),
+        ("send --rate 0", "'0' for '--rate <BITS>'"),
+        ("send --rate 1.2345k", "'1.2345k'"),
+        ("send --rate +5", "'+5'"),
+        ("send --share 2/2", "'2/2' for '--share <I/N>'"),
+        ("send --from 16777216", "'16777216' for '--from <ID>'"),
+        (
+            "send -q --progress",
+            "'--quiet' cannot be used with '--progress'",
+        ),
+        (
+            "receive --json --progress",
+            "'--progress' cannot be used with '--json'",
+        ),
+        ("receive --name b", "'b' for '--name <HEX>'"),
+        ("receive --output", "'--output <FILE>'"),
+        (
+            "info --quiet --json",
+            "'--quiet' cannot be used with '--json'",
+        ),
+    ] {
+        let message = refused(alloc, line).expect(&rt, "memory");
+        assert!(rt; message.as_str().contains(word), "{line}: {message}");
+    }
+}

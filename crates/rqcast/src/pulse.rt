@@ -1,0 +1,79 @@
+//! What passes in a time.
+
+use std::io;
+use std::time::{Clock, Duration, Instant};
+
+// How long it waits before it tells again, in milliseconds.
+const PERIOD: u128 = 1000;
+
+/// Counts bytes, and says at the first of them past each second how many came in it.
+#[derive(Drop)]
+pub struct Pulse<'a, C: Clock> {
+    clock: &'a C,
+    start: Option<Instant>,
+    told: Option<Instant>,
+    recent: u64,
+    bytes: u64,
+}
+
+impl<'a, C: Clock> Pulse<'a, C> {
+    /// By a clock, which isn't asked yet.
+    pub fn new(clock: &'a C) -> Pulse<'a, C> {
+        Pulse {
+            clock,
+            start: None,
+            told: None,
+            recent: 0,
+            bytes: 0,
+        }
+    }
+
+    /// Begins to count the time.
+    pub fn begin(&mut self) {
+        self.start = Instant::now(self.clock).ok();
+        self.told = self.start;
+    }
+
+    /// How many bytes came since it began.
+    pub fn bytes(&self) -> u64 {
+        self.bytes
+    }
+
+    /// How long it is since it began: nothing where the clock fails.
+    pub fn elapsed(&self) -> Duration {
+        match self.start {
+            Some(start) => start.elapsed(self.clock).unwrap_or(Duration::ZERO),
+            None => Duration::ZERO,
+        }
+    }
+
+    /// Counts bytes alone.
+    pub fn count(&mut self, bytes: usize) {
+        self.bytes = self.bytes.saturating_add(bytes as u64);
+        self.recent = self.recent.saturating_add(bytes as u64);
+    }
+
+    /// How many bytes came a second, where one has passed since it last said so.
+    pub fn rate(&mut self) -> Option<u64> {
+        match self.try_rate() {
+            Ok(rate) => rate,
+            Err(_) => None,
+        }
+    }
+
+    fn try_rate(&mut self) -> io::Result<Option<u64>> {
+        let now = Instant::now(self.clock)?;
+        let Some(told) = self.told else {
+            self.told = Some(now);
+            return Ok(None);
+        };
+        let passed = now.duration_since(told).as_millis();
+        if passed < PERIOD {
+            return Ok(None);
+        }
+        self.told = Some(now);
+        let rate = u128::from(self.recent) * 1000 / passed.max(PERIOD);
+        self.recent = 0;
+        Ok(Some(u64::try_from(rate).unwrap_or(u64::MAX)))
+    }
+}

@@ -1,0 +1,67 @@
+//! The system's devices.
+
+use crate::failure::Failure;
+use crate::source::Source;
+use crate::target::Target;
+use rq_command::Devices;
+use rq_streams::Stop;
+use std::cell::Cell;
+use std::io;
+use std::io::IsTerminal;
+
+/// Standard input and output, and files. It knows which call failed first.
+#[derive(Clone, Copy)]
+pub struct System<'c, 'w> {
+    pub rt: &'c HostRuntime,
+    pub failure: &'c Cell<Option<Failure<'w>>>,
+}
+
+impl<'c, 'w> System<'c, 'w> {
+    /// Notes why a call failed, where none did before.
+    pub fn note(&self, tried: &'static str, place: &'w str, error: io::Error) {
+        if self.failure.get().is_none() {
+            self.failure.set(Some(Failure {
+                tried,
+                place,
+                error,
+            }));
+        }
+    }
+}
+
+impl<'c, 'w> Devices<'w> for System<'c, 'w> {
+    ghost use Rattle.std.specs.Prelude.{None};
+
+    type Reader = Source<'c, 'w>;
+
+    type Writer = Target<'c, 'w>;
+
+    ghost stands = { λ _ _. None };
+
+    ghost placed = { λ _. None };
+
+    fn shows_output(&self) -> bool {
+        self.rt.stdout().is_terminal()
+    }
+
+    fn open(&mut self, files: Vec<&'w str>) -> Result<Source<'c, 'w>, Stop> {
+        Source::open(*self, files).map_err(|_| Stop::Fault)
+    }
+
+    fn length(&self, reader: &Source<'c, 'w>) -> Option<u64> {
+        reader.length()
+    }
+
+    fn create(&mut self, file: Option<&'w str>) -> Result<Target<'c, 'w>, Stop> {
+        Target::create(*self, file).map_err(|_| Stop::Fault)
+    }
+
+    fn finish(
+        &mut self,
+        _file: Option<&'w str>,
+        writer: Target<'c, 'w>,
+        is_whole: bool,
+    ) -> Result<(), Stop> {
+        writer.finish(is_whole).map_err(|_| Stop::Fault)
+    }
+}

@@ -1,0 +1,25 @@
+# Completes the words of rqcast in bash, which are those of `rqcast --help`.
+
+_rqcast() {
+    local word=${COMP_WORDS[COMP_CWORD]} before=${COMP_WORDS[COMP_CWORD - 1]}
+    local words="-q --quiet --progress --json -h --help -V --version"
+    COMPREPLY=()
+    if [ "$COMP_CWORD" -eq 1 ]; then
+        mapfile -t COMPREPLY < <(compgen -W "send receive info -h --help -V --version" -- "$word")
+        return
+    fi
+    case $before in
+        -r | --repair) mapfile -t COMPREPLY < <(compgen -W "all" -- "$word") && return ;;
+        -c | --cell | -l | --loss | --rate | --share | --from | --name) return ;;
+    esac
+    case ${COMP_WORDS[1]} in
+        send) words+=" -c --cell -l --loss -r --repair --rate --share --from" ;;
+        receive) words+=" -o --output --name" ;;
+    esac
+    if [[ $word == -* ]]; then
+        mapfile -t COMPREPLY < <(compgen -W "$words" -- "$word")
+    else
+        mapfile -t COMPREPLY < <(compgen -f -- "$word")
+    fi
+}
+complete -o filenames -F _rqcast rqcast
