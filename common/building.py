@@ -46,7 +46,7 @@ def misused(usage):
 
 def arguments(usage, names=None, least=1):
     """The words that a script was called with. Asked for help it prints its usage, and ends with 0; with too few words, or a first one
-    that isn't among the names, with 2."""
+    that isn't among the names, with 64."""
     words = sys.argv[1:]
     if words and words[0] in ("-h", "--help"):
         print(usage)

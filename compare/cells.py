@@ -239,23 +239,16 @@ def places_in(data):
 
 
 class Received(NamedTuple):
-    """How a receiver ends: how many bytes it read, the lines that it prints, the object that it writes, its status, and the cells of the
-    object that it took."""
+    """How a receiver ends: how many bytes it read, what it counts by its names in JSON, the object that it writes, and its status."""
 
     read: int
-    lines: list
+    counts: dict
     written: bytes
     status: int
-    cells: int = 0
 
 
 def is_wanted(head, name):
     return configuration_of(head).is_taken() and head[4:32].startswith(name)
-
-
-def counted(damaged, others, last):
-    lines = [f"{word} {count}" for word, count in (("damaged", damaged), ("other", others)) if count]
-    return lines + [last] * (last is not None)
 
 
 def find_first(places, name, ends):
@@ -277,7 +270,7 @@ def receive(data, name, ends, objects):
     if not found:
         wanted = [is_wanted(place.head, name) for place in places]
         damaged = sum(is_one and place.end <= len(data) for is_one, place in zip(wanted, places))
-        return Received(len(data), counted(damaged, len(places) - sum(wanted), "incomplete"), b"", 2)
+        return Received(len(data), {"cells": 0, "damaged": damaged, "others": len(places) - sum(wanted)}, b"", 2)
     first, front = found
     told = next(thing for thing in objects if thing.head == first.head)
     before = [place for place in places if place.at < first.at]
@@ -296,9 +289,8 @@ def receive(data, name, ends, objects):
     damaged += sum(place.head == told.head and place.end <= end and not place.is_cell for place in later)
     known = sum(place.block < len(ids) for place in cells)
     others += sum(place.head != told.head for place in later) + len(cells) - known
+    counts = {"cells": known, "damaged": damaged, "others": others}
     missing = sum(missing_of(told.configuration, ids))
     if missing:
-        return Received(len(data), counted(damaged, others, f"incomplete {missing}"), b"", 2, known)
-    if not told.is_right:
-        return Received(end, counted(damaged, others, "another object"), b"", 5, known)
-    return Received(end, counted(damaged, others, None), told.data, 0, known)
+        return Received(len(data), {**counts, "missing": missing}, b"", 2)
+    return Received(end, counts, told.data, 0) if told.is_right else Received(end, counts, b"", 3)

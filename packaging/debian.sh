@@ -74,6 +74,7 @@ TEXT
 finish() {
     local documents=$staged/usr/share/doc/$package
     mkdir -p "$documents"
+    [ "$package" = "$LIBRARY" ] || stage_pages "usr/share/doc/$package"
     write_copyright >"$documents/copyright"
     printf 'reamertan (%s-1) unstable; urgency=medium\n\n  * Version %s.\n\n -- %s  %s\n' "$version" "$version" \
         "$MAINTAINED_BY" "$(date -uR -d "@$SOURCE_DATE_EPOCH")" | gzip -9n >"$documents/changelog.Debian.gz"

@@ -7,7 +7,7 @@ declare -a processors
 # The programs, each with words to try it with.
 readonly PROGRAMS=("rq send 2 0" "rqcast send --cell 50 --repair 0")
 # The crates of the toolchain that are linked in, of which it has the licences.
-readonly LINKED="arrayvec hex memchr sha2 smallvec serde thiserror"
+readonly LINKED="arrayvec clap hex memchr sha2 smallvec serde strsim thiserror"
 
 fail() {
     echo "${0##*/}: $1" >&2

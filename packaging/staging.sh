@@ -79,6 +79,8 @@ TEXT
 
 # The scripts of examples/ over the programs.
 readonly SCRIPTS=(carousel diode many relay shards)
+# The pages for users, which stand in packages as they do here, so that their links to each other hold.
+readonly PAGES=(README.md docs/SEND.md docs/C.md docs/CELLS.md)
 
 # From which commit each build was proved, and by which toolchain: BUILT PROCESSOR..
 write_proved() {
@@ -111,8 +113,15 @@ stage() {
     command install -D -m "$1" "$2" "$staged/$3"
 }
 
+# The pages: FOLDER.
+stage_pages() {
+    local page
+    for page in "${PAGES[@]}"; do stage 644 "$top/$page" "$1/$page"; done
+}
+
 stage_documents() {
     local crate file
+    stage_pages share/doc/reamertan
     stage 644 "$top/LICENSE" share/doc/reamertan/LICENSE
     write_linked "$1" >"$made/LINKED"
     stage 644 "$made/LINKED" share/doc/reamertan/LINKED

@@ -181,9 +181,9 @@ pub(crate) fn info<'a>(alloc: Global) -> Result<Command<'a>, AllocError>
     common(alloc, subcommand(alloc, "info", about))?.arg(cells(alloc))
 }
 
-// The program with no subcommand yet.
-fn top<'a>(alloc: Global) -> Command<'a>
-    ensures { app_of result ≡ top_app }
+// The program with no subcommand yet. Usage names it before a subcommand.
+fn top<'a>(alloc: Global) -> Result<Command<'a>, AllocError>
+    ensures { IfOk result (λ c. app_of c ≡ top_app) }
 {
     Command::new(alloc, "rqcast")
         .about("Sends a file as RaptorQ cells over anything that loses or damages, and receives it")
@@ -192,6 +192,7 @@ fn top<'a>(alloc: Global) -> Command<'a>
         .no_binary_name(true)
         .subcommand_required(true)
         .disable_help_subcommand(true)
+        .bin_name("rqcast")
 }
 
 /// All words behind the program's name.
@@ -201,7 +202,7 @@ pub(crate) fn program<'a>(alloc: Global) -> Result<Command<'a>, AllocError>
     let send = send(alloc)?;
     let receive = receive(alloc)?;
     let info = info(alloc)?;
-    let one = top(alloc).subcommand(send)?;
+    let one = top(alloc)?.subcommand(send)?;
     let two = one.subcommand(receive)?;
     two.subcommand(info)
 }
