@@ -4,4 +4,5 @@ pub mod Endings
 pub mod Numbers
 pub mod Placed
 pub mod Program
+pub mod Told
 pub mod Values

@@ -1,6 +1,6 @@
 //! How the program ends.
 ghost use Rattle.std.specs.Prelude.{◌≡◌};
-ghost use Rattle.rq_command.specs.Endings.{ending_status, stop_status, status_of, word_status, sent_status};
+ghost use Rattle.rq_command.specs.Endings.{all_lost, ending_status, stop_status, status_of, word_status};
 
 use clap::Error;
 use clap::error::ErrorKind;
@@ -19,7 +19,7 @@ pub enum End {
     Sent {
         /// How many were to be sent.
         cells: u64,
-        /// How many of them were lost.
+        /// For how many it was said that nobody listens.
         lost: u64,
     },
     /// It has received, and seen so much, also where something stopped it.
@@ -39,7 +39,7 @@ impl End {
         match self {
             End::Unasked(error) => word_status(error.kind()),
             End::AtTerminal => 64,
-            End::Sent { cells, lost } => sent_status(*cells, *lost),
+            End::Sent { cells, lost } => if all_lost(*cells, *lost) { 1 } else { 0 },
             End::Received(Ok(ending), _) => ending_status(*ending),
             End::Received(Err(stop), _) => stop_status(*stop),
             End::Surveyed(standings) => if standings.is_empty() { 2 } else { 0 },
@@ -59,11 +59,12 @@ fn word_status(kind: ErrorKind) -> u8
     }
 }
 
-// Of cells that were sent: a fault where all are lost.
-fn sent_status(cells: u64, lost: u64) -> u8
-    ensures { result ≡ sent_status cells lost }
+/// Whether nobody listened for any of the cells. That nobody takes a datagram is said at the next call: so
+/// of those that are all lost each second one is refused, and the others seem to be sent.
+pub(crate) fn all_lost(cells: u64, lost: u64) -> bool
+    ensures { result ≡ all_lost cells lost }
 {
-    if cells > 0 && lost == cells { 1 } else { 0 }
+    lost > 0 && lost >= cells / 2
 }
 
 // Of a run that nothing stopped.

@@ -11,6 +11,7 @@ mod messages;
 mod misuse;
 mod numbers;
 mod program;
+mod told;
 mod values;
 mod version;
 mod words;

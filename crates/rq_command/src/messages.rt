@@ -1,6 +1,6 @@
 //! What is said of a run.
 
-use crate::ending::End;
+use crate::ending::{End, all_lost};
 use raptorq::error::Error;
 use rq_cast::{Ending, Sender, Standing};
 use rq_cells::Head;
@@ -155,7 +155,7 @@ pub fn write_end<W: Write>(end: &End, out: &mut W) -> io::Result<()> {
             out,
             "rqcast: cells aren't written to a terminal: send them on, as by >FILE"
         ),
-        End::Sent { cells, lost } if *cells > 0 && lost == cells => {
+        End::Sent { cells, lost } if all_lost(*cells, *lost) => {
             writeln!(
                 out,
                 "rqcast: all {cells} cells were lost: nobody listens there"

@@ -8,6 +8,7 @@ ghost use Rattle.rq_command.specs.Program.{EndsSend, EndsReceive, EndsInfo, end_
 use crate::devices::{Devices, Teller};
 use crate::ending::End;
 use crate::jobs::{InfoJob, Job, ReceiveJob, SendJob};
+use crate::told::Told;
 use crate::words::job;
 use rq_cast::{
     Ending, Input, Order, Output, Seen, Sender, Wanted, check_length, read_sender, run_receive,
@@ -20,11 +21,12 @@ use std::convert::AsStr;
 use std::io::Read;
 
 // Reads an object to its end, and makes its sender. Where its length is known, that is checked first.
-fn prepare<R: Read + Drop>(
+fn prepare<R: Read + Drop, T: Teller>(
     alloc: Global,
     order: &Order,
     known: Option<u64>,
     reader: R,
+    teller: &mut T,
 ) -> Result<Sender, Stop>
     requires step { 0 < order.now.ids.step }
     requires known { IfSome known (λ n. IfSome (R.remaining reader) (λ object. length object ≡ n)) }
@@ -34,7 +36,8 @@ fn prepare<R: Read + Drop>(
     if let Some(length) = known {
         check_length(alloc, length, order.symbol_size)?;
     }
-    read_sender(alloc, order, &mut Counted::new(reader))
+    let mut input = Counted::new(Told::new(reader, teller));
+    read_sender(alloc, order, &mut input)
 }
 
 // Sends an object. Nothing is read where its cells would go to a terminal.
@@ -59,7 +62,7 @@ fn send<'w, D: Devices<'w>, T: Teller>(
     let reader = devices.open(files)?;
     let length = devices.length(&reader);
     teller.begin(telling, order.ids.rate, length);
-    let sender = prepare(alloc, &order, length, reader)?;
+    let sender = prepare(alloc, &order, length, reader, teller)?;
     teller.announce(&sender);
     let mut output = Output::new(Counted::new(devices.create(None)?));
     let sent = sender.send(alloc, &mut output, teller);
@@ -139,7 +142,8 @@ fn info<'w, D: Devices<'w>, T: Teller>(
     let table = full_table(alloc)?;
     let reader = devices.open(files)?;
     teller.begin(telling, None, devices.length(&reader));
-    let bytes = read_all(alloc, &mut Counted::new(reader))?;
+    let mut input = Counted::new(Told::new(reader, teller));
+    let bytes = read_all(alloc, &mut input)?;
     let standings = standings_in(alloc, &table, bytes.as_slice())?;
     Ok(End::Surveyed(standings))
 }

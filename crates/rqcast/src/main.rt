@@ -3,6 +3,7 @@
 #![tactic(auto)]
 
 mod amounts;
+mod aside;
 mod failure;
 mod line;
 mod pace;
@@ -22,7 +23,7 @@ use crate::words::{Words, read_words};
 use rq_command::{End, Telling, run, write_end, write_standings};
 use std::cell::Cell;
 use std::io;
-use std::io::{ErrorKind, IsTerminal};
+use std::io::IsTerminal;
 use std::process::ExitCode;
 
 // The status where the words are wrong, and after a fault of the system.
@@ -50,27 +51,25 @@ fn main(rt: HostRuntime) -> ExitCode {
     let mut watch = Watch::new(&rt, rt.stderr(), rt.stderr().is_terminal());
     let ended = run(rt.alloc(), words.as_slice(), &mut system, &mut watch);
     watch.end(&ended);
-    match say(&rt, &ended, failure.get(), watch.telling()) {
+    if let Some(failure) = failure.get() {
+        let _ = failure.write(rt.alloc(), &mut rt.stderr());
+    }
+    match say(&rt, &ended, watch.telling()) {
         Ok(()) => ExitCode::from(ended.status()),
         Err(error) => {
-            if error.kind() != ErrorKind::BrokenPipe {
-                let _ = eprintln!(rt; "rqcast: writing to standard output: {error}");
-            }
+            let failure = Failure {
+                tried: "writing to",
+                place: "standard output",
+                error,
+            };
+            let _ = failure.write(rt.alloc(), &mut rt.stderr());
             ExitCode::from(FAULT)
         }
     }
 }
 
 // Says how the program ended. What is asked for goes to standard output, and an error comes of that alone.
-fn say(
-    rt: &HostRuntime,
-    ended: &End,
-    failure: Option<Failure<'_>>,
-    telling: Telling,
-) -> io::Result<()> {
-    if let Some(failure) = failure {
-        let _ = failure.write(rt.alloc(), &mut rt.stderr());
-    }
+fn say(rt: &HostRuntime, ended: &End, telling: Telling) -> io::Result<()> {
     let _ = write_end(ended, &mut rt.stderr());
     match ended {
         End::Unasked(error) if error.use_stderr() => {

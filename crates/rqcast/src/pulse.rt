@@ -28,10 +28,12 @@ impl<'a, C: Clock> Pulse<'a, C> {
         }
     }
 
-    /// Begins to count the time.
+    /// Begins to count, and forgets what was counted before.
     pub fn begin(&mut self) {
         self.start = Instant::now(self.clock).ok();
         self.told = self.start;
+        self.recent = 0;
+        self.bytes = 0;
     }
 
     /// How many bytes came since it began.

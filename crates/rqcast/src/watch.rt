@@ -7,9 +7,15 @@ use crate::pulse::Pulse;
 use raptorq::Decoder;
 use rq_cast::{Ending, Pace, Progress, Seen, Sender, missing_packets};
 use rq_command::{End, Teller, Telling, announce};
+use rq_streams::Stop;
 use std::io;
 use std::io::Write;
 use std::time::Clock;
+
+// So many cells.
+fn noun_of(cells: u64) -> &'static str {
+    if cells == 1 { "cell" } else { "cells" }
+}
 
 // What clears a line of a terminal from here on.
 const CLEAR: &str = "\x1b[K";
@@ -22,11 +28,11 @@ pub struct Watch<'a, C: Clock, W: Write> {
     telling: Telling,
     pulse: Pulse<'a, C>,
     pacer: Pacer<'a, C>,
-    // How many bytes there are to read, how many cells to send, and how many symbols an object has, where
-    // that is known.
+    // How many bytes there are to read, and how many symbols an object has, where that is known; how many
+    // cells there are to send, and how many of them were.
     length: Option<u64>,
-    cells: Option<u64>,
     symbols: Option<u64>,
+    cells: u64,
     sent: u64,
     // A line stands there that is to be cleared.
     is_shown: bool,
@@ -42,8 +48,8 @@ impl<'a, C: Clock, W: Write> Watch<'a, C, W> {
             pulse: Pulse::new(clock),
             pacer: Pacer::new(clock, None),
             length: None,
-            cells: None,
             symbols: None,
+            cells: 0,
             sent: 0,
             is_shown: false,
         }
@@ -75,47 +81,50 @@ impl<'a, C: Clock, W: Write> Watch<'a, C, W> {
         write!(self.out, "{CLEAR}")
     }
 
-    // Writes all counts as a line of JSON.
-    fn show_json(&mut self, seen: &Seen, missing: Option<u64>) -> io::Result<()> {
+    // Writes the time, the bytes and other counts as a line of JSON.
+    fn write_json(&mut self, counts: &[(&str, u64)]) -> io::Result<()> {
         let (bytes, time) = (self.pulse.bytes(), self.pulse.elapsed().as_millis());
-        let (sent, cells) = (self.sent, seen.cells);
-        let (damaged, others) = (seen.damaged, seen.others);
-        write!(
-            self.out,
-            "{{\"milliseconds\":{time},\"bytes\":{bytes},\"sent\":{sent},\"cells\":{cells},"
-        )?;
-        write!(self.out, "\"damaged\":{damaged},\"others\":{others}")?;
-        if let Some(missing) = missing {
-            write!(self.out, ",\"missing\":{missing}")?;
+        write!(self.out, "{{\"milliseconds\":{time},\"bytes\":{bytes}")?;
+        for (name, count) in counts {
+            write!(self.out, ",\"{name}\":{count}")?;
         }
         writeln!(self.out, "}}")
     }
 
-    // Tells how far the run has come. That it can't be told is no fault of the run.
-    fn tell_course(&mut self, seen: &Seen, course: &Course) {
-        let _ = if self.telling == Telling::Json {
-            self.show_json(seen, course.missing)
-        } else {
-            self.show(course)
-        };
+    // Writes what was seen as a line of JSON, and how many packets are missing where that is known.
+    fn write_seen(&mut self, seen: &Seen, missing: Option<u64>) -> io::Result<()> {
+        let (cells, damaged) = (("cells", seen.cells), ("damaged", seen.damaged));
+        let others = ("others", seen.others);
+        match missing {
+            Some(missing) => self.write_json(&[cells, damaged, others, ("missing", missing)]),
+            None => self.write_json(&[cells, damaged, others]),
+        }
+    }
+
+    // Takes the line away, where one is shown.
+    fn clear(&mut self) {
+        if self.is_shown {
+            let _ = write!(self.out, "\r{CLEAR}");
+        }
+        self.is_shown = false;
     }
 
     /// Takes the line away, and says how much passed and was seen.
     pub fn end(&mut self, ended: &End) {
-        if self.is_shown {
-            let _ = write!(self.out, "\r{CLEAR}");
-        }
+        self.clear();
         if self.telling == Telling::Quiet {
             return;
         }
         let _ = match ended {
+            // What is said then is that all cells were lost.
+            End::Sent { .. } if ended.status() != 0 && self.telling != Telling::Json => Ok(()),
             End::Sent { cells, lost } => self.say_sent(*cells, *lost),
-            End::Received(Ok(Ending::Written), seen) => self.say_received(seen, None),
             End::Received(Ok(Ending::Incomplete { missing }), seen) => {
                 self.say_received(seen, *missing)
             }
-            End::Received(Ok(Ending::AnotherObject), seen) => self.say_received(seen, None),
-            End::Received(Err(_), seen) => self.say_received(seen, None),
+            // Of a failed call no more is said than what failed.
+            End::Received(Err(Stop::Fault), _) => Ok(()),
+            End::Received(_, seen) => self.say_received(seen, None),
             _ => Ok(()),
         };
     }
@@ -129,19 +138,23 @@ impl<'a, C: Clock, W: Write> Watch<'a, C, W> {
 
     fn say_sent(&mut self, cells: u64, lost: u64) -> io::Result<()> {
         if self.telling == Telling::Json {
-            return writeln!(self.out, "{{\"cells\":{cells},\"lost\":{lost}}}");
+            return self.write_json(&[("sent", self.sent), ("cells", cells), ("lost", lost)]);
         }
         self.say_passed()?;
+        let noun = noun_of(cells);
         match lost {
-            0 => writeln!(self.out, "{cells} cells, none lost"),
-            _ => writeln!(self.out, "{lost} of {cells} cells lost: nobody listened"),
+            0 => writeln!(self.out, "{cells} {noun}, none lost"),
+            _ => writeln!(
+                self.out,
+                "{cells} {noun}, {lost} and more lost: nobody listened"
+            ),
         }
     }
 
     // Writes how many symbols are missing, where some are, and what was seen.
     fn say_received(&mut self, seen: &Seen, missing: Option<u64>) -> io::Result<()> {
         if self.telling == Telling::Json {
-            return self.show_json(seen, missing);
+            return self.write_seen(seen, missing);
         }
         self.say_passed()?;
         match (missing, self.symbols) {
@@ -149,8 +162,8 @@ impl<'a, C: Clock, W: Write> Watch<'a, C, W> {
                 write!(self.out, "{missing} of {symbols} cells missing")?;
             }
             _ => {
-                let cells = seen.cells;
-                write!(self.out, "{cells} cells")?;
+                let (cells, noun) = (seen.cells, noun_of(seen.cells));
+                write!(self.out, "{cells} {noun}")?;
             }
         }
         match seen.damaged {
@@ -169,14 +182,19 @@ impl<C: Clock, W: Write> Pace for Watch<'_, C, W> {
         self.pacer.wait(bytes);
         self.sent = self.sent.saturating_add(1);
         if let Some(rate) = self.pass(bytes) {
+            let cells = self.cells;
             let course = Course {
                 done: self.sent,
-                all: self.cells,
+                all: Some(cells),
                 missing: None,
                 rate,
                 seconds: self.pulse.elapsed().as_secs(),
             };
-            self.tell_course(&Seen::default(), &course);
+            // That it can't be told is no fault of the run.
+            let _ = match self.telling {
+                Telling::Json => self.write_json(&[("sent", self.sent), ("cells", cells)]),
+                _ => self.show(&course),
+            };
         }
     }
 }
@@ -202,7 +220,10 @@ impl<C: Clock, W: Write> Progress for Watch<'_, C, W> {
             rate,
             seconds: self.pulse.elapsed().as_secs(),
         };
-        self.tell_course(seen, &course);
+        let _ = match self.telling {
+            Telling::Json => self.write_seen(seen, missing),
+            _ => self.show(&course),
+        };
     }
 }
 
@@ -215,7 +236,9 @@ impl<C: Clock, W: Write> Teller for Watch<'_, C, W> {
     }
 
     fn announce(&mut self, sender: &Sender) {
-        self.cells = Some(sender.cells());
+        self.cells = sender.cells();
+        self.pulse.begin();
+        self.clear();
         if self.telling != Telling::Quiet {
             let is_json = self.telling == Telling::Json;
             let _ = announce(sender, is_json, &mut self.out);
