@@ -1,9 +1,13 @@
 -- What is done by the words.
-use Rattle.std.proofs.Common.{◌≡◌, ℕ, List, [], Option, Some, None, IfSome, sym, subst, ap}
+use Rattle.std.proofs.Common.{◌≡◌, ℕ, List, [], Option, Some, None, IfSome, sym, subst, ap, ◌∙◌}
 use Rattle.rq_cast.specs.declared.order.Order.{Order}
+use Rattle.rq_cast.specs.declared.output.Output.{Output}
+use Rattle.rq_cast.specs.Output.{counting, sink}
 use Rattle.rq_cast.specs.Preparing.{IsPrepared}
 use Rattle.rq_cast.specs.Sent.{Sending, cell_count, SendsFirst, StopsBehind}
+use Rattle.rq_streams.specs.declared.counted.Counted.{Counted}
 use Rattle.rq_streams.specs.declared.run.Stop.{Stop}
+use Rattle.rq_streams.specs.Counted.{inner}
 use Rattle.rq_command.specs.declared.jobs.Job.{Job}
 use Rattle.rq_command.specs.declared.jobs.Job.TheVariants.{Send, Receive, Info}
 use Rattle.rq_command.specs.declared.ending.End.{End}
@@ -53,3 +57,13 @@ sends_some order (Some o) read s number lost last stop there new is prepared emp
   sends = sends;
   stopped = stopped;
 }
+
+-- an output over a writer into which nothing was written
+pub empty_there : {W : Type 0} (contents : W → Contents) (out : Output W) (counted : Counted W) (writer : W) → counting out ≡ counted → inner counted ≡ writer
+    → IsEmpty (contents writer) → IsEmpty (contents (sink out))
+empty_there contents out counted writer is wraps empty = subst (λ w. IsEmpty (contents w)) (sym (ap inner is ∙ wraps)) empty
+
+-- what is in its place is what was written by an output
+pub placed_there : {W : Type 0} (contents : W → Contents) (out : Output W) (counted : Counted W) (writer : W) (new : Contents) → counted ≡ counting out
+    → writer ≡ inner counted → new ≡ contents writer → new ≡ contents (sink out)
+placed_there contents out counted writer new is wraps placed = placed ∙ ap contents (wraps ∙ ap inner is)
