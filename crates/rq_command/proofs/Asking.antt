@@ -1,5 +1,5 @@
 -- Words that ask for nothing.
-use Rattle.std.proofs.Common.{◌≡◌, ◌≢◌, ℕ, Bool, true, false, List, Option, Some, None, sym, ◌∙◌}
+use Rattle.std.proofs.Common.{◌≡◌, ◌≢◌, ℕ, true, false, List, Option, Some, sym, ◌∙◌}
 use Rattle.std.specs.Prelude.{codes}
 use Rattle.std.specs.Str.{bytes_eq}
 use Rattle.std.proofs.lemmas.Option.{some_pair_parts}
@@ -7,10 +7,9 @@ use Rattle.std.proofs.lemmas.Slice.Eq.{bytes_eq-Decides}
 use Rattle.clap.specs.Words.{Row, Text}
 use Rattle.rq_command.specs.declared.misuse.Verb.{Verb}
 use Rattle.rq_command.specs.declared.misuse.Verb.TheVariants as verb
-use Rattle.rq_command.specs.declared.jobs.Job.{Job}
 use Rattle.rq_command.specs.declared.jobs.Job.TheVariants.{Send, Receive, Info}
 use Rattle.rq_command.specs.Definition.{used_of}
-use Rattle.rq_command.specs.Asked.{AsksFor, AsksForNone, verb_name}
+use Rattle.rq_command.specs.Asked.{AsksForNone, verb_name}
 
 -- a text that didn't pass `==`
 isnt : (text other : List ℕ) → bytes_eq text other ≡ false → text ≢ other

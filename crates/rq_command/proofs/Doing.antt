@@ -1,5 +1,5 @@
 -- What is done by the words.
-use Rattle.std.proofs.Common.{◌≡◌, ℕ, List, [], Option, Some, None, IfSome, sym, subst, ap, ◌∙◌}
+use Rattle.std.proofs.Common.{◌≡◌, ℕ, List, [], Some, None, IfSome, sym, subst, ap, ◌∙◌}
 use Rattle.rq_cast.specs.declared.order.Order.{Order}
 use Rattle.rq_cast.specs.declared.output.Output.{Output}
 use Rattle.rq_cast.specs.Output.{counting, sink}

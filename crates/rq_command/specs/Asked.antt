@@ -1,5 +1,5 @@
 -- What the program's words ask for.
-use Rattle.std.specs.Prelude.{◌≡◌, ⊤, ℕ, ◌+◌, ◌<◌, List, [], Option, Some, None, map, option_and_then, option_map, unwrap_or, codes, Bool, true, false, is_some}
+use Rattle.std.specs.Prelude.{◌≡◌, ⊤, ℕ, ◌+◌, ◌<◌, List, [], Option, Some, None, map, option_and_then, option_map, unwrap_or, codes, Bool, true, false}
 use Rattle.std.specs.Str.{bytes_eq}
 use Rattle.clap.specs.Words.{Row, all_of, first_of}
 use Rattle.rq_cast.specs.declared.order.Ids.{Ids}

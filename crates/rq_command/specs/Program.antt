@@ -1,5 +1,5 @@
 -- What the program does, from its words to its end.
-use Rattle.std.specs.Prelude.{◌≡◌, ◌⊎◌, ⊤, ℕ, List, [], Option, Some, None, Result, Ok, Err, map, IfSome}
+use Rattle.std.specs.Prelude.{◌≡◌, ◌⊎◌, ⊤, ℕ, List, [], Option, Result, Ok, Err, map, IfSome}
 use Rattle.clap.specs.Values.{kind_of}
 use Rattle.clap.specs.declared.error.kind.ErrorKind.TheVariants as kind
 use Rattle.rq_bytes.specs.declared.error.Error.TheVariants.{OutOfMemory}
@@ -16,9 +16,6 @@ use Rattle.rq_cast.specs.Preparing.{IsPrepared, StopsPreparing}
 use Rattle.rq_cast.specs.Received.{EndsReceiving}
 use Rattle.rq_cast.specs.Sent.{Sending, cell_count, SendsFirst, StopsBehind}
 use Rattle.rq_cast.specs.Surveyed.{IsSurvey}
-use Rattle.rq_command.specs.declared.jobs.SendJob.{SendJob}
-use Rattle.rq_command.specs.declared.jobs.ReceiveJob.{ReceiveJob}
-use Rattle.rq_command.specs.declared.jobs.InfoJob.{InfoJob}
 use Rattle.rq_command.specs.declared.jobs.Job.{Job}
 use Rattle.rq_command.specs.declared.jobs.Job.TheVariants.{Send, Receive, Info}
 use Rattle.rq_command.specs.declared.ending.End.{End}

@@ -1,11 +1,11 @@
 -- What the values of options say.
-use Rattle.std.specs.Prelude.{◌≡◌, ℕ, ◌-◌, ◌*◌, ◌^◌, ◌==◌, ◌&&◌, ◌<◌, ◌≤◌, List, length, Option, Some, None, Ok, option_and_then, option_map, if◌then◌else◌, nat_lt, nat_le, codes}
+use Rattle.std.specs.Prelude.{◌≡◌, ℕ, ◌-◌, ◌==◌, ◌&&◌, ◌<◌, ◌≤◌, List, length, Option, Some, None, Ok, option_and_then, option_map, if◌then◌else◌, nat_lt, nat_le, codes}
 use Rattle.std.specs.Str.{bytes_eq}
 use Rattle.hex.specs.Hex.{decode_of}
 use Rattle.rq_cells.specs.Cells.{greatest_cell_size}
 use Rattle.rq_cast.specs.declared.loss.Loss.{Loss}
 use Rattle.rq_cast.specs.declared.series.Repair.{Repair}
-use Rattle.rq_cast.specs.declared.series.Repair.TheVariants.{Packets, Share, Against, All}
+use Rattle.rq_cast.specs.declared.series.Repair.TheVariants.{Packets, Share, All}
 use Rattle.rq_command.specs.Numbers.{fitting, scaled_of, count_of, last, without_last, has, before, behind}
 
 -- the most bytes of a symbol, where a cell has as many as a text says: 48 of them are no symbol

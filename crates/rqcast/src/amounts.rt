@@ -24,7 +24,8 @@ impl fmt::Display for Amount {
         if unit == 1 {
             return write!(f, "{bytes} {name}");
         }
-        let tenths = bytes.saturating_add(unit / 20) / (unit / 10);
+        let rounded = bytes.saturating_add(unit / 20);
+        let tenths = rounded.checked_div(unit / 10).unwrap_or(rounded);
         let (whole, part) = (tenths / 10, tenths % 10);
         if whole < 100 {
             write!(f, "{whole}.{part} {name}")

@@ -44,26 +44,24 @@ fn main(rt: HostRuntime) -> ExitCode {
         }
     };
     let failure = Cell::new(None);
-    let mut system = System {
-        rt: &rt,
-        failure: &failure,
-    };
-    let mut watch = Watch::new(&rt, rt.stderr(), rt.stderr().is_terminal());
-    let ended = run(rt.alloc(), words.as_slice(), &mut system, &mut watch);
+    ExitCode::from(done(&rt, words.as_slice(), &failure))
+}
+
+// Does what the words ask for, and says how that ended. Answers the status.
+fn done<'w>(rt: &'w HostRuntime, words: &'w [String], failure: &'w Cell<Option<Failure>>) -> u8 {
+    let mut system = System { rt, failure };
+    let mut watch = Watch::new(rt, rt.stderr(), rt.stderr().is_terminal());
+    let ended = run(rt.alloc(), words, &mut system, &mut watch);
     watch.end(&ended);
-    if let Some(failure) = failure.get() {
+    if let Some(failure) = failure.take() {
         let _ = failure.write(rt.alloc(), &mut rt.stderr());
     }
-    match say(&rt, &ended, watch.telling()) {
-        Ok(()) => ExitCode::from(ended.status()),
+    match say(rt, &ended, watch.telling()) {
+        Ok(()) => ended.status(),
         Err(error) => {
-            let failure = Failure {
-                tried: "writing to",
-                place: "standard output",
-                error,
-            };
+            let failure = Failure::new(rt.alloc(), "writing to", "standard output", error);
             let _ = failure.write(rt.alloc(), &mut rt.stderr());
-            ExitCode::from(FAULT)
+            FAULT
         }
     }
 }

@@ -1,4 +1,5 @@
 //! Standard input, or files that are read one behind another.
+ghost use Rattle.std.specs.Io.{ReadsAtMost};
 
 use crate::system::System;
 use std::fs::File;
@@ -7,17 +8,17 @@ use std::io::Read;
 
 /// What is read.
 #[derive(Drop)]
-pub struct Source<'c, 'w> {
-    system: System<'c, 'w>,
+pub struct Source<'w> {
+    system: System<'w>,
     files: Vec<&'w str>,
     // How many of them were opened, the last of which is read.
     opened: usize,
     file: Option<File>,
 }
 
-impl<'c, 'w> Source<'c, 'w> {
+impl<'w> Source<'w> {
     /// Reads these files, or standard input, where there are none. The first one is opened.
-    pub fn open(system: System<'c, 'w>, files: Vec<&'w str>) -> io::Result<Source<'c, 'w>> {
+    pub fn open(system: System<'w>, files: Vec<&'w str>) -> io::Result<Source<'w>> {
         let mut source = Source {
             system,
             files,
@@ -59,7 +60,9 @@ impl<'c, 'w> Source<'c, 'w> {
     }
 
     // Reads the file that is open, or standard input.
-    fn read_open(&mut self, buf: &mut [u8]) -> io::Result<usize> {
+    fn read_open(&mut self, buf: &mut [u8]) -> io::Result<usize>
+        ensures { ReadsAtMost result buf.new }
+    {
         let result = match &mut self.file {
             Some(file) => file.read(buf),
             None if self.files.is_empty() => self.system.rt.stdin().read(buf),
@@ -74,7 +77,7 @@ impl<'c, 'w> Source<'c, 'w> {
     }
 }
 
-impl Read for Source<'_, '_> {
+impl Read for Source<'_> {
     fn read(&mut self, buf: &mut [u8]) -> io::Result<usize> {
         for _file in 0..self.files.len() {
             let n = self.read_open(buf)?;

@@ -11,30 +11,28 @@ use std::io::IsTerminal;
 
 /// Standard input and output, and files. It knows which call failed first.
 #[derive(Clone, Copy)]
-pub struct System<'c, 'w> {
-    pub rt: &'c HostRuntime,
-    pub failure: &'c Cell<Option<Failure<'w>>>,
+pub struct System<'w> {
+    pub rt: &'w HostRuntime,
+    pub failure: &'w Cell<Option<Failure>>,
 }
 
-impl<'c, 'w> System<'c, 'w> {
+impl<'w> System<'w> {
     /// Notes why a call failed, where none did before.
-    pub fn note(&self, tried: &'static str, place: &'w str, error: io::Error) {
-        if self.failure.get().is_none() {
-            self.failure.set(Some(Failure {
-                tried,
-                place,
-                error,
-            }));
-        }
+    pub fn note(&self, tried: &'static str, place: &str, error: io::Error) {
+        let first = match self.failure.take() {
+            Some(first) => first,
+            None => Failure::new(self.rt.alloc(), tried, place, error),
+        };
+        self.failure.set(Some(first));
     }
 }
 
-impl<'c, 'w> Devices<'w> for System<'c, 'w> {
+impl<'w> Devices<'w> for System<'w> {
     ghost use Rattle.std.specs.Prelude.{None};
 
-    type Reader = Source<'c, 'w>;
+    type Reader = Source<'w>;
 
-    type Writer = Target<'c, 'w>;
+    type Writer = Target<'w>;
 
     ghost stands = { λ _ _. None };
 
@@ -44,22 +42,22 @@ impl<'c, 'w> Devices<'w> for System<'c, 'w> {
         self.rt.stdout().is_terminal()
     }
 
-    fn open(&mut self, files: Vec<&'w str>) -> Result<Source<'c, 'w>, Stop> {
+    fn open(&mut self, files: Vec<&'w str>) -> Result<Source<'w>, Stop> {
         Source::open(*self, files).map_err(|_| Stop::Fault)
     }
 
-    fn length(&self, reader: &Source<'c, 'w>) -> Option<u64> {
+    fn length(&self, reader: &Source<'w>) -> Option<u64> {
         reader.length()
     }
 
-    fn create(&mut self, file: Option<&'w str>) -> Result<Target<'c, 'w>, Stop> {
+    fn create(&mut self, file: Option<&'w str>) -> Result<Target<'w>, Stop> {
         Target::create(*self, file).map_err(|_| Stop::Fault)
     }
 
     fn finish(
         &mut self,
         _file: Option<&'w str>,
-        writer: Target<'c, 'w>,
+        writer: Target<'w>,
         is_whole: bool,
     ) -> Result<(), Stop> {
         writer.finish(is_whole).map_err(|_| Stop::Fault)

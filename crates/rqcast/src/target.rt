@@ -16,8 +16,8 @@ enum Sink {
 
 /// What is written.
 #[derive(Drop)]
-pub struct Target<'c, 'w> {
-    system: System<'c, 'w>,
+pub struct Target<'w> {
+    system: System<'w>,
     path: Option<&'w str>,
     sink: Sink,
 }
@@ -38,9 +38,9 @@ fn open_sink(rt: &HostRuntime, path: Option<&str>) -> io::Result<Sink> {
     }
 }
 
-impl<'c, 'w> Target<'c, 'w> {
+impl<'w> Target<'w> {
     /// Writes beside a file, or on standard output.
-    pub fn create(system: System<'c, 'w>, path: Option<&'w str>) -> io::Result<Target<'c, 'w>> {
+    pub fn create(system: System<'w>, path: Option<&'w str>) -> io::Result<Target<'w>> {
         match open_sink(system.rt, path) {
             Ok(sink) => Ok(Target { system, path, sink }),
             Err(error) => {
@@ -70,7 +70,7 @@ impl<'c, 'w> Target<'c, 'w> {
     }
 }
 
-impl Write for Target<'_, '_> {
+impl Write for Target<'_> {
     fn write(&mut self, buf: &[u8]) -> io::Result<usize> {
         let result = match &mut self.sink {
             Sink::Output => self.system.rt.stdout().write(buf),

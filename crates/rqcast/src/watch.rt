@@ -208,7 +208,10 @@ impl<C: Clock, W: Write> Progress for Watch<'_, C, W> {
         let Some(rate) = rate else {
             return;
         };
-        let missing = decoder.map(missing_packets);
+        let missing = match decoder {
+            Some(decoder) => Some(missing_packets(decoder)),
+            None => None,
+        };
         let (done, all) = match (missing, self.symbols) {
             (Some(missing), Some(symbols)) => (symbols.saturating_sub(missing), self.symbols),
             _ => (self.pulse.bytes(), self.length),

@@ -1,8 +1,7 @@
-use Rattle.std.proofs.Common.{◌≡◌, ◌∙◌, ap, ap₂}
+use Rattle.std.proofs.Common.{◌∙◌, ap, ap₂}
 use Rattle.std.proofs.lemmas.Result.{IfOk-weaker}
-use Rattle.clap.specs.Words.{App, with_rule, with_subcommand}
-use Rattle.rq_command.specs.Definition.{program_app, send_app, receive_app, with_common, with_ids, with_places, with_repair}
-use Rattle.rq_command.proofs.Local.{adds_local}
+use Rattle.clap.specs.Words.{App, with_subcommand}
+use Rattle.rq_command.specs.Definition.{program_app}
 use Rattle.rq_command.proofs.definition.program.Goals as goal
 
 pub returns : goal.returns

@@ -1,7 +1,7 @@
-use Rattle.std.proofs.Common.{◌≡◌, ◌∙◌, ap, ap₂}
+use Rattle.std.proofs.Common.{◌∙◌, ap, ap₂}
 use Rattle.std.proofs.lemmas.Result.{IfOk-weaker}
-use Rattle.clap.specs.Words.{App, with_rule, with_subcommand}
-use Rattle.rq_command.specs.Definition.{program_app, send_app, receive_app, with_common, with_ids, with_places, with_repair}
+use Rattle.clap.specs.Words.{with_rule}
+use Rattle.rq_command.specs.Definition.{send_app, with_common, with_ids, with_repair}
 use Rattle.rq_command.proofs.Local.{adds_local}
 use Rattle.rq_command.proofs.definition.send.Goals as goal
 

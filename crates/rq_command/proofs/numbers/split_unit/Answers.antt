@@ -1,4 +1,4 @@
-use Rattle.std.proofs.Common.{◌≡◌, ◌≢◌, ◌++◌, ◌∷◌, [], ℕ, List, cond, ap, sym, arith, lit<}
+use Rattle.std.proofs.Common.{◌≡◌, cond, ap, sym, lit<}
 use Rattle.std.specs.Prelude.{nat_lt}
 use Rattle.std.proofs.lemmas.Option.{MatchOption-at_none}
 use Rattle.std.proofs.lemmas.Str.Pattern.{strip_suffix_char}

@@ -1,4 +1,4 @@
-use Rattle.std.proofs.Common.{List, ℕ, map, subst, sym}
+use Rattle.std.proofs.Common.{map, subst, sym}
 use Rattle.rq_command.specs.declared.jobs.Job.TheVariants.{Send, Receive, Info}
 use Rattle.rq_command.specs.Asked.{AsksFor}
 use Rattle.rq_command.specs.Program.{Does, end_of}

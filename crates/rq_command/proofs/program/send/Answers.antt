@@ -1,5 +1,4 @@
-use Rattle.std.proofs.Common.{◌≡◌, ℕ, List, [], IfOk, IfErr, inl, inr, map, refl, subst, sym}
-use Rattle.rq_streams.specs.declared.run.Stop.TheVariants.{Fault}
+use Rattle.std.proofs.Common.{◌≡◌, [], IfOk, IfErr, inl, inr, map, refl, subst, sym}
 use Rattle.rq_cast.specs.Output.{sink}
 use Rattle.rq_cast.specs.Sent.{SendsFirst, StopsBehind, StopsSending, cell_count, sending_of}
 use Rattle.rq_command.proofs.Doing.{empty_there, placed_there, sends_all, sends_some}
