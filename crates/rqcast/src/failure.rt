@@ -5,13 +5,14 @@ use std::io;
 use std::io::{ErrorKind, Write};
 
 /// A call that failed.
-#[derive(Drop)]
-pub struct Failure {
-    // As `reading`.
-    tried: &'static str,
-    // The file, or standard input or output: none where there was no memory for its name.
-    place: Option<String>,
-    error: io::Error,
+#[derive(Clone, Copy)]
+pub struct Failure<'w> {
+    /// What was tried, as `reading`.
+    pub tried: &'static str,
+    /// The file, or standard input or output.
+    pub place: &'w str,
+    /// Why.
+    pub error: io::Error,
 }
 
 // The system's reason as coreutils write it: without its number, and small where it begins.
@@ -29,26 +30,13 @@ fn reason_of(alloc: Global, error: &io::Error) -> Result<String, AllocError> {
     }
 }
 
-impl Failure {
-    /// What was tried, where, and why it failed.
-    pub fn new(alloc: Global, tried: &'static str, place: &str, error: io::Error) -> Failure {
-        Failure {
-            tried,
-            place: String::from_str(alloc, place).ok(),
-            error,
-        }
-    }
-
+impl Failure<'_> {
     /// Writes the line that says it. Where nobody reads a pipe any more there is none.
     pub fn write<W: Write>(&self, alloc: Global, out: &mut W) -> io::Result<()> {
         if self.error.kind() == ErrorKind::BrokenPipe {
             return Ok(());
         }
-        let tried = self.tried;
-        let place = match &self.place {
-            Some(place) => place.as_str(),
-            None => "a file",
-        };
+        let (tried, place) = (self.tried, self.place);
         let reason = reason_of(alloc, &self.error)?;
         writeln!(out, "rqcast: {tried} {place}: {reason}")
     }

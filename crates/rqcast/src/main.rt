@@ -48,18 +48,26 @@ fn main(rt: HostRuntime) -> ExitCode {
 }
 
 // Does what the words ask for, and says how that ended. Answers the status.
-fn done<'w>(rt: &'w HostRuntime, words: &'w [String], failure: &'w Cell<Option<Failure>>) -> u8 {
+fn done<'c, 'w>(
+    rt: &'c HostRuntime,
+    words: &'w [String],
+    failure: &'c Cell<Option<Failure<'w>>>,
+) -> u8 {
     let mut system = System { rt, failure };
     let mut watch = Watch::new(rt, rt.stderr(), rt.stderr().is_terminal());
     let ended = run(rt.alloc(), words, &mut system, &mut watch);
     watch.end(&ended);
-    if let Some(failure) = failure.take() {
+    if let Some(failure) = failure.get() {
         let _ = failure.write(rt.alloc(), &mut rt.stderr());
     }
     match say(rt, &ended, watch.telling()) {
         Ok(()) => ended.status(),
         Err(error) => {
-            let failure = Failure::new(rt.alloc(), "writing to", "standard output", error);
+            let failure = Failure {
+                tried: "writing to",
+                place: "standard output",
+                error,
+            };
             let _ = failure.write(rt.alloc(), &mut rt.stderr());
             FAULT
         }

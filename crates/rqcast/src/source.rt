@@ -8,17 +8,17 @@ use std::io::Read;
 
 /// What is read.
 #[derive(Drop)]
-pub struct Source<'w> {
-    system: System<'w>,
+pub struct Source<'c, 'w> {
+    system: System<'c, 'w>,
     files: Vec<&'w str>,
     // How many of them were opened, the last of which is read.
     opened: usize,
     file: Option<File>,
 }
 
-impl<'w> Source<'w> {
+impl<'c, 'w> Source<'c, 'w> {
     /// Reads these files, or standard input, where there are none. The first one is opened.
-    pub fn open(system: System<'w>, files: Vec<&'w str>) -> io::Result<Source<'w>> {
+    pub fn open(system: System<'c, 'w>, files: Vec<&'w str>) -> io::Result<Source<'c, 'w>> {
         let mut source = Source {
             system,
             files,
@@ -77,7 +77,7 @@ impl<'w> Source<'w> {
     }
 }
 
-impl Read for Source<'_> {
+impl Read for Source<'_, '_> {
     fn read(&mut self, buf: &mut [u8]) -> io::Result<usize> {
         for _file in 0..self.files.len() {
             let n = self.read_open(buf)?;

@@ -11,28 +11,30 @@ use std::io::IsTerminal;
 
 /// Standard input and output, and files. It knows which call failed first.
 #[derive(Clone, Copy)]
-pub struct System<'w> {
-    pub rt: &'w HostRuntime,
-    pub failure: &'w Cell<Option<Failure>>,
+pub struct System<'c, 'w> {
+    pub rt: &'c HostRuntime,
+    pub failure: &'c Cell<Option<Failure<'w>>>,
 }
 
-impl<'w> System<'w> {
+impl<'c, 'w> System<'c, 'w> {
     /// Notes why a call failed, where none did before.
-    pub fn note(&self, tried: &'static str, place: &str, error: io::Error) {
-        let first = match self.failure.take() {
-            Some(first) => first,
-            None => Failure::new(self.rt.alloc(), tried, place, error),
-        };
-        self.failure.set(Some(first));
+    pub fn note(&self, tried: &'static str, place: &'w str, error: io::Error) {
+        if self.failure.get().is_none() {
+            self.failure.set(Some(Failure {
+                tried,
+                place,
+                error,
+            }));
+        }
     }
 }
 
-impl<'w> Devices<'w> for System<'w> {
+impl<'c, 'w> Devices<'w> for System<'c, 'w> {
     ghost use Rattle.std.specs.Prelude.{None};
 
-    type Reader = Source<'w>;
+    type Reader = Source<'c, 'w>;
 
-    type Writer = Target<'w>;
+    type Writer = Target<'c, 'w>;
 
     ghost stands = { λ _ _. None };
 
@@ -42,22 +44,22 @@ impl<'w> Devices<'w> for System<'w> {
         self.rt.stdout().is_terminal()
     }
 
-    fn open(&mut self, files: Vec<&'w str>) -> Result<Source<'w>, Stop> {
+    fn open(&mut self, files: Vec<&'w str>) -> Result<Source<'c, 'w>, Stop> {
         Source::open(*self, files).map_err(|_| Stop::Fault)
     }
 
-    fn length(&self, reader: &Source<'w>) -> Option<u64> {
+    fn length(&self, reader: &Source<'c, 'w>) -> Option<u64> {
         reader.length()
     }
 
-    fn create(&mut self, file: Option<&'w str>) -> Result<Target<'w>, Stop> {
+    fn create(&mut self, file: Option<&'w str>) -> Result<Target<'c, 'w>, Stop> {
         Target::create(*self, file).map_err(|_| Stop::Fault)
     }
 
     fn finish(
         &mut self,
         _file: Option<&'w str>,
-        writer: Target<'w>,
+        writer: Target<'c, 'w>,
         is_whole: bool,
     ) -> Result<(), Stop> {
         writer.finish(is_whole).map_err(|_| Stop::Fault)

@@ -16,8 +16,8 @@ enum Sink {
 
 /// What is written.
 #[derive(Drop)]
-pub struct Target<'w> {
-    system: System<'w>,
+pub struct Target<'c, 'w> {
+    system: System<'c, 'w>,
     path: Option<&'w str>,
     sink: Sink,
 }
@@ -38,9 +38,9 @@ fn open_sink(rt: &HostRuntime, path: Option<&str>) -> io::Result<Sink> {
     }
 }
 
-impl<'w> Target<'w> {
+impl<'c, 'w> Target<'c, 'w> {
     /// Writes beside a file, or on standard output.
-    pub fn create(system: System<'w>, path: Option<&'w str>) -> io::Result<Target<'w>> {
+    pub fn create(system: System<'c, 'w>, path: Option<&'w str>) -> io::Result<Target<'c, 'w>> {
         match open_sink(system.rt, path) {
             Ok(sink) => Ok(Target { system, path, sink }),
             Err(error) => {
@@ -70,7 +70,7 @@ impl<'w> Target<'w> {
     }
 }
 
-impl Write for Target<'_> {
+impl Write for Target<'_, '_> {
     fn write(&mut self, buf: &[u8]) -> io::Result<usize> {
         let result = match &mut self.sink {
             Sink::Output => self.system.rt.stdout().write(buf),
