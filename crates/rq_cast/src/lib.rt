@@ -30,6 +30,3 @@ pub use run::{Ending, run_receive};
 pub use sending::{Pace, Sender};
 pub use series::{Repair, Series};
 pub use survey::{Standing, standings_in};
-
-#[cfg(test)]
-mod tests;

@@ -1,4 +1,4 @@
-//! Runs of receivers of cells, beside a plain model.
+//! Tests of cells, of what sends and receives them, and of the program `rqcast` over memory.
 #![tactic(auto)]
 
 #[cfg(test)]

@@ -1,4 +1,13 @@
 //! The tests, by what they are of.
 
+mod cells;
+mod loss;
+mod messages;
+mod program;
+mod receiving;
 mod runs;
+mod sending;
+mod stored_cells;
 mod stored_runs;
+mod survey;
+mod words;

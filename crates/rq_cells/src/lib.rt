@@ -11,6 +11,3 @@ pub use cell::{Cell, fill_cell};
 pub use head::{HEAD_LENGTH, Head, NAME_LENGTH, name_of};
 pub use scanner::{CellScanner, Scan};
 pub use wanted::{Heads, Search, first_wanted};
-
-#[cfg(test)]
-mod tests;

@@ -22,6 +22,3 @@ pub use jobs::{InfoJob, Job, ReceiveJob, SendJob, Telling};
 pub use messages::{announce, write_end, write_standings};
 pub use program::run;
 pub use words::job;
-
-#[cfg(test)]
-mod tests;

@@ -1,7 +1,7 @@
 //! The objects that are found among bytes.
-use super::{FIRST, FIRST_MISNAMED, SECOND, SECOND_MISNAMED, joined};
-use crate::{Ending, standings_in};
+use crate::tests::stored_cells::{FIRST, FIRST_MISNAMED, SECOND, SECOND_MISNAMED, joined};
 use raptorq::systematic_constants::SystematicTable;
+use rq_cast::{Ending, standings_in};
 
 #[test]
 fn objects_are_listed(rt: HostRuntime) {

@@ -1,21 +1,10 @@
-use crate::{Cell, CellScanner, Head, Heads, Search, first_wanted, name_of};
+//! Cells as they are written, read and found.
+use crate::tests::stored_cells::{FIRST, SECOND};
+use raptorq::systematic_constants::SystematicTable;
 use rq_base::base::{EncodingPacket, ObjectTransmissionInformation, PayloadId};
 use rq_bytes::error::Error;
-use rq_tables::systematic_constants::SystematicTable;
+use rq_cells::{Cell, CellScanner, Head, Heads, Search, first_wanted, name_of};
 use std::alloc::Global;
-
-// The cells of the object 7, 8, 9 in symbols of two bytes, as Python's hashlib has them.
-const FIRST: [u8; 50] = [
-    82, 81, 67, 1, 187, 194, 129, 53, 165, 47, 242, 115, 176, 238, 23, 89, 119, 224, 221, 181, 0,
-    0, 0, 0, 3, 0, 0, 2, 1, 0, 1, 1, 188, 146, 92, 230, 0, 0, 0, 0, 7, 8, 30, 213, 159, 95, 220,
-    120, 224, 122,
-];
-
-const SECOND: [u8; 50] = [
-    82, 81, 67, 1, 187, 194, 129, 53, 165, 47, 242, 115, 176, 238, 23, 89, 119, 224, 221, 181, 0,
-    0, 0, 0, 3, 0, 0, 2, 1, 0, 1, 1, 188, 146, 92, 230, 0, 0, 0, 1, 9, 0, 1, 42, 197, 181, 225, 64,
-    194, 50,
-];
 
 fn head() -> Result<Head, Error> {
     Ok(Head {

@@ -1,30 +1,12 @@
 //! The program from its words to its end, over memory.
-use crate::{Devices, End, Teller, Telling, run};
+use crate::tests::stored_cells::{FIRST, FIRST_MISNAMED, OBJECT, SECOND, SECOND_MISNAMED, joined};
 use raptorq::Decoder;
 use rq_cast::{Pace, Progress, Seen, Sender};
+use rq_command::{Devices, End, Teller, Telling, run};
 use rq_streams::Stop;
 use std::alloc::{AllocError, Global};
 use std::io;
 use std::io::{Read, Write};
-
-pub(super) const OBJECT: [u8; 3] = [7, 8, 9];
-
-// The cells of that object in symbols of two bytes, as Python's hashlib has them, and cells of the same
-// bytes under a name of zeros.
-pub(super) const CELLS: [u8; 100] = [
-    82, 81, 67, 1, 187, 194, 129, 53, 165, 47, 242, 115, 176, 238, 23, 89, 119, 224, 221, 181, 0,
-    0, 0, 0, 3, 0, 0, 2, 1, 0, 1, 1, 188, 146, 92, 230, 0, 0, 0, 0, 7, 8, 30, 213, 159, 95, 220,
-    120, 224, 122, 82, 81, 67, 1, 187, 194, 129, 53, 165, 47, 242, 115, 176, 238, 23, 89, 119, 224,
-    221, 181, 0, 0, 0, 0, 3, 0, 0, 2, 1, 0, 1, 1, 188, 146, 92, 230, 0, 0, 0, 1, 9, 0, 1, 42, 197,
-    181, 225, 64, 194, 50,
-];
-
-pub(super) const MISNAMED: [u8; 100] = [
-    82, 81, 67, 1, 0, 0, 0, 0, 0, 0, 0, 0, 0, 0, 0, 0, 0, 0, 0, 0, 0, 0, 0, 0, 3, 0, 0, 2, 1, 0, 1,
-    1, 200, 231, 154, 220, 0, 0, 0, 0, 7, 8, 99, 168, 43, 90, 5, 3, 73, 201, 82, 81, 67, 1, 0, 0,
-    0, 0, 0, 0, 0, 0, 0, 0, 0, 0, 0, 0, 0, 0, 0, 0, 0, 0, 3, 0, 0, 2, 1, 0, 1, 1, 200, 231, 154,
-    220, 0, 0, 0, 1, 9, 0, 50, 72, 164, 238, 173, 56, 37, 26,
-];
 
 #[derive(Drop)]
 struct Bytes<'a> {
@@ -145,32 +127,35 @@ fn done(alloc: Global, line: &str, input: &[u8], is_terminal: bool) -> Result<Do
 #[test]
 fn words_are_done(rt: HostRuntime) {
     let alloc = rt.alloc();
-    let rows: [(&str, &[u8], u8, &[u8], usize); 11] = [
-        ("send --cell 50 --repair 0 FILE", &OBJECT, 0, &CELLS, 1),
+    const NOTHING: &[u8] = b"";
+    const CELLS: [&[u8]; 2] = [&FIRST, &SECOND];
+    const FILE: [&[u8]; 2] = [&OBJECT, NOTHING];
+    const MISNAMED: [&[u8]; 2] = [&FIRST_MISNAMED, &SECOND_MISNAMED];
+    const OLD: [&[u8]; 2] = [b"old", NOTHING];
+    let rows: [(&str, [&[u8]; 2], u8, [&[u8]; 2], usize); 11] = [
+        ("send --cell 50 --repair 0 FILE", FILE, 0, CELLS, 1),
         (
             "send --cell=50 -r0 --share 0/2",
-            &OBJECT,
+            FILE,
             0,
-            &CELLS[..50],
+            [&FIRST, NOTHING],
             0,
         ),
-        ("send -c50 -r 0 --from 1 -q", &OBJECT, 0, &CELLS[50..], 0),
-        ("send", b"", 3, b"old", 0),
-        ("receive", &CELLS, 0, &OBJECT, 0),
-        ("receive -o FILE --name bbc2 A B", &CELLS, 0, &OBJECT, 2),
-        ("receive -o FILE --name bbc3", &CELLS, 2, b"old", 0),
-        ("receive -o FILE", &CELLS[..99], 2, b"old", 0),
-        ("receive -o FILE", &MISNAMED, 3, b"old", 0),
-        ("receive", &MISNAMED, 3, b"", 0),
-        ("info A", &CELLS, 0, b"old", 1),
+        ("send -c50 -r 0 --from 1 -q", FILE, 0, [&SECOND, NOTHING], 0),
+        ("send", [NOTHING, NOTHING], 3, OLD, 0),
+        ("receive", CELLS, 0, FILE, 0),
+        ("receive -o FILE --name bbc2 A B", CELLS, 0, FILE, 2),
+        ("receive -o FILE --name bbc3", CELLS, 2, OLD, 0),
+        ("receive -o FILE", [&FIRST, &SECOND[..49]], 2, OLD, 0),
+        ("receive -o FILE", MISNAMED, 3, OLD, 0),
+        ("receive", MISNAMED, 3, [NOTHING, NOTHING], 0),
+        ("info A", CELLS, 0, OLD, 1),
     ];
     for (line, input, status, placed, read) in rows {
-        let found = done(alloc, line, input, false).expect(&rt, "memory");
-        assert_eq!(rt;
-            (found.0, found.1.as_slice(), found.2),
-            (status, placed, read),
-            "{line}"
-        );
+        let input = joined(alloc, &input).expect(&rt, "memory");
+        let placed = joined(alloc, &placed).expect(&rt, "memory");
+        let found = done(alloc, line, input.as_slice(), false).expect(&rt, "memory");
+        assert_eq!(rt; found, (status, placed, read), "{line}");
     }
 }
 

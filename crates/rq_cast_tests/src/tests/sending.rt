@@ -1,9 +1,9 @@
 //! What a sender writes.
-use super::{FIRST, OBJECT, SECOND, joined};
-use crate::{Output, Pace, Repair, Sender};
+use crate::tests::stored_cells::{FIRST, OBJECT, SECOND, joined};
 use raptorq::ObjectTransmissionInformation;
 use raptorq::error::Error;
 use raptorq::systematic_constants::SystematicTable;
+use rq_cast::{Output, Pace, Repair, Sender};
 use rq_streams::{Counted, Stop};
 use std::alloc::Global;
 use std::io;

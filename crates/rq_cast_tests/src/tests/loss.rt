@@ -1,5 +1,5 @@
 //! The repair packets that losses ask for.
-use crate::Loss;
+use rq_cast::Loss;
 
 #[test]
 fn losses_ask_for_repair(rt: HostRuntime) {

@@ -1,6 +1,6 @@
 //! What words ask for, and what is said where they ask for nothing.
-use crate::{Job, job};
 use rq_cast::{Ids, Loss, Order, Repair};
+use rq_command::{Job, job};
 use std::alloc::{AllocError, Global};
 
 // The order of a line of words behind `send`.

@@ -1,10 +1,10 @@
 //! What is said of a run.
-use super::runs::{CELLS, OBJECT};
-use crate::{End, announce, write_end, write_standings};
+use crate::tests::stored_cells::{FIRST, OBJECT};
 use raptorq::ObjectTransmissionInformation;
 use raptorq::error::Error;
 use raptorq::systematic_constants::SystematicTable;
 use rq_cast::{Ending, Repair, Seen, Sender, standings_in};
+use rq_command::{End, announce, write_end, write_standings};
 use rq_streams::Stop;
 
 #[test]
@@ -68,7 +68,7 @@ fn senders_and_objects_are_named(rt: HostRuntime) {
     let mut out: Vec<u8> = Vec::new(alloc);
     announce(&sender, false, &mut out).expect(&rt, "memory");
     announce(&sender, true, &mut out).expect(&rt, "memory");
-    let standings = standings_in(alloc, &table, &CELLS[..50]).expect(&rt, "memory");
+    let standings = standings_in(alloc, &table, &FIRST).expect(&rt, "memory");
     write_standings(standings.as_slice(), false, &mut out).expect(&rt, "memory");
     write_standings(standings.as_slice(), true, &mut out).expect(&rt, "memory");
     let text = "\
