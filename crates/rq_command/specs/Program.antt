@@ -21,52 +21,46 @@ use Rattle.rq_command.specs.declared.jobs.Job.TheVariants.{Send, Receive, Info}
 use Rattle.rq_command.specs.declared.ending.End.{End}
 use Rattle.rq_command.specs.declared.ending.End.TheVariants.{Unasked, AtTerminal, Sent, Received, Surveyed, Stopped}
 use Rattle.rq_command.specs.Asked.{AsksFor, AsksForNone}
-use Rattle.rq_command.specs.Placed.{Contents, IsEmpty, IsPlaced}
+use Rattle.rq_command.specs.Placed.{Contents, IsPlaced}
 
 -- ---- sending
 
 -- All cells of an object are written, but for those that were lost.
-pub record SendsAll (order : Order) (object : List ℕ) (cells lost : ℕ) (new : Contents) : Type 0 where
+pub record SendsAll (order : Order) (object : List ℕ) (cells lost : ℕ) (blank new : Contents) : Type 0 where
   pub sending : Sending
   pub prepared : IsPrepared order object sending
   pub count : cells ≡ cell_count sending
-  pub there : Contents
-  pub empty : IsEmpty there
-  pub sends : SendsFirst sending cells lost [] there new
+  pub sends : SendsFirst sending cells lost [] blank new
 
 -- Some of the first are, and a beginning of the next one where a call failed.
-pub record SendsSome (order : Order) (object : List ℕ) (stop : Stop) (new : Contents) : Type 0 where
+pub record SendsSome (order : Order) (object : List ℕ) (stop : Stop) (blank new : Contents) : Type 0 where
   pub sending : Sending
   pub prepared : IsPrepared order object sending
   pub number : ℕ
   pub lost : ℕ
   pub last : List ℕ
-  pub there : Contents
-  pub empty : IsEmpty there
-  pub sends : SendsFirst sending number lost last there new
+  pub sends : SendsFirst sending number lost last blank new
   pub stopped : StopsBehind sending number last stop
 
 -- How a run ends that sends an object. Nothing is read where its cells would go to a terminal, and nothing written where the object is refused.
-abbrev pub EndsSend : Order → Contents → End → Contents → Contents → Type 0
-EndsSend order object AtTerminal old new = new ≡ old
-EndsSend order object (Sent cells lost) old new = IfSome object (λ o. SendsAll order o cells lost new)
-EndsSend order object (Stopped stop) old new =
-    ((new ≡ old) × IfSome object (λ o. StopsPreparing order o stop)) ⊎ IfSome object (λ o. SendsSome order o stop new)
-EndsSend order object _ old new = ⊥
+abbrev pub EndsSend : Order → Contents → Contents → End → Contents → Contents → Type 0
+EndsSend order object blank AtTerminal old new = new ≡ old
+EndsSend order object blank (Sent cells lost) old new = IfSome object (λ o. SendsAll order o cells lost blank new)
+EndsSend order object blank (Stopped stop) old new =
+    ((new ≡ old) × IfSome object (λ o. StopsPreparing order o stop)) ⊎ IfSome object (λ o. SendsSome order o stop blank new)
+EndsSend order object blank _ old new = ⊥
 
 -- ---- receiving
 
 -- A run over all rows ends so, and this is what it wrote. A fault may come when all is written, as it is put in its place.
-pub record Receives {X : Type 0} (name : List ℕ) (file : Option X) (result : Result Ending Stop) (seen : Seen) (input old new : Contents) : Type 0 where
+pub record Receives {X : Type 0} (name : List ℕ) (file : Option X) (result : Result Ending Stop) (seen : Seen) (input blank old new : Contents) : Type 0 where
   pub table : List TableRow
   pub rows : wanted_table FURTHER_ROWS ≡ Ok table
   pub after : Contents
   pub last : ℕ
-  pub there : Contents
-  pub empty : IsEmpty there
   pub written : Contents
   pub ended : Result Ending Stop
-  pub ends : EndsReceiving table name ended seen input after last there written
+  pub ends : EndsReceiving table name ended seen input after last blank written
   pub same : (ended ≡ result) ⊎ ((ended ≡ Ok Written) × (result ≡ Err Fault))
   pub placed : IsPlaced file result written old new
 
@@ -75,10 +69,10 @@ abbrev pub StopsBefore : Stop → Type 0
 StopsBefore Fault = ⊤
 StopsBefore (Refused e) = (e ≡ OutOfMemory) ⊎ (wanted_table FURTHER_ROWS ≡ Err e)
 
-abbrev pub EndsReceive : {X : Type 0} → List ℕ → Option X → Contents → End → Contents → Contents → Type 0
-EndsReceive name file input (Received result seen) old new = Receives name file result seen input old new
-EndsReceive name file input (Stopped stop) old new = StopsBefore stop × (new ≡ old)
-EndsReceive name file input _ old new = ⊥
+abbrev pub EndsReceive : {X : Type 0} → List ℕ → Option X → Contents → Contents → End → Contents → Contents → Type 0
+EndsReceive name file input blank (Received result seen) old new = Receives name file result seen input blank old new
+EndsReceive name file input blank (Stopped stop) old new = StopsBefore stop × (new ≡ old)
+EndsReceive name file input blank _ old new = ⊥
 
 -- ---- listing
 
@@ -95,12 +89,13 @@ abbrev pub end_of : Result End Stop → End
 end_of (Ok ended) = ended
 end_of (Err stop) = Stopped stop
 
-abbrev pub EndsJob : Job → (List (List ℕ) → Contents) → End → Contents → Contents → Type 0
-EndsJob (Send job) stands ended old new = EndsSend job.order (stands (map (λ s. s.now) job.files.items)) ended old new
-EndsJob (Receive job) stands ended old new = EndsReceive job.name.items job.output (stands (map (λ s. s.now) job.files.items)) ended old new
-EndsJob (Info job) stands ended old new = EndsInfo (stands (map (λ s. s.now) job.files.items)) ended old new
+-- What stands in files, by their names, what a new writer holds, and what stands where is written before and after.
+abbrev pub EndsJob : Job → (List (List ℕ) → Contents) → Contents → End → Contents → Contents → Type 0
+EndsJob (Send job) stands blank ended old new = EndsSend job.order (stands (map (λ s. s.now) job.files.items)) blank ended old new
+EndsJob (Receive job) stands blank ended old new = EndsReceive job.name.items job.output (stands (map (λ s. s.now) job.files.items)) blank ended old new
+EndsJob (Info job) stands blank ended old new = EndsInfo (stands (map (λ s. s.now) job.files.items)) ended old new
 
 -- What the words ask for is done. Where they ask for nothing, so is nothing.
-abbrev pub Does : List (List ℕ) → (List (List ℕ) → Contents) → End → Contents → Contents → Type 0
-Does words stands (Unasked e) old new = ((kind_of e ≡ kind.OutOfMemory) ⊎ AsksForNone words) × (new ≡ old)
-Does words stands ended old new = (job : Job) × AsksFor words job × EndsJob job stands ended old new
+abbrev pub Does : List (List ℕ) → (List (List ℕ) → Contents) → Contents → End → Contents → Contents → Type 0
+Does words stands blank (Unasked e) old new = ((kind_of e ≡ kind.OutOfMemory) ⊎ AsksForNone words) × (new ≡ old)
+Does words stands blank ended old new = (job : Job) × AsksFor words job × EndsJob job stands blank ended old new

@@ -14,8 +14,9 @@ Examples:
   socat -u -b65536 UDP-RECV:PORT,rcvbuf=4194304 - | rqcast receive -o FILE
   rqcast info KEPT
 
-It ends with 0 where all is done, 1 after a fault of the system, 2 where too little came, 3 where what came
-is refused or forged, and 64 where the words are wrong.";
+It ends with 0 where all is done, 1 after a fault of the system, 2 where too
+little came, 3 where what came is refused or forged, and 64 where the words
+are wrong.";
 
 // An option that takes a value.
 fn value<'a>(alloc: Global, id: &'a str, name: &'a str, help: &'a str) -> Arg<'a>

@@ -1,6 +1,6 @@
 //! What a run reads from, writes to and tells.
 ghost use Rattle.std.specs.Prelude.{◌≡◌, ℕ, List, [], length, Option, map, IfOk, IfErr, IfSome};
-ghost use Rattle.rq_command.specs.Placed.{IsFinished};
+ghost use Rattle.rq_command.specs.Placed.{IsEmpty, IsFinished};
 
 use crate::jobs::Telling;
 use rq_cast::{Pace, Progress, Sender};
@@ -22,6 +22,9 @@ pub trait Devices<'w> {
     /// What stands where the run puts what it writes.
     ghost placed: { Self → Option (List ℕ) };
 
+    /// What a new writer holds: nothing, where what is written is known.
+    ghost blank: { Option (List ℕ) };
+
     /// Whether standard output is a terminal.
     fn shows_output(&self) -> bool;
 
@@ -37,7 +40,8 @@ pub trait Devices<'w> {
 
     /// What writes beside a file, or on standard output.
     fn create(&mut self, file: Option<&'w str>) -> Result<Self::Writer, Stop>
-        ensures empty { IfOk result (λ w. IfSome (Self.Writer.contents w) (λ bytes. bytes ≡ [])) }
+        ensures blank { IfOk result (λ w. Self.Writer.contents w ≡ blank) }
+        ensures empty { IsEmpty blank }
         ensures fault { IfErr result (λ stop. stop ≡ Stop.Fault) }
         ensures kept { placed self.new ≡ placed self.old };
 

@@ -48,7 +48,7 @@ fn send<'w, D: Devices<'w>, T: Teller>(
     teller: &mut T,
 ) -> Result<End, Stop>
     requires { 0 < job.order.ids.step }
-    ensures { EndsSend job.entry.order (D.stands devices.old (map (λ s. s.now) job.entry.files.items)) (end_of result)
+    ensures { EndsSend job.entry.order (D.stands devices.old (map (λ s. s.now) job.entry.files.items)) D.blank (end_of result)
         (D.placed devices.old) (D.placed devices.new) }
 {
     let SendJob {
@@ -104,7 +104,7 @@ fn receive<'w, D: Devices<'w>, T: Teller>(
     devices: &mut D,
     teller: &mut T,
 ) -> Result<End, Stop>
-    ensures { EndsReceive job.entry.name.items job.entry.output (D.stands devices.old (map (λ s. s.now) job.entry.files.items)) (end_of result)
+    ensures { EndsReceive job.entry.name.items job.entry.output (D.stands devices.old (map (λ s. s.now) job.entry.files.items)) D.blank (end_of result)
         (D.placed devices.old) (D.placed devices.new) }
 {
     let ReceiveJob {
@@ -169,7 +169,7 @@ pub fn run<'w, S: AsStr, D: Devices<'w>, T: Teller>(
     devices: &mut D,
     teller: &mut T,
 ) -> End
-    ensures { Does (map S.text words.entry.now) (D.stands devices.old) result (D.placed devices.old) (D.placed devices.new) }
+    ensures { Does (map S.text words.entry.now) (D.stands devices.old) D.blank result (D.placed devices.old) (D.placed devices.new) }
 {
     match job(alloc, words) {
         Ok(Job::Send(job)) => end_of(send(alloc, job, devices, teller)),

@@ -266,9 +266,9 @@ fn no_subcommand(alloc: Global) -> Error {
 
 /// What the words after the program's name ask for, of those that `rqcast --help` names.
 ///
-/// Refuses what the parser refuses, requests for help and the version among it, then options that
-/// can't be said together, and values that say nothing that their option takes. [`ErrorKind::OutOfMemory`] may
-/// come before any of them.
+/// Refuses what the parser refuses, requests for help and the version among it, then values that say nothing
+/// that their option takes, and options that can't be said together. [`ErrorKind::OutOfMemory`] may come
+/// before any of them.
 pub fn job<'a, S: AsStr>(alloc: Global, words: &'a [S]) -> Result<Job<'a>, Error>
     ensures job { IfOk result (AsksFor (map S.text words.entry.now)) }
     ensures steps { IfOk result StepsOn }

@@ -29,13 +29,14 @@ impl<'c, 'w> Source<'c, 'w> {
         Ok(source)
     }
 
-    /// How long the file is, where it is the only one, and has a length.
+    /// How long the file is, where it is the only one, and has a length: some that are made as they are read
+    /// say that they have none.
     pub fn length(&self) -> Option<u64> {
         if self.files.len() != 1 {
             return None;
         }
         match self.file.as_ref()?.metadata() {
-            Ok(metadata) if metadata.is_file() => Some(metadata.len()),
+            Ok(metadata) if metadata.is_file() && metadata.len() > 0 => Some(metadata.len()),
             _ => None,
         }
     }

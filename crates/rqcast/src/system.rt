@@ -40,6 +40,8 @@ impl<'c, 'w> Devices<'w> for System<'c, 'w> {
 
     ghost placed = { λ _. None };
 
+    ghost blank = { None };
+
     fn shows_output(&self) -> bool {
         self.rt.stdout().is_terminal()
     }

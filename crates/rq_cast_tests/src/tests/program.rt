@@ -56,6 +56,8 @@ impl<'w, 'a> Devices<'w> for Memory<'a> {
 
     ghost placed = { λ _. None };
 
+    ghost blank = { None };
+
     fn shows_output(&self) -> bool {
         self.is_terminal
     }
