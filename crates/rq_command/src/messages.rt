@@ -122,7 +122,7 @@ fn write_ending<W: Write>(ending: Ending, out: &mut W) -> io::Result<()> {
             let packets = counted(missing);
             writeln!(
                 out,
-                "rqcast: it takes {missing} more {packets}: keep the cells, and have others sent by --from"
+                "rqcast: it takes {missing} more {packets}: keep the cells, and have others sent by a greater --repair and --from"
             )
         }
         Ending::Incomplete { missing: None } => {
@@ -158,7 +158,7 @@ pub fn write_end<W: Write>(end: &End, out: &mut W) -> io::Result<()> {
         End::Sent { cells, lost } if all_lost(*cells, *lost) => {
             writeln!(
                 out,
-                "rqcast: all {cells} cells were lost: nobody listens there"
+                "rqcast: all {cells} cells seem to be lost: nobody listened there"
             )
         }
         End::Sent { .. } => Ok(()),

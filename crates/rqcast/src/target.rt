@@ -64,7 +64,7 @@ impl<'c, 'w> Target<'c, 'w> {
             Sink::Output | Sink::Device(_) => Ok(()),
         };
         if let Err(error) = &settled {
-            system.note("writing", path.unwrap_or("standard output"), *error);
+            system.note("writing to", path.unwrap_or("standard output"), *error);
         }
         settled
     }

@@ -224,6 +224,8 @@ impl<C: Clock, W: Write> Progress for Watch<'_, C, W> {
             seconds: self.pulse.elapsed().as_secs(),
         };
         let _ = match self.telling {
+            // Nothing was seen yet, or what is read is sent.
+            Telling::Json if *seen == Seen::default() => self.write_json(&[]),
             Telling::Json => self.write_seen(seen, missing),
             _ => self.show(&course),
         };

@@ -15,7 +15,11 @@ fn ends_are_said(rt: HostRuntime) {
     let rows = [
         (End::AtTerminal, "cells aren't written to a terminal", 64),
         (End::Sent { cells: 5, lost: 1 }, "", 0),
-        (End::Sent { cells: 5, lost: 2 }, "all 5 cells were lost", 1),
+        (
+            End::Sent { cells: 5, lost: 2 },
+            "all 5 cells seem to be lost",
+            1,
+        ),
         (End::Sent { cells: 1, lost: 0 }, "", 0),
         (received(Ok(Ending::Written)), "", 0),
         (
