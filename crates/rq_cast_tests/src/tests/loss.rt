@@ -4,7 +4,7 @@ use rq_cast::Loss;
 #[test]
 fn losses_ask_for_repair(rt: HostRuntime) {
     // Below 100 by the table of docs/SEND.md, from there on by the formula in Python's fractions.
-    let rows = [
+    let rows: [(u16, u32, u64); 16] = [
         (0, 0, 5),
         (1, 5_000, 7),
         (2, 5_000, 10),
@@ -24,7 +24,7 @@ fn losses_ask_for_repair(rt: HostRuntime) {
     ];
     for (symbols, parts, packets) in rows {
         assert_eq!(rt;
-            Loss { parts }.repair(symbols),
+            Loss { parts }.repair(u64::from(symbols)),
             packets,
             "{symbols} at {parts}"
         );

@@ -126,36 +126,33 @@ fn done(alloc: Global, line: &str, input: &[u8], is_terminal: bool) -> Result<Do
     Ok((ended.status(), placed, read))
 }
 
+// Bytes in two parts, one behind the other.
+type Two = (&'static [u8], &'static [u8]);
+
 #[test]
 fn words_are_done(rt: HostRuntime) {
     let alloc = rt.alloc();
-    const NOTHING: &[u8] = b"";
-    const CELLS: [&[u8]; 2] = [&FIRST, &SECOND];
-    const FILE: [&[u8]; 2] = [&OBJECT, NOTHING];
-    const MISNAMED: [&[u8]; 2] = [&FIRST_MISNAMED, &SECOND_MISNAMED];
-    const OLD: [&[u8]; 2] = [b"old", NOTHING];
-    let rows: [(&str, [&[u8]; 2], u8, [&[u8]; 2], usize); 11] = [
+    const NOTHING: Two = (b"", b"");
+    const CELLS: Two = (&FIRST, &SECOND);
+    const FILE: Two = (&OBJECT, b"");
+    const MISNAMED: Two = (&FIRST_MISNAMED, &SECOND_MISNAMED);
+    const OLD: Two = (b"old", b"");
+    let rows: [(&str, Two, u8, Two, usize); 11] = [
         ("send --cell 50 --repair 0 FILE", FILE, 0, CELLS, 1),
-        (
-            "send --cell=50 -r0 --share 0/2",
-            FILE,
-            0,
-            [&FIRST, NOTHING],
-            0,
-        ),
-        ("send -c50 -r 0 --from 1 -q", FILE, 0, [&SECOND, NOTHING], 0),
-        ("send", [NOTHING, NOTHING], 3, OLD, 0),
+        ("send --cell=50 -r0 --share 0/2", FILE, 0, (&FIRST, b""), 0),
+        ("send -c50 -r 0 --from 1 -q", FILE, 0, (&SECOND, b""), 0),
+        ("send", NOTHING, 3, OLD, 0),
         ("receive", CELLS, 0, FILE, 0),
         ("receive -o FILE --name bbc2 A B", CELLS, 0, FILE, 2),
         ("receive -o FILE --name bbc3", CELLS, 2, OLD, 0),
-        ("receive -o FILE", [&FIRST, &SECOND[..49]], 2, OLD, 0),
+        ("receive -o FILE", (&FIRST, &SECOND[..49]), 2, OLD, 0),
         ("receive -o FILE", MISNAMED, 3, OLD, 0),
-        ("receive", MISNAMED, 3, [NOTHING, NOTHING], 0),
+        ("receive", MISNAMED, 3, NOTHING, 0),
         ("info A", CELLS, 0, OLD, 1),
     ];
     for (line, input, status, placed, read) in rows {
-        let input = joined(alloc, &input).expect(&rt, "memory");
-        let placed = joined(alloc, &placed).expect(&rt, "memory");
+        let input = joined(alloc, &[input.0, input.1]).expect(&rt, "memory");
+        let placed = joined(alloc, &[placed.0, placed.1]).expect(&rt, "memory");
         let found = done(alloc, line, input.as_slice(), false).expect(&rt, "memory");
         assert_eq!(rt; found, (status, placed, read), "{line}");
     }
