@@ -1,27 +1,44 @@
 //! A file that is written beside its place.
 
+use crate::system::System;
 use std::fs::{File, Permissions, TryLockError};
 use std::io::ErrorKind;
+use std::os::unix::fs::PermissionsExt;
 use std::path::PathBuf;
 use std::{fs, io};
 
+// Who may read, write and run a file. The bits above lend the rights of its owner, and not to what others sent.
+const RIGHTS: u32 = 0o777;
+
 /// A file that isn't in its place yet.
 #[derive(Drop)]
-pub struct Aside {
+pub struct Aside<'c, 'w> {
+    system: System<'c, 'w>,
     file: File,
     place: PathBuf,
     // Where it stands until it is whole: always there, so that a run replaces what one left that was killed.
-    path: String,
+    path: &'w str,
 }
 
-// The file that a path leads to, through links, or the path where there is none.
+// The file that a link leads to. The path itself, where it is no link, or one that leads nowhere.
 fn place_of(rt: &HostRuntime, path: &str) -> io::Result<PathBuf> {
-    match fs::canonicalize(rt, path) {
-        Err(error) if error.kind() == ErrorKind::NotFound => {
-            Ok(PathBuf::from_str(rt.alloc(), path)?)
-        }
-        place => place,
+    match fs::symlink_metadata(rt, path) {
+        Ok(metadata) if metadata.is_symlink() => match fs::canonicalize(rt, path) {
+            Err(error) if error.kind() == ErrorKind::NotFound => {}
+            place => return place,
+        },
+        _ => {}
     }
+    Ok(PathBuf::from_str(rt.alloc(), path)?)
+}
+
+// The path beside a place, which is known as long as the words of the line are.
+fn path_beside<'w>(system: System<'_, 'w>, place: &PathBuf) -> io::Result<&'w str> {
+    let alloc = system.rt.alloc();
+    let path = system
+        .beside
+        .get_or_try_init(|| format!(in alloc; "{}.rqcast", place.display()))?;
+    Ok(path.as_str())
 }
 
 // Whether another run writes a file now.
@@ -50,16 +67,29 @@ fn create_anew(rt: &HostRuntime, path: &str) -> io::Result<File> {
     Ok(file)
 }
 
-impl Aside {
+impl<'c, 'w> Aside<'c, 'w> {
     /// Begins a file beside its place, with these rights, where one with them is there.
-    pub fn create(rt: &HostRuntime, path: &str, rights: Option<Permissions>) -> io::Result<Aside> {
-        let place = place_of(rt, path)?;
-        let path = format!(in rt.alloc(); "{}.rqcast", place.display())?;
-        let file = create_anew(rt, path.as_str())?;
-        if let Some(rights) = rights {
-            file.set_permissions(rights)?;
+    pub fn create(
+        system: System<'c, 'w>,
+        path: &'w str,
+        rights: Option<Permissions>,
+    ) -> io::Result<Aside<'c, 'w>> {
+        let place = system.noted("opening", path, place_of(system.rt, path))?;
+        let path = system.noted("opening", path, path_beside(system, &place))?;
+        let file = system.noted("opening", path, create_anew(system.rt, path))?;
+        let aside = Aside {
+            system,
+            file,
+            place,
+            path,
+        };
+        if let Some(rights) = rights
+            && let Err(error) = aside.set_rights(&rights)
+        {
+            let _ = aside.remove();
+            return Err(error);
         }
-        Ok(Aside { file, place, path })
+        Ok(aside)
     }
 
     /// What is written.
@@ -67,20 +97,39 @@ impl Aside {
         &mut self.file
     }
 
+    /// Where it stands until it is whole.
+    pub fn path(&self) -> &'w str {
+        self.path
+    }
+
+    fn set_rights(&self, rights: &Permissions) -> io::Result<()> {
+        let rights = Permissions::from_mode(rights.mode() & RIGHTS);
+        let set = self.file.set_permissions(rights);
+        self.system.noted("changing the rights of", self.path, set)
+    }
+
+    // Takes it away.
+    fn remove(&self) -> io::Result<()> {
+        let removed = fs::remove_file(self.system.rt, self.path);
+        self.system.noted("removing", self.path, removed)
+    }
+
     // Puts it in its place.
-    fn put(&self, rt: &HostRuntime) -> io::Result<()> {
-        self.file.sync_all()?;
-        fs::rename(rt, self.path.as_str(), self.place.as_path())
+    fn put(&self) -> io::Result<()> {
+        let (system, path) = (self.system, self.path);
+        system.noted("writing to", path, self.file.sync_all())?;
+        let renamed = fs::rename(system.rt, path, self.place.as_path());
+        system.noted("renaming", path, renamed)
     }
 
     /// Puts it in its place where it is whole. Where it isn't, or can't be put there, it is taken away.
-    pub fn finish(self, rt: &HostRuntime, is_whole: bool) -> io::Result<()> {
+    pub fn finish(self, is_whole: bool) -> io::Result<()> {
         if !is_whole {
-            return fs::remove_file(rt, self.path.as_str());
+            return self.remove();
         }
-        let put = self.put(rt);
+        let put = self.put();
         if put.is_err() {
-            let _ = fs::remove_file(rt, self.path.as_str());
+            let _ = self.remove();
         }
         put
     }

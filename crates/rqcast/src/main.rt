@@ -21,7 +21,7 @@ use crate::system::System;
 use crate::watch::Watch;
 use crate::words::{Words, read_words};
 use rq_command::{End, Telling, run, write_end, write_standings};
-use std::cell::Cell;
+use std::cell::{Cell, OnceCell};
 use std::io;
 use std::io::IsTerminal;
 use std::process::ExitCode;
@@ -43,17 +43,23 @@ fn main(rt: HostRuntime) -> ExitCode {
             return ExitCode::from(FAULT);
         }
     };
+    let beside = OnceCell::new();
     let failure = Cell::new(None);
-    ExitCode::from(done(&rt, words.as_slice(), &failure))
+    ExitCode::from(done(&rt, words.as_slice(), &beside, &failure))
 }
 
 // Does what the words ask for, and says how that ended. Answers the status.
 fn done<'c, 'w>(
     rt: &'c HostRuntime,
     words: &'w [String],
+    beside: &'w OnceCell<String>,
     failure: &'c Cell<Option<Failure<'w>>>,
 ) -> u8 {
-    let mut system = System { rt, failure };
+    let mut system = System {
+        rt,
+        failure,
+        beside,
+    };
     let mut watch = Watch::new(rt, rt.stderr(), rt.stderr().is_terminal());
     let ended = run(rt.alloc(), words, &mut system, &mut watch);
     watch.end(&ended);

@@ -10,7 +10,9 @@ const PERIOD: u128 = 1000;
 #[derive(Drop)]
 pub struct Pulse<'a, C: Clock> {
     clock: &'a C,
+    // When it began first, when it began last, and when it last said how many came.
     start: Option<Instant>,
+    begun: Option<Instant>,
     told: Option<Instant>,
     recent: u64,
     bytes: u64,
@@ -22,6 +24,7 @@ impl<'a, C: Clock> Pulse<'a, C> {
         Pulse {
             clock,
             start: None,
+            begun: None,
             told: None,
             recent: 0,
             bytes: 0,
@@ -30,23 +33,34 @@ impl<'a, C: Clock> Pulse<'a, C> {
 
     /// Begins to count, and forgets what was counted before.
     pub fn begin(&mut self) {
-        self.start = Instant::now(self.clock).ok();
-        self.told = self.start;
+        self.begun = Instant::now(self.clock).ok();
+        self.start = self.start.or(self.begun);
+        self.told = self.begun;
         self.recent = 0;
         self.bytes = 0;
     }
 
-    /// How many bytes came since it began.
+    /// How many bytes came since it began last.
     pub fn bytes(&self) -> u64 {
         self.bytes
     }
 
-    /// How long it is since it began: nothing where the clock fails.
-    pub fn elapsed(&self) -> Duration {
-        match self.start {
-            Some(start) => start.elapsed(self.clock).unwrap_or(Duration::ZERO),
+    // How long a time is ago: nothing where the clock fails.
+    fn since(&self, time: Option<Instant>) -> Duration {
+        match time {
+            Some(time) => time.elapsed(self.clock).unwrap_or(Duration::ZERO),
             None => Duration::ZERO,
         }
+    }
+
+    /// How long it is since it began first.
+    pub fn elapsed(&self) -> Duration {
+        self.since(self.start)
+    }
+
+    /// How many seconds it is since it began last.
+    pub fn seconds(&self) -> u64 {
+        self.since(self.begun).as_secs()
     }
 
     /// Counts bytes alone.

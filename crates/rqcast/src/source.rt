@@ -48,16 +48,9 @@ impl<'c, 'w> Source<'c, 'w> {
             return Ok(());
         };
         self.opened += 1;
-        match File::open(self.system.rt, path) {
-            Ok(file) => {
-                self.file = Some(file);
-                Ok(())
-            }
-            Err(error) => {
-                self.system.note("opening", path, error);
-                Err(error)
-            }
-        }
+        let opened = File::open(self.system.rt, path);
+        self.file = Some(self.system.noted("opening", path, opened)?);
+        Ok(())
     }
 
     // Reads the file that is open, or standard input.
@@ -69,12 +62,9 @@ impl<'c, 'w> Source<'c, 'w> {
             None if self.files.is_empty() => self.system.rt.stdin().read(buf),
             None => Ok(0),
         };
-        if let Err(error) = &result {
-            let number = self.opened.saturating_sub(1);
-            let place = self.files.get(number).copied().unwrap_or("standard input");
-            self.system.note("reading", place, *error);
-        }
-        result
+        let number = self.opened.saturating_sub(1);
+        let place = self.files.get(number).copied().unwrap_or("standard input");
+        self.system.noted("reading", place, result)
     }
 }
 

@@ -1,11 +1,12 @@
 //! The system's devices.
+ghost use Rattle.std.specs.Prelude.{◌≡◌};
 
 use crate::failure::Failure;
 use crate::source::Source;
 use crate::target::Target;
 use rq_command::Devices;
 use rq_streams::Stop;
-use std::cell::Cell;
+use std::cell::{Cell, OnceCell};
 use std::io;
 use std::io::IsTerminal;
 
@@ -13,19 +14,34 @@ use std::io::IsTerminal;
 #[derive(Clone, Copy)]
 pub struct System<'c, 'w> {
     pub rt: &'c HostRuntime,
+    /// Which call failed first, and why.
     pub failure: &'c Cell<Option<Failure<'w>>>,
+    /// The file that is written beside its place, where there is one.
+    pub beside: &'w OnceCell<String>,
 }
 
 impl<'c, 'w> System<'c, 'w> {
-    /// Notes why a call failed, where none did before.
-    pub fn note(&self, tried: &'static str, place: &'w str, error: io::Error) {
-        if self.failure.get().is_none() {
-            self.failure.set(Some(Failure {
+    /// What a call answered. Where it failed, and none did before, that is noted.
+    pub fn noted<T>(
+        &self,
+        tried: &'static str,
+        place: &'w str,
+        answer: io::Result<T>,
+    ) -> io::Result<T>
+        ensures { result ≡ answer }
+    {
+        if let Err(error) = &answer
+            && self.failure.get().is_none()
+        {
+            let error = *error;
+            let failure = Failure {
                 tried,
                 place,
                 error,
-            }));
+            };
+            self.failure.set(Some(failure));
         }
+        answer
     }
 }
 

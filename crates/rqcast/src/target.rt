@@ -8,65 +8,62 @@ use std::{fs, io};
 
 // Where bytes go.
 #[derive(Drop)]
-enum Sink {
+enum Sink<'c, 'w> {
     Output,
-    Device(File),
-    Aside(Aside),
+    Device(File, &'w str),
+    Aside(Aside<'c, 'w>),
 }
 
 /// What is written.
 #[derive(Drop)]
 pub struct Target<'c, 'w> {
     system: System<'c, 'w>,
-    path: Option<&'w str>,
-    sink: Sink,
+    sink: Sink<'c, 'w>,
 }
 
-// Where the bytes of a file go, or of standard output. A device is written itself.
-fn open_sink(rt: &HostRuntime, path: Option<&str>) -> io::Result<Sink> {
-    let Some(path) = path else {
-        return Ok(Sink::Output);
-    };
-    match fs::metadata(rt, path) {
-        Ok(metadata) if metadata.is_dir() => Err(io::Error::from(ErrorKind::IsADirectory)),
-        Ok(metadata) if metadata.is_file() => {
-            let rights = metadata.permissions();
-            Ok(Sink::Aside(Aside::create(rt, path, Some(rights))?))
+// Where the bytes of a file go. A device is written itself.
+fn open_file<'c, 'w>(system: System<'c, 'w>, path: &'w str) -> io::Result<Sink<'c, 'w>> {
+    let rights = match fs::metadata(system.rt, path) {
+        Ok(metadata) if metadata.is_dir() => {
+            let refused = Err(io::Error::from(ErrorKind::IsADirectory));
+            system.noted("opening", path, refused)?
         }
-        Ok(_) => Ok(Sink::Device(OpenOptions::new().write(true).open(rt, path)?)),
-        Err(_) => Ok(Sink::Aside(Aside::create(rt, path, None)?)),
-    }
+        Ok(metadata) if metadata.is_file() => Some(metadata.permissions()),
+        Ok(_) => {
+            let opened = OpenOptions::new().write(true).open(system.rt, path);
+            let device = system.noted("opening", path, opened)?;
+            return Ok(Sink::Device(device, path));
+        }
+        Err(_) => None,
+    };
+    Ok(Sink::Aside(Aside::create(system, path, rights)?))
 }
 
 impl<'c, 'w> Target<'c, 'w> {
     /// Writes beside a file, or on standard output.
     pub fn create(system: System<'c, 'w>, path: Option<&'w str>) -> io::Result<Target<'c, 'w>> {
-        match open_sink(system.rt, path) {
-            Ok(sink) => Ok(Target { system, path, sink }),
-            Err(error) => {
-                system.note("opening", path.unwrap_or("standard output"), error);
-                Err(error)
-            }
-        }
+        let sink = match path {
+            Some(path) => open_file(system, path)?,
+            None => Sink::Output,
+        };
+        Ok(Target { system, sink })
     }
 
-    // Notes why a call failed.
-    fn note(&self, tried: &'static str, error: io::Error) {
-        let place = self.path.unwrap_or("standard output");
-        self.system.note(tried, place, error);
+    // What is written now, as a failed call names it.
+    fn place(&self) -> &'w str {
+        match &self.sink {
+            Sink::Output => "standard output",
+            Sink::Device(_, path) => path,
+            Sink::Aside(aside) => aside.path(),
+        }
     }
 
     /// Puts the file in its place where it is whole, and takes it away where it isn't.
     pub fn finish(self, is_whole: bool) -> io::Result<()> {
-        let Target { system, path, sink } = self;
-        let settled = match sink {
-            Sink::Aside(aside) => aside.finish(system.rt, is_whole),
-            Sink::Output | Sink::Device(_) => Ok(()),
-        };
-        if let Err(error) = &settled {
-            system.note("writing to", path.unwrap_or("standard output"), *error);
+        match self.sink {
+            Sink::Aside(aside) => aside.finish(is_whole),
+            Sink::Output | Sink::Device(..) => Ok(()),
         }
-        settled
     }
 }
 
@@ -74,26 +71,22 @@ impl Write for Target<'_, '_> {
     fn write(&mut self, buf: &[u8]) -> io::Result<usize> {
         let result = match &mut self.sink {
             Sink::Output => self.system.rt.stdout().write(buf),
-            Sink::Device(file) => file.write(buf),
+            Sink::Device(file, _) => file.write(buf),
             Sink::Aside(aside) => aside.file().write(buf),
         };
-        if let Err(error) = &result
-            && error.kind() != ErrorKind::ConnectionRefused
-        {
-            self.note("writing to", *error);
+        // That nobody listens to datagrams is no fault of the run.
+        if matches!(&result, Err(error) if error.kind() == ErrorKind::ConnectionRefused) {
+            return result;
         }
-        result
+        self.system.noted("writing to", self.place(), result)
     }
 
     fn flush(&mut self) -> io::Result<()> {
         let result = match &mut self.sink {
             Sink::Output => self.system.rt.stdout().flush(),
-            Sink::Device(file) => file.flush(),
+            Sink::Device(file, _) => file.flush(),
             Sink::Aside(aside) => aside.file().flush(),
         };
-        if let Err(error) = &result {
-            self.note("writing to", *error);
-        }
-        result
+        self.system.noted("writing to", self.place(), result)
     }
 }

@@ -188,7 +188,7 @@ impl<C: Clock, W: Write> Pace for Watch<'_, C, W> {
                 all: Some(cells),
                 missing: None,
                 rate,
-                seconds: self.pulse.elapsed().as_secs(),
+                seconds: self.pulse.seconds(),
             };
             // That it can't be told is no fault of the run.
             let _ = match self.telling {
@@ -221,7 +221,7 @@ impl<C: Clock, W: Write> Progress for Watch<'_, C, W> {
             all,
             missing,
             rate,
-            seconds: self.pulse.elapsed().as_secs(),
+            seconds: self.pulse.seconds(),
         };
         let _ = match self.telling {
             // Nothing was seen yet, or what is read is sent.
