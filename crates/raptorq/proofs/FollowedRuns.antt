@@ -119,15 +119,15 @@ run_unmade X table c packets e = by_check (checked_configuration (greatest_size 
   by_check (Ok u) memory = inl memory
   by_check (Err w) is = inr (ap refused_by is)
 
+-- nothing is refused, so an answer stands, or memory is wanting
+pub run_answers : {X : Type 0} (table : List TableRow) (c : Configuration) (packets : List Packet) (r : Result X Error) → IsRunRefusal table c packets (Ok tt) → IfErr r (λ e. e ≡ OutOfMemory) → AnswersRun table c packets r
+run_answers table c packets (Ok x) passed memory = passed
+run_answers table c packets (Err e) passed memory = inl memory
+
 module _ (table : List TableRow) (c : Configuration) (packets : List Packet) (checked : checked_configuration (greatest_size table) c ≡ Ok tt) where
   -- what is refused of the packets is refused of the run
   pub run_behind : (r : Result (Unit {0}) Error) → IsRefusalBehind table c [] packets r → IsRunRefusal table c packets r
   run_behind r behind = subst (λ t. MatchResult t (λ _. IsRefusalBehind table c [] packets r) (λ e. r ≡ Err e)) (sym checked) behind
-
-  -- nothing is, so an answer stands, or memory is wanting
-  pub run_answers : {X : Type 0} (r : Result X Error) → IsRefusalBehind table c [] packets (Ok tt) → IfErr r (λ e. e ≡ OutOfMemory) → AnswersRun table c packets r
-  run_answers (Ok x) passed memory = run_behind (Ok tt) passed
-  run_answers (Err e) passed memory = inl memory
 
   -- one packet stops it
   pub run_stops : (X : Type 0) (front rest : List Packet) (p : Packet) (e : Error) → packets ≡ (front ++ p ∷ []) ++ rest → IsRefusalBehind table c [] front (Ok tt) → (e ≡ OutOfMemory) ⊎ IsNextRefusal table c front p (Err e) → AnswersRun {X = X} table c packets (Err e)

@@ -7,7 +7,7 @@ use Rattle.rq_standard.specs.declared.row.TableRow.{TableRow}
 use Rattle.rq_standard.specs.TableRows.{no_row}
 use Rattle.rq_standard.specs.Configuration.{Configuration, total_symbols}
 use Rattle.rq_standard.specs.Streams.{frame_size}
-use Rattle.rq_standard.specs.Packet.{SymbolId, Packet}
+use Rattle.rq_standard.specs.Packet.{SymbolId, Packet, packet_bytes}
 use Rattle.rq_standard.specs.Headline.{IsPacketOf}
 use Rattle.rq_standard.specs.ObjectPackets.{AreEncoded}
 use Rattle.rq_standard.specs.Cutting.{block_symbols}
@@ -43,6 +43,14 @@ ArePacketsOf e repair packets = (table : List TableRow) (object : List ℕ) → 
 -- a packet of the object whose encoder it is
 abbrev pub IsPacketIn : Encoded → Packet → Type 0
 IsPacketIn e p = (table : List TableRow) (object : List ℕ) → IsEncoderOf table object e → IsPacketOf table e.configuration object p
+
+-- bytes are the packet of an encoding symbol id of a block of that object
+pub record IsFrameIn (e : Encoded) (block esi : ℕ) (bytes : List ℕ) : Type 0 where
+  pub packet : Packet
+  pub id : packet.id ≡ record { block = block; esi = esi }
+  pub of_object : IsPacketIn e packet
+  pub long : length bytes ≡ frame_size e.configuration
+  pub spelled : bytes ≡ packet_bytes packet
 
 -- an id, unless its block is none of the object's
 abbrev pub id_in : Configuration → SymbolId → Result SymbolId Error

@@ -1,10 +1,11 @@
 //! Encoders: an object in, its packets out.
-ghost use Rattle.std.specs.Prelude.{◌≡◌, ◌<◌, length, map, Ok, IfOk, IfErr, OnOk};
+ghost use Rattle.std.specs.Prelude.{◌≡◌, ◌^◌, ◌<◌, length, map, Ok, IfOk, IfErr, OnOk};
 ghost use Rattle.std.specs.List.{range_with_len};
 ghost use Rattle.rq_bytes.specs.Refusals.{IsAnswer};
 ghost use Rattle.rq_standard.specs.Configuration.{IsAccepted, largest_block};
 ghost use Rattle.rq_standard.specs.Cutting.{block_symbols};
 ghost use Rattle.rq_standard.specs.Headline.{HasNonsingularRows};
+ghost use Rattle.rq_standard.specs.Streams.{frame_size};
 ghost use Rattle.rq_standard.specs.TableRows.{greatest_size};
 ghost use Rattle.raptorq.specs.BlockCutting.{RefusesRows};
 ghost use Rattle.rq_block.specs.SourceBlockEncoder.{block_encoded_of};
@@ -43,12 +44,13 @@ pub struct Encoder {
     pub ghost few: { largest_block config < 65536 },
     pub ghost some: { 0 < config.source_blocks },
     pub ghost numbered: { map (λ b. (block_encoded_of b).number) blocks.items ≡ range_with_len 0 config.source_blocks },
+    pub ghost sized: { map (λ b. (block_encoded_of b).size) blocks.items ≡ map (λ b. config.symbol_size) (range_with_len 0 config.source_blocks) },
     pub ghost counted: { map (λ b. length (block_encoded_of b).source) blocks.items ≡ map (block_symbols config) (range_with_len 0 config.source_blocks) },
 }
 
 impl Encoder {
     ghost use Rattle.raptorq.specs.Building.{default_settings, RefusesBuilding, IsBuilt};
-    ghost use Rattle.raptorq.specs.Encoder.{encoded_of, ArePacketsOf, IsPacketIn, IsEncoderOf, id_in, packets_refusal};
+    ghost use Rattle.raptorq.specs.Encoder.{encoded_of, ArePacketsOf, IsPacketIn, IsEncoderOf, IsFrameIn, id_in, packets_refusal};
     ghost use Rattle.raptorq.specs.Refused.{new_encoder, RefusesEncoder};
 
     /// The encoder of an object, in bytes (RFC 6330, section 4.4).
@@ -127,6 +129,17 @@ impl Encoder {
             return Err(Error::UnknownBlock);
         }
         self.blocks[usize::from(number)].packet(id.encoding_symbol_id())
+    }
+
+    /// Writes the packet of an encoding symbol id of a block over as many bytes as it takes: the one
+    /// that [`Encoder::packet`] makes, without memory. Not in the Rust crate.
+    pub fn write_packet(&self, source_block_number: u8, esi: u32, packet: &mut [u8])
+        requires block { source_block_number < (encoded_of self.now).configuration.source_blocks }
+        requires id { esi < 2 ^ 24 }
+        requires len { length packet.old ≡ frame_size (encoded_of self.now).configuration }
+        ensures { IsFrameIn (encoded_of self.now) source_block_number esi packet.new }
+    {
+        self.blocks[usize::from(source_block_number)].write_packet(esi, packet);
     }
 
     /// The packets of each source block in the order of their encoding symbol ids: those of its

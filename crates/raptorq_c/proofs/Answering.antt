@@ -1,14 +1,15 @@
 -- What calls answer, by what the coders say.
-use Rattle.raptorq_c.proofs.Names.{◌≡◌, ◌≢◌, ◌⊎◌, ◌<◌, ℕ, List, Option, Some, None, Result, Ok, Err, refl, sym, ap, ◌∙◌, subst, arith, inl, inr, IfOk, OnErr, MatchOption, MatchResult, Error, code_of, and_then, IsAnswer, Configuration, TableRow, Packet, frame_size, frames_in, read_packet, block_refusal}
+use Rattle.raptorq_c.proofs.Names.{◌≡◌, ◌≢◌, ◌⊎◌, ◌<◌, ℕ, List, length, Option, Some, None, Result, Ok, Err, refl, sym, ap, ◌∙◌, subst, arith, inl, inr, IfOk, OnErr, MatchOption, MatchResult, Error, code_of, and_then, IsAnswer, Configuration, TableRow, Packet, frame_size, frames_in, read_packet, block_refusal}
 use Rattle.raptorq_c.proofs.Names.{state_of, KeptBlock, AnswersHere, AnswersOpen, RefusesAnswer, TakesHere, TakesInTurn, packet_refusal, IsRunRefusal, AnswersRun, Decoder, CallEnd, IsPartOf, number_of, refusal_number, IsNumber, Answered, IsDecoded, frames_refusal, packets_in}
-use Rattle.std.specs.Prelude.{IfErr}
+use Rattle.std.specs.Prelude.{IfErr, IfSome}
 use Rattle.rq_bytes.specs.Refusals.{IsRefusal}
-use Rattle.rq_standard.specs.DecoderState.{State}
+use Rattle.rq_standard.specs.DecoderState.{State, result_of}
 use Rattle.rq_standard.specs.Following.{IsAnswerAfter}
 use Rattle.rq_standard.specs.Headline.{AnswersExactly, AnswersWhereAnyCan}
 use Rattle.raptorq.specs.TakesPacket.{TakesPacket}
+use Rattle.raptorq.proofs.AnsweredParts.{long_answers, result_long}
 use Rattle.raptorq.proofs.InTurn.{turns_take}
-use Rattle.raptorq_c.specs.Decoders.{FillsWithBlock}
+use Rattle.raptorq_c.specs.Decoders.{FillsWithBlock, FillsWithResult}
 use Rattle.raptorq_c.specs.Frames.{IsAddedBy, IsTakenNumber, StaysUnread, TakesRead}
 use Rattle.raptorq_c.specs.ObjectBuffers.{FillsWithObject, IsFilled, IsRefused, IsDecodingRefusal}
 use Rattle.raptorq_c.proofs.Ending.{code_positive, code_no_call, is_stopped}
@@ -20,6 +21,21 @@ answered_by P answer number before after holds a = record {
   other_length = λ other. let found = a.other_length other in (found.0, subst P (sym found.1) holds, found.2);
   incomplete = λ none. subst P (sym (a.incomplete none)) holds;
 }
+
+-- so is a buffer that is filled with a decoder's object
+there_of : (P : Option (List ℕ) → Type 0) (answer : Option (List ℕ)) (room n : ℕ) → P answer → IfSome answer (λ object. length object ≡ n) → room ≢ n → (answer ≡ None → ⊥) → (object : List ℕ) × P (Some object) × (length object ≢ room)
+there_of P None room n holds long other some = absurd (some refl)
+there_of P (Some object) room n holds long other some = (object, holds, λ same. other (sym same ∙ long))
+
+pub answered_result : (P : Option (List ℕ) → Type 0) (d : Decoder) (number : ℕ) (before after : List ℕ) → P (result_of (state_of d)) → FillsWithResult (state_of d) number before after → Answered number before after P
+answered_result P d number before after holds filled =
+    let s = state_of d in
+    record {
+      written = λ zero. subst P (sym (filled.written zero)) holds;
+      other_length = λ other. there_of P (result_of s) (length before) s.configuration.transfer_length holds (result_long s (long_answers d) d.some d.positive) (filled.other_length other)
+          (λ none. omega (arith, other, filled.incomplete.1 none));
+      incomplete = λ none. subst P (filled.incomplete.0 none) holds;
+    }
 
 -- a refusal answers nothing
 pub unanswered : (e : Error) (before after : List ℕ) (P : Option (List ℕ) → Type 0) → Answered (code_of e) before after P

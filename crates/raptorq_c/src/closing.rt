@@ -5,7 +5,7 @@ ghost use Rattle.raptorq_c.specs.Coders.{kept_as, block_decoder_in, block_encode
 use crate::slot::Slot;
 use std::alloc::Global;
 
-/// Frees an encoder that no other pointer shares, and makes the pointer null, which it may be before.
+/// Frees an encoder, unless another pointer shares it, and makes the pointer null, which it may be before.
 #[unsafe(no_mangle)]
 pub extern "C" fn reamertan_encoder_close(alloc: Global, encoder: &mut Slot)
     requires { IfSome encoder.old.value (λ kept. IsSome (kept_as encoder_in kept)) }
@@ -14,7 +14,7 @@ pub extern "C" fn reamertan_encoder_close(alloc: Global, encoder: &mut Slot)
     encoder.close(alloc);
 }
 
-/// Frees a plan that no other pointer shares, and makes the pointer null, which it may be before.
+/// Frees a plan, unless another pointer shares it, and makes the pointer null, which it may be before.
 #[unsafe(no_mangle)]
 pub extern "C" fn reamertan_plan_close(alloc: Global, plan: &mut Slot)
     requires { IfSome plan.old.value (λ kept. IsSome (kept_as plan_in kept)) }
@@ -23,7 +23,7 @@ pub extern "C" fn reamertan_plan_close(alloc: Global, plan: &mut Slot)
     plan.close(alloc);
 }
 
-/// Frees a block's encoder that no other pointer shares, and makes the pointer null, which it may be.
+/// Frees a block's encoder, unless another pointer shares it, and makes the pointer null, which it may be.
 #[unsafe(no_mangle)]
 pub extern "C" fn reamertan_block_encoder_close(alloc: Global, encoder: &mut Slot)
     requires { IfSome encoder.old.value (λ kept. IsSome (kept_as block_encoder_in kept)) }

@@ -198,8 +198,8 @@ pub extern "C" fn reamertan_decoder_write_block(
     number(of_kept!(decoder, alloc, Decoder, inner => write_part(inner, block, bytes)))
 }
 
-// Fills a buffer with the object.
-fn write_all(decoder: &Decoder, object: &mut [u8]) -> Result<(), CallEnd>
+/// Fills a buffer with the object, where it is there.
+pub(crate) fn write_all(decoder: &Decoder, object: &mut [u8]) -> Result<(), CallEnd>
     ensures { FillsWithResult (state_of decoder.now) (number_of result) object.old object.new }
 {
     if !decoder.is_complete() {

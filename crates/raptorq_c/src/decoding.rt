@@ -4,14 +4,13 @@ ghost use Rattle.rq_standard.specs.Configuration.{configuration_of_bytes};
 ghost use Rattle.raptorq_c.specs.ObjectBuffers.{FillsWithObject};
 ghost use Rattle.raptorq_c.specs.Numbers.{number_of};
 
-use crate::buffers::fill_answer;
 use crate::call_end::{CallEnd, number};
+use crate::decoders::write_all;
 use crate::frames::add_frames;
 use crate::tables::table;
-use raptorq::ObjectTransmissionInformation;
 use raptorq::base::CONFIGURATION_LENGTH;
-use raptorq::decoder::decode_all;
 use raptorq::systematic_constants::SystematicTable;
+use raptorq::{Decoder, ObjectTransmissionInformation};
 use std::alloc::Global;
 
 // Fills a buffer with the object of packets in a configuration, where they determine it.
@@ -26,8 +25,8 @@ fn decode_in(
 {
     let mut steps = Vec::new(alloc);
     add_frames(alloc, &mut steps, config.frame_size(), packets)?;
-    let answer = decode_all(alloc, table, config, steps)?;
-    fill_answer(object, answer.as_deref())
+    let decoder = Decoder::receive_all(alloc, table, config, steps)?;
+    write_all(&decoder, object)
 }
 
 // The same of the configuration that twelve bytes spell, over all rows.

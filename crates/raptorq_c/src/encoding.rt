@@ -1,32 +1,31 @@
 //! An object in, its packets out.
-ghost use Rattle.std.specs.Prelude.{ℕ, IfOk, IfErr};
-ghost use Rattle.rq_bytes.specs.Error.{code_of};
-ghost use Rattle.raptorq_c.specs.PacketBuffers.{FillsWithPackets, IsEncoding, StopsAt};
+ghost use Rattle.raptorq_c.specs.Numbers.{number_of};
+ghost use Rattle.raptorq_c.specs.PacketBuffers.{FillsWithPackets};
 
 use crate::buffers::fill;
-use crate::call_end::number;
+use crate::call_end::{CallEnd, number};
 use crate::tables::table;
 use raptorq::ObjectTransmissionInformation;
 use raptorq::base::CONFIGURATION_LENGTH;
 use raptorq::encoder::encode_all;
-use raptorq::error::Error;
 use std::alloc::Global;
 
-// The packets of an object as bytes.
-fn encoded(
+// Fills a buffer with the packets of an object. They are made beside it: memory may be refused at any
+// block, and then the buffer stays as it was.
+fn encode(
     alloc: Global,
     configuration: &[u8; CONFIGURATION_LENGTH],
     object: &[u8],
     repair: u32,
-) -> Result<Vec<u8>, Error>
-    ensures packets { IfOk result (λ v. IsEncoding configuration.now object.now repair v.items) }
-    ensures stopped { IfErr result (λ e. (room : ℕ) → StopsAt configuration.now object.now repair room (code_of e)) }
+    packets: &mut [u8],
+) -> Result<(), CallEnd>
+    ensures { FillsWithPackets configuration.now object.now repair (number_of result) packets.old packets.new }
 {
     let table = table(alloc)?;
     let config = ObjectTransmissionInformation::deserialize(configuration);
-    let mut packets = Vec::new(alloc);
-    encode_all(alloc, &table, object, &config, repair, &mut packets)?;
-    Ok(packets)
+    let mut bytes = Vec::new(alloc);
+    encode_all(alloc, &table, object, &config, repair, &mut bytes)?;
+    fill(packets, bytes.as_slice())
 }
 
 /// Fills a buffer with the packets of an object, each its payload id of 4 bytes and a symbol: block by
@@ -44,8 +43,5 @@ pub extern "C" fn reamertan_encode(
 ) -> u8
     ensures { FillsWithPackets configuration.now object.now repair result packets.old packets.new }
 {
-    match encoded(alloc, configuration, object, repair) {
-        Ok(bytes) => number(fill(packets, bytes.as_slice())),
-        Err(refusal) => refusal.code(),
-    }
+    number(encode(alloc, configuration, object, repair, packets))
 }

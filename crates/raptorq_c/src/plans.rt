@@ -29,7 +29,7 @@ fn open(alloc: Global, plan: &mut Slot, source_symbols: u16) -> Result<(), Error
 
 /// Makes the plan of blocks of so many source symbols, and writes a pointer to it over a null one.
 ///
-/// Refuses what `SourceBlockEncodingPlan::generate` refuses, or for want of memory. The pointer stays null.
+/// Refuses what `SourceBlockEncodingPlan::generate` refuses, or for want of memory. It stays null then.
 #[unsafe(no_mangle)]
 pub extern "C" fn reamertan_plan_open(alloc: Global, plan: &mut Slot, source_symbols: u16) -> u8
     requires null { plan.old.value ≡ None }

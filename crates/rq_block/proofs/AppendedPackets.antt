@@ -1,5 +1,7 @@
 -- The packets of a block, appended to bytes one after another.
-use Rattle.std.proofs.Common.{◌≡◌, ℕ, ◌+◌, ◌-◌, ◌^◌, ◌<◌, List, [], ◌∷◌, ◌++◌, refl, sym, ap, ◌∙◌, subst, arith, append-nil, append_assoc}
+use Rattle.std.proofs.Common.{◌≡◌, ℕ, ◌+◌, ◌-◌, ◌^◌, ◌<◌, List, [], ◌∷◌, ◌++◌, length, take, drop, replicate, refl, sym, ap, ◌∙◌, subst, arith, append-nil, append_assoc}
+use Rattle.std.proofs.Math.Seq.{take-append_seam, drop-append_seam}
+use Rattle.std.proofs.lemmas.List.{take_all}
 use Rattle.rq_standard.proofs.FrameLaws.{frames_of-push}
 use Rattle.rq_standard.specs.Packet.{Packet, id_bytes, packet_bytes}
 use Rattle.rq_standard.specs.Streams.{frames_of}
@@ -30,3 +32,16 @@ appends_packet b esi old cur mid new id small spelled so named symbol =
 
 pub extends_more : (a b c : List ℕ) → KeepsFront a b → KeepsFront b c → KeepsFront a c
 extends_more a b c one two = record { more = one.more ++ two.more; grown = two.grown ∙ ap (λ xs. xs ++ two.more) one.grown ∙ append_assoc a one.more two.more }
+
+-- bytes that grow by zeros stay, with the zeros behind them
+module _ (xs new : List ℕ) (len end size : ℕ) (long : len ≡ length xs) (room : end ≡ len + size) (is : new ≡ take end xs ++ replicate (end - len) 0) where
+  grown_by_zeros : new ≡ xs ++ replicate size 0
+  grown_by_zeros =
+      let more : end - len ≡ size = omega arith in
+      is ∙ ap (λ ys. ys ++ replicate (end - len) 0) (take_all end xs (omega arith)) ∙ ap (λ n. xs ++ replicate n 0) more
+
+  pub before_zeros : take len new ≡ xs
+  before_zeros = ap (take len) grown_by_zeros ∙ ap (λ n. take n (xs ++ replicate size 0)) long ∙ take-append_seam xs (replicate size 0)
+
+  pub zeros_behind : drop len new ≡ replicate size 0
+  zeros_behind = ap (drop len) grown_by_zeros ∙ ap (λ n. drop n (xs ++ replicate size 0)) long ∙ drop-append_seam xs (replicate size 0)

@@ -1,13 +1,22 @@
 -- Cells that are written or lost one by one.
-use Rattle.std.proofs.Common.{◌≡◌, ℕ, suc, ◌+◌, ◌≤◌, ◌<◌, List, [], ◌++◌, take, Option, refl, sym, ap, subst, ◌∙◌, arith, inl, inr, append-nil}
+use Rattle.std.proofs.Common.{◌≡◌, ℕ, suc, ◌+◌, ◌-◌, ◌≤◌, ◌<◌, List, [], ◌++◌, length, replicate, take, Option, refl, sym, ap, subst, ◌∙◌, arith, inl, inr, append-nil, append_assoc, length-append}
+use Rattle.std.proofs.Math.Seq.{take-append_seam}
+use Rattle.std.proofs.lemmas.List.{length-replicate, length-take-le, take_all}
 use Rattle.std.specs.Io.KnownBytes.{Keeps, Appends}
 use Rattle.std.proofs.KnownBytes.{Appends-nil, Appends-trans, Appends-kept}
 use Rattle.rq_bytes.specs.declared.error.Error.{Error}
 use Rattle.rq_bytes.specs.declared.error.Error.TheVariants.{OutOfMemory}
+use Rattle.rq_standard.specs.Configuration.{Configuration}
+use Rattle.rq_standard.specs.Streams.{frame_size}
+use Rattle.raptorq.specs.Encoder.{IsFrameIn}
+use Rattle.rq_cells.specs.declared.head.Head.{Head}
+use Rattle.rq_cells.specs.Cells.{check_of, with_check, head_bytes, cell_size}
+use Rattle.rq_cells.proofs.HeadBytes.{length-check_of, length-head_bytes}
 use Rattle.rq_streams.specs.declared.run.Stop.TheVariants.{Fault, Refused}
 use Rattle.rq_cast.specs.declared.output.Output.{Output}
 use Rattle.rq_cast.specs.Output.{CountsLost}
-use Rattle.rq_cast.specs.Sent.{Sending, cell_count, IsSentCell, AreSent, SendsFirst, StopsSending}
+use Rattle.rq_cast.specs.Writing.{IsRoom}
+use Rattle.rq_cast.specs.Sent.{Sending, cell_count, sent_id, IsSentCell, AreSent, SendsFirst, StopsSending}
 
 -- nothing is sent yet
 pub sends_none : (s : Sending) (there : Option (List ℕ)) → SendsFirst s 0 0 [] there there
@@ -75,15 +84,63 @@ module _ (s : Sending) (n lost : ℕ) (there mid then : Option (List ℕ)) (send
       counts = counts;
     }
 
-    -- want of memory
-    pub stops_wanting : (e : Error) → e ≡ OutOfMemory → n ≤ cell_count s → Keeps mid then → CountsLost old new lost 0
-        → StopsSending s old new there then (Refused e)
-    stops_wanting e memory within kept counts = record {
-      number = n;
-      within = within;
-      lost = lost;
-      behind = [];
-      sends = sends_kept kept;
-      stopped = (memory, refl);
-      counts = counts;
+-- memory is wanting before any cell
+pub stops_wanting : {W : Type 0} (s : Sending) (old new : Output W) (there then : Option (List ℕ)) (e : Error) → e ≡ OutOfMemory → Keeps there then → CountsLost old new 0 0
+    → StopsSending s old new there then (Refused e)
+stops_wanting s old new there then e memory kept counts = record {
+  number = 0;
+  within = omega arith;
+  lost = 0;
+  behind = [];
+  sends = sends_kept s 0 0 there there then (sends_none s there) kept;
+  stopped = (memory, refl, refl);
+  counts = counts;
+}
+
+-- ---- one cell over another
+
+-- there is room behind a head
+pub room_behind : (h : Head) (head bytes : List ℕ) (size : ℕ) → head ≡ head_bytes h → length h.name ≡ 16 → size ≡ cell_size h.configuration
+    → bytes ≡ take size head ++ replicate (size - length head) 0 → IsRoom h bytes
+room_behind h head bytes size written named long grown =
+    let short : length head ≡ 36 = ap length written ∙ length-head_bytes h ∙ omega (arith, named) in
+    let is : bytes ≡ head ++ replicate (size - length head) 0 = grown ∙ ap (λ xs. xs ++ replicate (size - length head) 0) (take_all size head (omega (arith, short, long))) in
+    record {
+      long = omega (arith, ap length is, length-append head (replicate (size - length head) 0), length-replicate {A = ℕ} (size - length head) 0, short, long);
+      headed = ap (λ n. take n bytes) (sym short) ∙ ap (take (length head)) is ∙ take-append_seam head (replicate (size - length head) 0) ∙ written;
+    }
+
+-- a packet and a check are written behind the head
+module _ (s : Sending) (i : ℕ) (old packet rest new : List ℕ) (room : IsRoom s.head old) (same : s.head.configuration ≡ s.encoded.configuration) (frame : IsFrameIn s.encoded (sent_id s i).block (sent_id s i).esi packet) (last : length rest ≡ 8) where
+  abbrev checked : List ℕ
+  checked = take 36 old ++ packet
+
+  size : length checked ≡ 36 + frame_size s.encoded.configuration
+  size = length-append (take 36 old) packet ∙ omega (arith, length-take-le 36 old (omega (arith, room.long)), frame.long)
+
+  front : take (length (take 36 old ++ (packet ++ rest)) - 8) (take 36 old ++ (packet ++ rest)) ≡ checked
+  front =
+      let whole : take 36 old ++ (packet ++ rest) ≡ checked ++ rest = sym (append_assoc (take 36 old) packet rest) in
+      let end : length (checked ++ rest) - 8 ≡ length checked = omega (arith, length-append checked rest, last) in
+      ap (λ xs. take (length xs - 8) xs) whole ∙ ap (λ n. take n (checked ++ rest)) end ∙ take-append_seam checked rest
+
+  module _ (written : new ≡ with_check 8 (take (length (take 36 old ++ (packet ++ rest)) - 8) (take 36 old ++ (packet ++ rest)))) where
+    is : new ≡ with_check 8 checked
+    is = written ∙ ap (with_check 8) front
+
+    pub sent_over : IsSentCell s i new
+    sent_over = record {
+      packet = frame.packet;
+      id = frame.id;
+      of_object = frame.of_object;
+      spelled = is ∙ (λ j. with_check 8 (room.headed j ++ frame.spelled j));
+    }
+
+    pub room_again : IsRoom s.head new
+    room_again = record {
+      long = omega (arith, ap length is, length-append checked (check_of 8 checked), length-check_of 8 checked (omega arith), size, ap (λ (c : Configuration). c.symbol_size) same);
+      headed =
+          let first : length (take 36 old) ≡ 36 = length-take-le 36 old (omega (arith, room.long)) in
+          ap (take 36) (is ∙ append_assoc (take 36 old) packet (check_of 8 checked)) ∙ ap (λ n. take n (take 36 old ++ (packet ++ check_of 8 checked))) (sym first)
+          ∙ take-append_seam (take 36 old) (packet ++ check_of 8 checked) ∙ room.headed;
     }

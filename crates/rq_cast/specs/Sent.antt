@@ -80,10 +80,10 @@ pub record IsBegun (s : Sending) (n : ℕ) (bytes : List ℕ) : Type 0 where
   pub taken : ℕ
   pub begun : bytes ≡ take taken cell
 
--- a failed call may leave a beginning of the next cell, and want of memory leaves none
+-- a failed call may leave a beginning of the next cell, and want of memory comes before the first
 abbrev pub StopsBehind : Sending → ℕ → List ℕ → Stop → Type 0
 StopsBehind s n bytes Fault = (bytes ≡ []) ⊎ IsBegun s n bytes
-StopsBehind s n bytes (Refused e) = (e ≡ OutOfMemory) × (bytes ≡ [])
+StopsBehind s n bytes (Refused e) = (e ≡ OutOfMemory) × (n ≡ 0) × (bytes ≡ [])
 
 -- Some of the first cells are written or lost: one for each call that was refused, and one call beside these failed where that ended it.
 pub record StopsSending {W : Type 0} (s : Sending) (old new : Output W) (there then : Option (List ℕ)) (stop : Stop) : Type 0 where

@@ -1,7 +1,14 @@
 -- What is written of one cell.
-use Rattle.std.specs.Prelude.{ℕ, Bool, true, false, List, Option, Result, Ok, Err}
+use Rattle.std.specs.Prelude.{◌≡◌, ℕ, Bool, true, false, List, length, take, Option, Result, Ok, Err}
 use Rattle.std.specs.Io.KnownBytes.{Keeps, Appends}
 use Rattle.rq_streams.specs.declared.run.Stop.{Stop}
+use Rattle.rq_cells.specs.declared.head.Head.{Head}
+use Rattle.rq_cells.specs.Cells.{head_bytes, head_size, cell_size}
+
+-- bytes that are as long as the cells with a head and begin with it: each is written over another
+pub record IsRoom (h : Head) (bytes : List ℕ) : Type 0 where
+  pub long : length bytes ≡ cell_size h.configuration
+  pub headed : take head_size bytes ≡ head_bytes h
 
 -- a cell is written, or lost
 abbrev pub WritesCell : Option (List ℕ) → Option (List ℕ) → List ℕ → Bool → Type 0

@@ -1,17 +1,17 @@
 //! How an object's cells are sent.
 ghost use Rattle.std.specs.Prelude.{◌≡◌, ℕ, ◌+◌, ◌-◌, ◌^◌, ◌<◌, OnOk, OnErr, IfOk, IfErr, Ok, [], take, length, true};
 ghost use Rattle.std.specs.Io.KnownBytes.{Appends};
+ghost use Rattle.raptorq.specs.Encoder.{encoded_of};
 ghost use Rattle.rq_streams.specs.Counted.{failed_count};
 ghost use Rattle.rq_cast.specs.Output.{counting, sink, refused_count, flushed};
-ghost use Rattle.rq_cast.specs.Writing.{WritesCell, failed_writes, lost_cells};
+ghost use Rattle.rq_cast.specs.Writing.{IsRoom, WritesCell, failed_writes, lost_cells};
 
 use crate::output::Output;
 use crate::series::{Repair, Series};
-use raptorq::base::PayloadId;
 use raptorq::error::Error;
 use raptorq::systematic_constants::SystematicTable;
 use raptorq::{Encoder, ObjectTransmissionInformation};
-use rq_cells::{Head, fill_cell, name_of};
+use rq_cells::{HEAD_LENGTH, Head, name_of, write_check};
 use rq_streams::Stop;
 use std::alloc::Global;
 use std::io::{ErrorKind, Write};
@@ -45,12 +45,23 @@ fn write_cell<W: Write>(output: &mut Output<W>, cell: &[u8]) -> Result<bool, Sto
     }
 }
 
+// Room for a cell with a head, which stands there already: each cell is written over the one before it.
+fn cell_room(alloc: Global, head: Head) -> Result<Vec<u8>, Error>
+    ensures room { IfOk result (λ v. IsRoom head v.items) }
+    ensures memory { IfErr result (λ e. e ≡ Error.OutOfMemory) }
+{
+    let mut room = head.serialize(alloc)?;
+    room.resize(head.cell_length(), 0)?;
+    Ok(room)
+}
+
 /// Sends an object's cells: those of all its blocks in turn, id by id.
 #[derive(Debug, PartialEq, Eq, Drop)]
 pub struct Sender {
     encoder: Encoder,
     head: Head,
     series: Series,
+    pub ghost same: { head.configuration ≡ (encoded_of encoder).configuration },
 }
 
 impl Sender {
@@ -59,7 +70,6 @@ impl Sender {
     ghost use Rattle.rq_standard.specs.TableRows.{greatest_size};
     ghost use Rattle.raptorq.specs.Encoder.{IsEncoderOf};
     ghost use Rattle.raptorq.specs.Refused.{new_encoder, RefusesEncoder};
-    ghost use Rattle.rq_cells.specs.Cells.{head_bytes};
     ghost use Rattle.rq_cast.specs.Sent.{IsSeriesOf, sending_of, object_head, cell_count, IsSentCell, SendsFirst, StopsSending};
     ghost use Rattle.rq_cast.specs.Output.{CountsLost};
 
@@ -120,20 +130,21 @@ impl Sender {
         u64::from(self.series.count) * u64::from(self.encoder.get_config().source_blocks())
     }
 
-    // Puts the cell of a number into a buffer, behind the bytes of the head.
-    fn fill(&self, head: &[u8], number: u64, cell: &mut Vec<u8>) -> Result<(), Error>
+    // Writes the cell of a number over another cell of its object.
+    fn fill(&self, number: u64, cell: &mut [u8])
         requires number { number < cell_count (sending_of self.now) }
-        requires head { head.now ≡ head_bytes (sending_of self.now).head }
-        ensures cell { OnOk result (IsSentCell (sending_of self.now) number cell.new.items) }
-        ensures memory { IfErr result (λ e. e ≡ Error.OutOfMemory) }
+        requires room { IsRoom (sending_of self.now).head cell.old }
+        ensures cell { IsSentCell (sending_of self.now) number cell.new }
+        ensures room { IsRoom (sending_of self.now).head cell.new }
     {
-        let blocks = u64::from(self.encoder.get_config().source_blocks());
-        let id = self.series.first + self.series.step * (number / blocks) as u32;
-        let packet = self
-            .encoder
-            .packet(PayloadId::new((number % blocks) as u8, id)?)?;
-        fill_cell(head, &packet, cell)?;
-        Ok(())
+        let config = self.encoder.get_config();
+        let blocks = u64::from(config.source_blocks());
+        let esi = self.series.first + self.series.step * (number / blocks) as u32;
+        let (_, behind) = cell.split_at_mut(HEAD_LENGTH);
+        let (packet, _) = behind.split_at_mut(config.frame_size());
+        self.encoder
+            .write_packet((number % blocks) as u8, esi, packet);
+        write_check(cell);
     }
 
     /// Writes its cells, one of each block for each id, and flushes then. Answers how many were lost.
@@ -142,7 +153,7 @@ impl Sender {
     /// short write the rest follows. A cell is lost where its call fails with
     /// [`ErrorKind::ConnectionRefused`], as datagrams do that nobody listens for, and the next one
     /// is written then. Each other failed call ends it with [`Stop::Fault`], and a beginning of a cell
-    /// may be written. Refuses [`Error::OutOfMemory`] alone, at any cell.
+    /// may be written. Refuses [`Error::OutOfMemory`] alone, before the first cell.
     pub fn send<W: Write, P: Pace>(
         &self,
         alloc: Global,
@@ -157,13 +168,13 @@ impl Sender {
         ensures stops { IfErr result (StopsSending (sending_of self.now) output.old output.new
             (W.contents (sink output.old)) (W.contents (sink output.new))) }
     {
-        let head = self.head.serialize(alloc)?;
-        let mut cell = Vec::new(alloc);
+        let mut room = cell_room(alloc, self.head)?;
+        let cell = room.as_mut_slice();
         let mut lost = 0;
         for number in 0..self.cells() {
-            self.fill(head.as_slice(), number, &mut cell)?;
+            self.fill(number, cell);
             pace.wait(cell.len());
-            if !write_cell(output, cell.as_slice())? {
+            if !write_cell(output, cell)? {
                 lost += 1;
             }
         }

@@ -1,14 +1,13 @@
 //! A cell, and its bytes.
-ghost use Rattle.std.specs.Prelude.{◌≡◌, ◌++◌, Ok, OnOk, IfOk, IfErr, true};
+ghost use Rattle.std.specs.Prelude.{◌≡◌, ◌-◌, ◌≤◌, length, take, Ok, IfOk, IfErr, true};
 ghost use Rattle.rq_bytes.specs.Refusals.{IsAnswer};
-ghost use Rattle.rq_standard.specs.Packet.{packet_bytes};
 ghost use Rattle.rq_cells.specs.Cells.{with_check, cell_bytes, cell_at, cell_behind};
 ghost use Rattle.rq_cells.specs.Found.{has_head};
 
 use crate::head::{HEAD_LENGTH, Head, check_of};
 use rq_base::base::EncodingPacket;
 use rq_bytes::error::Error;
-use std::alloc::{AllocError, Global};
+use std::alloc::Global;
 
 // How many bytes stand behind a packet, by which damage shows.
 pub(crate) const CHECK_LENGTH: usize = 8;
@@ -29,12 +28,11 @@ impl Cell {
     pub fn serialize(&self, alloc: Global) -> Result<Vec<u8>, Error>
         ensures { IsAnswer (λ v. v.items) result (Ok (cell_bytes self.now)) }
     {
-        let mut bytes = Vec::new(alloc);
-        fill_cell(
-            self.head.serialize(alloc)?.as_slice(),
-            &self.packet,
-            &mut bytes,
-        )?;
+        let mut bytes = self.head.serialize(alloc)?;
+        bytes.extend_from_slice(&self.packet.payload_id().serialize())?;
+        bytes.extend_from_slice(self.packet.data())?;
+        let check: [u8; CHECK_LENGTH] = check_of(bytes.as_slice());
+        bytes.extend_from_slice(&check)?;
         Ok(bytes)
     }
 
@@ -51,21 +49,15 @@ impl Cell {
     }
 }
 
-/// Puts a cell into a buffer, in place of what it holds: the one of a packet behind the bytes of its
-/// object's head ([`Head::serialize`]). One buffer does for many cells, and the head is hashed once.
-pub fn fill_cell(
-    head: &[u8],
-    packet: &EncodingPacket,
-    bytes: &mut Vec<u8>,
-) -> Result<(), AllocError>
-    ensures { OnOk result (bytes.new.items ≡ with_check 8 (head.now ++ packet_bytes packet.now)) }
+/// Writes a cell's check over its last eight bytes, where its head ([`Head::serialize`]) and its packet
+/// stand before these. So one buffer does for all cells of an object, and the head is hashed once.
+pub fn write_check(cell: &mut [u8])
+    requires { 8 ≤ length cell.old }
+    ensures { cell.new ≡ with_check 8 (take (length cell.old - 8) cell.old) }
 {
-    bytes.clear();
-    bytes.extend_from_slice(head)?;
-    bytes.extend_from_slice(&packet.payload_id().serialize())?;
-    bytes.extend_from_slice(packet.data())?;
-    let check: [u8; CHECK_LENGTH] = check_of(bytes.as_slice());
-    bytes.extend_from_slice(&check)
+    let end = cell.len() - CHECK_LENGTH;
+    let (checked, check) = cell.split_at_mut(end);
+    check.copy_from_slice(&check_of::<CHECK_LENGTH>(checked));
 }
 
 /// The cell whose bytes these begin with, if they do, where they begin with its head.

@@ -7,7 +7,7 @@ pub mod laws;
 mod scanner;
 mod wanted;
 
-pub use cell::{Cell, fill_cell};
+pub use cell::{Cell, write_check};
 pub use head::{HEAD_LENGTH, Head, NAME_LENGTH, name_of};
 pub use scanner::{CellScanner, Scan};
 pub use wanted::{Heads, Search, first_wanted};

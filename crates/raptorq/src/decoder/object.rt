@@ -86,6 +86,32 @@ impl Decoder {
         })
     }
 
+    /// The decoder of an object after a list of packets (RFC 6330, section 5.4). Beside each packet
+    /// stands the sparse threshold that is set before it ([`Decoder::set_sparse_threshold`]). Not in the
+    /// Rust crate.
+    ///
+    /// Refuses what [`Decoder::new`] refuses, and then as [`Decoder::add_new_packet`] does, a
+    /// contradiction among it: the first refused packet decides. [`Error::OutOfMemory`] may come before
+    /// it.
+    pub fn receive_all(
+        alloc: Global,
+        table: &SystematicTable,
+        config: ObjectTransmissionInformation,
+        steps: Vec<(u32, EncodingPacket)>,
+    ) -> Result<Decoder, Error>
+        ensures in_order { AnswersRun table.now config (packets_of steps.items) result }
+        ensures configuration { IfOk result (λ d. (state_of d).configuration ≡ config) }
+        ensures follows { IfOk result (λ d. FollowsRun table.now (packets_of steps.items) (state_of d)) }
+        ensures refused { IfErr result (RefusesConfiguration table.now config (packets_of steps.items)) }
+    {
+        let mut decoder = Decoder::new(alloc, table, config)?;
+        for step in steps {
+            decoder.set_sparse_threshold(step.0);
+            decoder.add_new_packet(step.1)?;
+        }
+        Ok(decoder)
+    }
+
     /// The configuration that it was made for. Not in the Rust crate.
     pub fn get_config(&self) -> ObjectTransmissionInformation
         ensures { result ≡ (state_of self.now).configuration }
@@ -342,11 +368,10 @@ fn set_sparse_thresholds(blocks: &mut [ObjectBlock], value: u32)
     }
 }
 
-/// What a decoder answers after a list of packets (RFC 6330, section 5.4). Beside each packet
-/// stands the sparse threshold that is set before it ([`Decoder::set_sparse_threshold`]).
+/// What a decoder answers after a list of packets: [`Decoder::receive_all`] and then
+/// [`Decoder::get_result`].
 ///
-/// Refuses what [`Decoder::new`] refuses, and then as [`Decoder::decode`] does, a contradiction
-/// among it: the first refused packet decides. [`Error::OutOfMemory`] may come before it.
+/// Refuses what they refuse.
 pub fn decode_all(
     alloc: Global,
     table: &SystematicTable,
@@ -359,10 +384,6 @@ pub fn decode_all(
     ensures headline { IfOk result (λ r. AnswersExactly table.now config (packets_of steps.items) (option_map vec_items r)) }
     ensures only_object { IfOk result (λ r. AnswersWhereAnyCan table.now config (packets_of steps.items) (option_map vec_items r)) }
 {
-    let mut decoder = Decoder::new(alloc, table, config)?;
-    for step in steps {
-        decoder.set_sparse_threshold(step.0);
-        decoder.add_new_packet(step.1)?;
-    }
+    let decoder = Decoder::receive_all(alloc, table, config, steps)?;
     decoder.get_result()
 }

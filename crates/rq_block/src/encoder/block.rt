@@ -7,7 +7,7 @@ ghost use Rattle.rq_standard.specs.Headline.{IsNonsingular, IsOnlyIntermediateCo
 ghost use Rattle.rq_standard.specs.TableRows.{greatest_size, intermediate_symbols};
 ghost use Rattle.rq_block.specs.RefusedBlocks.{wanted_count, repair_refusal, AreWholeSymbols};
 
-use crate::enc::{add_encoding_symbol, encoding_symbol};
+use crate::enc::add_encoding_symbol;
 use crate::encoder::cache::SourceBlockEncodingPlanCache;
 use crate::encoder::plan::SourceBlockEncodingPlan;
 use crate::ids::internal_symbol_id;
@@ -281,16 +281,14 @@ impl SourceBlockEncoder {
         add_encoding_symbol(&self.row, &self.intermediate, internal, symbol);
     }
 
-    // The payload of an encoding symbol id: a source symbol, or a sum of intermediate symbols.
+    // The payload of an encoding symbol id.
     fn payload(&self, esi: u32) -> Result<Vec<u8>, AllocError>
         requires { esi < 2 ^ 24 }
         ensures { IfOk result (λ v. let b = block_encoded_of self.now in IsEncodingSymbol b.row b.size b.source esi v.items) }
     {
-        if esi < self.source_symbol_count() {
-            return Vec::from_slice(self.alloc, self.source.get(esi as usize));
-        }
-        let id = internal_symbol_id(&self.row, self.source_symbol_count(), esi);
-        encoding_symbol(self.alloc, &self.row, &self.intermediate, id)
+        let mut symbol = vec![in self.alloc; 0u8; self.intermediate.symbol_size()]?;
+        self.write_symbol(esi, symbol.as_mut_slice());
+        Ok(symbol)
     }
 
     /// The packets with the encoding symbol ids from `start` on and before `end`. The one error is

@@ -5,7 +5,7 @@ ghost use Rattle.rq_standard.specs.Configuration.{IsAligned};
 ghost use Rattle.rq_standard.specs.TableRows.{intermediate_symbols};
 ghost use Rattle.rq_block.specs.BlockLayout.{HasOnlyColumn};
 
-use crate::enc::encoding_symbol;
+use crate::enc::add_encoding_symbol;
 use crate::encoder::plan::SourceBlockEncodingPlan;
 use crate::ids::internal_symbol_id;
 use crate::sub_blocks::BlockLayout;
@@ -24,7 +24,6 @@ pub struct BorrowedBlock<'a> {
     layout: BlockLayout,
     block: &'a [u8],
     intermediate: SymbolSlab,
-    alloc: Global,
     pub ghost few: { layout.source_symbols ≤ row.numbers.extended_symbols },
     pub ghost sized: { intermediate.symbol_size ≡ layout.config.symbol_size },
     pub ghost enough: { intermediate_symbols row.numbers ≤ length (symbols_in intermediate) },
@@ -60,7 +59,6 @@ impl<'a> BorrowedBlock<'a> {
             layout,
             block,
             intermediate,
-            alloc,
         })
     }
 
@@ -96,8 +94,12 @@ impl<'a> BorrowedBlock<'a> {
         if esi < self.layout.source_symbols {
             return self.layout.append_source_symbol(bytes, self.block, esi);
         }
+        let start = bytes.len();
+        let end = start + usize::from(self.layout.config.symbol_size());
+        bytes.resize(end, 0)?;
+        let (_, symbol) = bytes.as_mut_slice().split_at_mut(start);
         let id = internal_symbol_id(&self.row, self.layout.source_symbols, esi);
-        let symbol = encoding_symbol(self.alloc, &self.row, &self.intermediate, id)?;
-        bytes.extend_from_slice(symbol.as_slice())
+        add_encoding_symbol(&self.row, &self.intermediate, id, symbol);
+        Ok(())
     }
 }

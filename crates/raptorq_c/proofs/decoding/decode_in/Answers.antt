@@ -1,11 +1,12 @@
-use Rattle.raptorq_c.proofs.Names.{◌≡◌, ◌≢◌, ℕ, ◌++◌, List, Option, Ok, Err, map, option_map, refl, sym, ap, ◌∙◌, subst, arith, inr, err_from_is_err_and, code_of, Packet, packet_of_bytes, frame_size, frames_in, packets_of, AnswersRun, IsRunRefusal, Answered, frames_refusal, packets_in, IsListed, number_of, IsNumber}
-use Rattle.std.proofs.Common.{vec_items}
+use Rattle.raptorq_c.proofs.Names.{◌≡◌, ◌≢◌, ℕ, ◌++◌, List, Option, Ok, Err, map, refl, sym, ap, ◌∙◌, subst, arith, inr, err_from_is_err_and, code_of, state_of, packet_of_bytes, frame_size, frames_in, packets_of, AnswersRun, IsRunRefusal, Answered, frames_refusal, packets_in, IsListed, number_of, IsNumber}
 use Rattle.rq_standard.specs.Headline.{AnswersExactly, AnswersWhereAnyCan}
-use Rattle.rq_standard.specs.Following.{IsAnswerAfter}
-use Rattle.raptorq_c.proofs.Ending.{code_positive, is_stopped}
+use Rattle.rq_standard.specs.DecoderState.{result_of}
+use Rattle.rq_standard.specs.Following.{FollowsRun, IsAnswerAfter}
+use Rattle.raptorq.proofs.Lists.{answers_exactly, answers_where_any_can}
+use Rattle.raptorq_c.proofs.Ending.{code_positive}
 use Rattle.raptorq_c.proofs.FrameSteps.{frames_seen}
 use Rattle.raptorq_c.proofs.PacketFrames.{each_listed, first_refused}
-use Rattle.raptorq_c.proofs.Answering.{answered_by, refused_with, refused_frames, refused_run, filled_run}
+use Rattle.raptorq_c.proofs.Answering.{answered_result, refused_with, refused_frames, refused_run, filled_run}
 use Rattle.raptorq_c.proofs.decoding.decode_in.Goals as goal
 use Rattle.raptorq_c.proofs.decoding.decode_in.Goals.{In_ok-add_frames}
 
@@ -34,12 +35,12 @@ returns-in_err-add_frames c =
     let p = err_from_is_err_and c.from_residual.result c.from_residual.ensures.1 in
     rw (p.1, p.2) (refused_with c.args.table.now c.args.config bytes c.args.object.now e refused)
 
-pub returns-in_err-answer : goal.returns-in_err-answer
-returns-in_err-answer c =
-    let read = (goal.at.returns-in_err-answer c).In_ok-add_frames in
-    let e = c.in_err-answer.field-0.0 in
-    let run = subst (λ ps. AnswersRun {X = Unit {0}} c.args.table.now c.args.config ps (Err e)) (came read) c.in_err-answer.ensures.in_order in
-    let p = err_from_is_err_and c.from_residual-in_err-answer.result c.from_residual-in_err-answer.ensures.1 in
+pub returns-in_err-decoder : goal.returns-in_err-decoder
+returns-in_err-decoder c =
+    let read = (goal.at.returns-in_err-decoder c).In_ok-add_frames in
+    let e = c.in_err-decoder.field-0.0 in
+    let run = subst (λ ps. AnswersRun {X = Unit {0}} c.args.table.now c.args.config ps (Err e)) (came read) c.in_err-decoder.ensures.in_order in
+    let p = err_from_is_err_and c.from_residual-in_err-decoder.result c.from_residual-in_err-decoder.ensures.1 in
     rw (p.1, p.2) (refused_with c.args.table.now c.args.config c.args.packets.now c.args.object.now e (refused_run c.args.table.now c.args.config c.args.packets.now (spelled read) e run))
 
 pub returns : goal.returns
@@ -47,17 +48,17 @@ returns c =
     let read = (goal.at.returns c).In_ok-add_frames in
     let t = c.args.table.now in
     let k = c.args.config in
-    let bytes = c.args.packets.now in
-    let number = number_of c.fill_answer.result in
-    let after = c.fill_answer.new.buffer in
-    let answer = option_map vec_items c.in_ok-answer.answer in
-    let answered = subst (λ a. Answered number c.args.object.now after (λ r. r ≡ a)) c.as_deref.ensures.value c.fill_answer.ensures.answered in
-    let filled : (P : List Packet → Option (List ℕ) → Type 0) → P (packets_of c.add_frames.new.receiver.items) answer → Answered number c.args.object.now after (P (packets_in k bytes)) =
-    λ P holds. answered_by (P (packets_in k bytes)) answer number c.args.object.now after (subst (λ ps. P ps answer) (came read) holds) answered in
+    let all = packets_in k c.args.packets.now in
+    let d = c.in_ok-decoder.decoder in
+    let number = number_of c.write_all.result in
+    let same = c.in_ok-decoder.ensures.configuration in
+    let follows : FollowsRun t all (state_of d) = subst (λ ps. FollowsRun t ps (state_of d)) (came read) c.in_ok-decoder.ensures.follows in
+    let filled : (P : Option (List ℕ) → Type 0) → P (result_of (state_of d)) → Answered number c.args.object.now c.write_all.new.object P =
+    λ P holds. answered_result P d number c.args.object.now c.write_all.new.object holds c.write_all.ensures in
     record {
-      refused = filled_run t k bytes (spelled read) number (subst (λ ps. IsRunRefusal t k ps (Ok tt)) (came read) c.in_ok-answer.ensures.in_order) (inr c.fill_answer.ensures.number);
-      answered = filled (IsAnswerAfter t k) c.in_ok-answer.ensures.answer;
-      headline = filled (AnswersExactly t k) c.in_ok-answer.ensures.headline;
-      only_object = filled (AnswersWhereAnyCan t k) c.in_ok-answer.ensures.only_object;
-      kept = is_stopped c.fill_answer.result (after ≡ c.args.object.now) c.fill_answer.ensures.kept;
+      refused = filled_run t k c.args.packets.now (spelled read) number (subst (λ ps. IsRunRefusal t k ps (Ok tt)) (came read) c.in_ok-decoder.ensures.in_order) (inr c.write_all.ensures.number);
+      answered = filled (IsAnswerAfter t k all) (record { state = state_of d; configuration = same; follows = follows; value = refl });
+      headline = filled (AnswersExactly t k all) (answers_exactly t k all (state_of d) same follows);
+      only_object = filled (AnswersWhereAnyCan t k all) (answers_where_any_can t k all (state_of d) same follows);
+      kept = c.write_all.ensures.kept;
     }

@@ -1,11 +1,12 @@
 use Rattle.std.proofs.Common.{◌≡◌, length, refl, sym, ◌∙◌}
+use Rattle.std.specs.List.{range_with_len}
 use Rattle.std.proofs.lemmas.Result.{err_from_is_err_and}
 use Rattle.rq_standard.specs.TableRows.{greatest_size}
 use Rattle.rq_block.specs.SourceBlockEncoder.{block_encoded_of}
 use Rattle.raptorq.specs.BlocksEncoded.{new_block_encoded}
 use Rattle.raptorq.specs.Encoder.{no_block}
 use Rattle.raptorq.proofs.EncodedBlocks.{new_encoder-taken, refuses_singular, new_counts, new_block}
-use Rattle.rq_block.proofs.Numbered.{new_numbers}
+use Rattle.rq_block.proofs.Numbered.{mapped_through, new_numbers}
 use Rattle.raptorq.proofs.encoder.Encoder.new.Goals as goal
 
 pub returns-in_err-blocks-clause-refused : goal.returns-in_err-blocks-clause-refused
@@ -26,6 +27,7 @@ invariant_of-result c =
       few = c.in_ok-check.ensures.few;
       some = c.in_ok-check.ensures.accepted.blocks_positive;
       numbered = new_numbers block_encoded_of (new_block_encoded c.args.table.now k c.args.object.now) k.source_blocks items encoded (λ b. b.number) (λ b. refl);
+      sized = mapped_through (λ b. b.size) block_encoded_of (new_block_encoded c.args.table.now k c.args.object.now) items (range_with_len 0 k.source_blocks) encoded;
       counted = new_counts c.args.table.now k c.args.object.now items encoded;
     }
 

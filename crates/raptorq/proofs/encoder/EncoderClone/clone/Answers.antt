@@ -21,6 +21,7 @@ invariant_of-result c =
       few = s.few;
       some = s.some;
       numbered = mapped_through (λ b. b.number) block_encoded_of block_encoded_of new old same ∙ s.numbered;
+      sized = mapped_through (λ b. b.size) block_encoded_of block_encoded_of new old same ∙ s.sized;
       counted = mapped_through (λ b. length b.source) block_encoded_of block_encoded_of new old same ∙ s.counted;
     }
 

@@ -3,31 +3,28 @@ use Rattle.std.proofs.lemmas.Result.{err_from_is_err_and}
 use Rattle.std.proofs.KnownBytes.{Keeps-refl}
 use Rattle.rq_streams.specs.Ends.{failed_calls}
 use Rattle.rq_cast.specs.Output.{sink, CountsLost}
-use Rattle.rq_cast.specs.Writing.{WritesCell, failed_writes, lost_cells}
+use Rattle.rq_cast.specs.Writing.{IsRoom, WritesCell, failed_writes, lost_cells}
 use Rattle.rq_cast.specs.Sent.{sending_of, cell_count, IsSentCell, SendsFirst, StopsSending}
 use Rattle.rq_cast.proofs.SentCells.{sends_none, sends_more, sends_but_one, stops_within, stops_behind, stops_wanting}
 use Rattle.rq_cast.proofs.sending.Sender.send.Goals as goal
 use Rattle.rq_cast.proofs.sending.Sender.send.Goals.{then-not-branch, else-not-branch}
 
-pub returns-in_err-head-clause-stops : goal.returns-in_err-head-clause-stops
-returns-in_err-head-clause-stops g c =
+pub returns-in_err-room-clause-stops : goal.returns-in_err-room-clause-stops
+returns-in_err-room-clause-stops g c =
     let s = sending_of c.args.self.now in
     let out = c.args.output.now in
     let there = g.W.Write.contents (sink out) in
     let p = err_from_is_err_and c.from_residual.result c.from_residual.ensures.1 in
     let counts : CountsLost out out 0 0 = record { refused = omega arith; failed = omega arith } in
-    rw (p.1, p.2) (stops_wanting s 0 0 there there there (sends_none s there) out out c.in_err-head.field-0.0 c.in_err-head.ensures (omega arith)
-    (Keeps-refl there) counts)
+    rw (p.1, p.2) (stops_wanting s out out there there c.in_err-room.field-0.0 c.in_err-room.ensures.memory (Keeps-refl there) counts)
 
-pub returns-in_err-fill-clause-stops : goal.returns-in_err-fill-clause-stops
-returns-in_err-fill-clause-stops g c =
-    let s = sending_of c.args.self.now in
-    let mid = g.W.Write.contents (sink c.loop-number.output) in
-    let kept = c.loop-number.invariant in
-    let within : c.loop-number.number ≤ cell_count s = omega (arith, c.loop-number.auto.number-end, c.cells-number-end.ensures.value) in
-    let p = err_from_is_err_and c.from_residual-in_err-fill.result c.from_residual-in_err-fill.ensures.1 in
-    rw (p.1, p.2) (stops_wanting s c.loop-number.number c.loop-number.lost (g.W.Write.contents (sink c.args.output.now)) mid mid kept.sends
-    c.args.output.now c.loop-number.output c.in_err-fill.field-0.0 c.in_err-fill.ensures.memory within (Keeps-refl mid) kept.counts)
+pub loop-number-init : goal.loop-number-init
+loop-number-init g c = record {
+  sends = sends_none (sending_of c.args.self.now) (g.W.Write.contents (sink c.args.output.now));
+  counts = record { refused = omega arith; failed = omega arith };
+  few = omega arith;
+  room = subst (IsRoom c.args.self.now.head) (sym c.as_mut_slice-cell.ensures.value) c.in_ok-room.ensures.room;
+}
 
 pub returns-in_err-write_cell-clause-stops : goal.returns-in_err-write_cell-clause-stops
 returns-in_err-write_cell-clause-stops g c =
@@ -37,9 +34,8 @@ returns-in_err-write_cell-clause-stops g c =
     let there = g.W.Write.contents (sink old) in
     let then = g.W.Write.contents (sink new) in
     let kept = c.loop-number.invariant in
-    let bytes = c.as_slice-in-loop-number.result.now in
-    let cell : IsSentCell s c.loop-number.number bytes = subst (IsSentCell s c.loop-number.number) (sym c.as_slice-in-loop-number.ensures.value)
-    c.in_ok-fill.ensures.cell in
+    let bytes = c.fill.new.cell in
+    let cell : IsSentCell s c.loop-number.number bytes = c.fill.ensures.cell in
     let below : c.loop-number.number < cell_count s = omega (arith, c.loop-number-test.true, c.cells-number-end.ensures.value) in
     let stopped = c.in_err-write_cell.ensures.beginning in
     let p = err_from_is_err_and c.from_residual-in_err-write_cell.result c.from_residual-in_err-write_cell.ensures.1 in
@@ -60,8 +56,8 @@ loop-number-preserved g c =
     let mid = g.W.Write.contents (sink c.loop-number.output) in
     let then = g.W.Write.contents (sink c.write_cell.new.output) in
     let kept = c.loop-number.invariant in
-    let bytes = c.as_slice-in-loop-number.result.now in
-    let cell : IsSentCell s n bytes = subst (IsSentCell s n) (sym c.as_slice-in-loop-number.ensures.value) c.in_ok-fill.ensures.cell in
+    let bytes = c.fill.new.cell in
+    let cell : IsSentCell s n bytes = c.fill.ensures.cell in
     let done = c.in_ok-write_cell.ensures in
     elim c.if-not-branch.branch [
       | then-not-branch w ↦ record {
@@ -72,6 +68,7 @@ loop-number-preserved g c =
           failed = omega (arith, kept.counts.failed, w.lost-is, done.counts, ap (λ b. failed_writes (Ok b)) w.if-not-branch.true);
         };
         few = omega (arith, kept.few, w.lost-is);
+        room = c.fill.ensures.room;
       }
       | else-not-branch w ↦ record {
         sends = subst (λ k. SendsFirst s (n + 1) k [] there then) (sym w.lost-is) (sends_more s n lost there mid then kept.sends bytes cell
@@ -81,6 +78,7 @@ loop-number-preserved g c =
           failed = omega (arith, kept.counts.failed, w.lost-is, done.counts, ap (λ b. failed_writes (Ok b)) w.if-not-branch.false);
         };
         few = omega (arith, kept.few, w.lost-is);
+        room = c.fill.ensures.room;
       }
     ]
 

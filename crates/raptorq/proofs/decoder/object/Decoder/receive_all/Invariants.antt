@@ -3,7 +3,7 @@ use Rattle.std.specs.Vec.Iter.{into_iter_items}
 use Rattle.raptorq.specs.Decoder.{state_of}
 use Rattle.rq_standard.specs.Following.{FollowsRun}
 use Rattle.raptorq.specs.Runs.{packets_of, IsRefusalBehind}
-use Rattle.raptorq.proofs.decoder.object.decode_all.Given as goal
+use Rattle.raptorq.proofs.decoder.object.Decoder.receive_all.Given as goal
 
 -- nothing is refused of the packets so far, and the decoder follows them
 abbrev pub invariant-loop-step : goal.invariant-loop-step
