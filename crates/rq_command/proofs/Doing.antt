@@ -1,5 +1,5 @@
 -- What is done by the words.
-use Rattle.std.proofs.Common.{◌≡◌, ℕ, List, [], Some, None, IfSome, sym, subst, ap, ◌∙◌}
+use Rattle.std.proofs.Common.{◌≡◌, ℕ, List, [], Some, None, Result, IfSome, sym, subst, ap, ◌∙◌}
 use Rattle.rq_cast.specs.declared.order.Order.{Order}
 use Rattle.rq_cast.specs.declared.output.Output.{Output}
 use Rattle.rq_cast.specs.Output.{counting, sink}
@@ -8,13 +8,13 @@ use Rattle.rq_cast.specs.Sent.{Sending, cell_count, SendsFirst, StopsBehind}
 use Rattle.rq_streams.specs.declared.counted.Counted.{Counted}
 use Rattle.rq_streams.specs.declared.run.Stop.{Stop}
 use Rattle.rq_streams.specs.Counted.{inner}
-use Rattle.rq_command.specs.declared.jobs.Job.{Job}
-use Rattle.rq_command.specs.declared.jobs.Job.TheVariants.{Send, Receive, Info}
+use Rattle.rq_words.specs.declared.jobs.Job.{Job}
+use Rattle.rq_words.specs.declared.jobs.Job.TheVariants.{Send, Receive, Info}
 use Rattle.rq_command.specs.declared.ending.End.{End}
 use Rattle.rq_command.specs.declared.ending.End.TheVariants.{Unasked, AtTerminal, Sent, Received, Surveyed, Stopped}
-use Rattle.rq_command.specs.Asked.{AsksFor}
+use Rattle.rq_words.specs.Asked.{AsksFor}
 use Rattle.rq_command.specs.Placed.{Contents}
-use Rattle.rq_command.specs.Program.{Does, EndsJob, SendsAll, SendsSome}
+use Rattle.rq_command.specs.Program.{Does, EndsJob, SendsAll, SendsSome, end_of}
 
 pub does : (words : List (List ℕ)) (stands : List (List ℕ) → Contents) (blank : Contents) (ended : End) (old new : Contents) (job : Job) → AsksFor words job
     → EndsJob job stands blank ended old new → Does words stands blank ended old new
@@ -26,6 +26,12 @@ does words stands blank (Sent cells lost) old new job asks ends = (job, asks, en
 does words stands blank (Received r seen) old new job asks ends = (job, asks, ends)
 does words stands blank (Surveyed standings) old new job asks ends = (job, asks, ends)
 does words stands blank (Stopped stop) old new job asks ends = (job, asks, ends)
+
+-- the same, of how a run ends that something may stop
+pub done : (words : List (List ℕ)) (stands : List (List ℕ) → Contents) (blank : Contents) (r : Result End Stop) (ended : End) (old new : Contents) (job : Job)
+    → ended ≡ end_of r → AsksFor words job → EndsJob job stands blank (end_of r) old new → Does words stands blank ended old new
+done words stands blank r ended old new job is asks ends =
+    subst (λ (e : End). Does words stands blank e old new) (sym is) (does words stands blank (end_of r) old new job asks ends)
 
 -- all cells of what was read
 pub sends_all : (order : Order) (object read : Contents) (s : Sending) (cells lost : ℕ) (blank new : Contents) → read ≡ object
@@ -54,18 +60,10 @@ sends_some order (Some o) read s number lost last stop blank new is prepared sen
   stopped = stopped;
 }
 
--- an output over a new writer
-pub blank_there : {W : Type 0} (contents : W → Contents) (out : Output W) (counted : Counted W) (writer : W) (blank : Contents) → counting out ≡ counted
-    → inner counted ≡ writer → contents writer ≡ blank → contents (sink out) ≡ blank
-blank_there contents out counted writer blank is wraps holds = ap contents (ap inner is ∙ wraps) ∙ holds
-
--- what is in its place is what was written by an output
-pub placed_there : {W : Type 0} (contents : W → Contents) (out : Output W) (counted : Counted W) (writer : W) (new : Contents) → counted ≡ counting out
-    → writer ≡ inner counted → new ≡ contents writer → new ≡ contents (sink out)
-placed_there contents out counted writer new is wraps placed = placed ∙ ap contents (wraps ∙ ap inner is)
-
--- what was written since the writer was new stands in its place
-pub carried : (s : Sending) (number lost : ℕ) (last : List ℕ) (first out blank new : Contents) → first ≡ blank → new ≡ out
-    → SendsFirst s number lost last first out → SendsFirst s number lost last blank new
-carried s number lost last first out blank new is placed sends =
-    subst (λ o. SendsFirst s number lost last o new) is (subst (SendsFirst s number lost last first) (sym placed) sends)
+-- what an output wrote since its writer was new stands in its place
+pub placed_sent : {W : Type 0} (contents : W → Contents) (s : Sending) (number lost : ℕ) (last : List ℕ) (first out : Output W) (counted : Counted W) (writer : W)
+    (blank new : Contents) → counting first ≡ counted → inner counted ≡ writer → contents writer ≡ blank → new ≡ contents (sink out)
+    → SendsFirst s number lost last (contents (sink first)) (contents (sink out)) → SendsFirst s number lost last blank new
+placed_sent contents s number lost last first out counted writer blank new is wraps holds placed sends =
+    let began : contents (sink first) ≡ blank = ap contents (ap inner is ∙ wraps) ∙ holds in
+    subst (λ o. SendsFirst s number lost last o new) began (subst (SendsFirst s number lost last (contents (sink first))) (sym placed) sends)

@@ -4,7 +4,7 @@ use crate::failure::Failure;
 use crate::source::Source;
 use crate::target::Target;
 use rq_command::Devices;
-use rq_streams::Stop;
+use rq_streams::{Counted, Stop};
 use std::cell::Cell;
 use std::io;
 use std::io::IsTerminal;
@@ -54,6 +54,8 @@ impl<'c, 'w> Devices<'w> for System<'c, 'w> {
         reader.length()
     }
 
+    fn close<R: Drop>(&mut self, _reader: Counted<R>) {}
+
     fn create(&mut self, file: Option<&'w str>) -> Result<Target<'c, 'w>, Stop> {
         Target::create(*self, file).map_err(|_| Stop::Fault)
     }
@@ -61,9 +63,12 @@ impl<'c, 'w> Devices<'w> for System<'c, 'w> {
     fn finish(
         &mut self,
         _file: Option<&'w str>,
-        writer: Target<'c, 'w>,
+        writer: Counted<Target<'c, 'w>>,
         is_whole: bool,
     ) -> Result<(), Stop> {
-        writer.finish(is_whole).map_err(|_| Stop::Fault)
+        writer
+            .into_inner()
+            .finish(is_whole)
+            .map_err(|_| Stop::Fault)
     }
 }
