@@ -1,12 +1,14 @@
 -- What is done by the words.
-use Rattle.std.proofs.Common.{◌≡◌, ℕ, List, [], Some, None, Result, IfSome, sym, subst, ap, ◌∙◌}
+use Rattle.std.proofs.Common.{◌≡◌, ℕ, List, [], length, Some, None, Result, Err, IfSome, IfErr, inl, inr, sym, subst, ap, ◌∙◌}
 use Rattle.rq_cast.specs.declared.order.Order.{Order}
 use Rattle.rq_cast.specs.declared.output.Output.{Output}
 use Rattle.rq_cast.specs.Output.{counting, sink}
-use Rattle.rq_cast.specs.Preparing.{IsPrepared}
+use Rattle.rq_bytes.specs.declared.error.Error.{Error}
+use Rattle.rq_cast.specs.Preparing.{IsPrepared, RefusesFitting, StopsPreparing}
 use Rattle.rq_cast.specs.Sent.{Sending, cell_count, SendsFirst, StopsBehind}
 use Rattle.rq_streams.specs.declared.counted.Counted.{Counted}
 use Rattle.rq_streams.specs.declared.run.Stop.{Stop}
+use Rattle.rq_streams.specs.declared.run.Stop.TheVariants.{Refused}
 use Rattle.rq_streams.specs.Counted.{inner}
 use Rattle.rq_words.specs.declared.jobs.Job.{Job}
 use Rattle.rq_words.specs.declared.jobs.Job.TheVariants.{Send, Receive, Info}
@@ -32,6 +34,16 @@ pub done : (words : List (List ℕ)) (stands : List (List ℕ) → Contents) (bl
     → ended ≡ end_of r → AsksFor words job → EndsJob job stands blank (end_of r) old new → Does words stands blank ended old new
 done words stands blank r ended old new job is asks ends =
     subst (λ (e : End). Does words stands blank e old new) (sym is) (does words stands blank (end_of r) old new job asks ends)
+
+-- an object of a length that is known is refused before it is read
+pub stops_early : {X : Type 0} (order : Order) (known : ℕ) (e : Error) (input : Contents) (r : Result X Stop) → r ≡ Err (Refused e)
+    → RefusesFitting known order.symbol_size e → IfSome input (λ object. length object ≡ known)
+    → IfErr r (λ stop. IfSome input (λ object. StopsPreparing order object stop))
+stops_early order known e None r is refused long =
+    subst (λ (x : Result _ Stop). IfErr x (λ stop. IfSome None (λ object. StopsPreparing order object stop))) (sym is) tt
+stops_early order known e (Some object) r is refused long =
+    subst (λ (x : Result _ Stop). IfErr x (λ stop. StopsPreparing order object stop)) (sym is)
+    (inr (inl (subst (λ (n : ℕ). RefusesFitting n order.symbol_size e) (sym long) refused)))
 
 -- all cells of what was read
 pub sends_all : (order : Order) (object read : Contents) (s : Sending) (cells lost : ℕ) (blank new : Contents) → read ≡ object
@@ -61,9 +73,10 @@ sends_some order (Some o) read s number lost last stop blank new is prepared sen
 }
 
 -- what an output wrote since its writer was new stands in its place
-pub placed_sent : {W : Type 0} (contents : W → Contents) (s : Sending) (number lost : ℕ) (last : List ℕ) (first out : Output W) (counted : Counted W) (writer : W)
-    (blank new : Contents) → counting first ≡ counted → inner counted ≡ writer → contents writer ≡ blank → new ≡ contents (sink out)
+pub placed_sent : {W : Type 0} (contents : W → Contents) (s : Sending) (number lost : ℕ) (last : List ℕ) (first out : Output W) (began ended : Counted W) (writer : W)
+    (blank new : Contents) → counting first ≡ began → inner began ≡ writer → contents writer ≡ blank → ended ≡ counting out → new ≡ contents (inner ended)
     → SendsFirst s number lost last (contents (sink first)) (contents (sink out)) → SendsFirst s number lost last blank new
-placed_sent contents s number lost last first out counted writer blank new is wraps holds placed sends =
-    let began : contents (sink first) ≡ blank = ap contents (ap inner is ∙ wraps) ∙ holds in
-    subst (λ o. SendsFirst s number lost last o new) began (subst (SendsFirst s number lost last (contents (sink first))) (sym placed) sends)
+placed_sent contents s number lost last first out began ended writer blank new is wraps holds leaves placed sends =
+    let start : contents (sink first) ≡ blank = ap contents (ap inner is ∙ wraps) ∙ holds in
+    let end : new ≡ contents (sink out) = placed ∙ ap contents (ap inner leaves) in
+    subst (λ (o : Contents). SendsFirst s number lost last o new) start (subst (SendsFirst s number lost last (contents (sink first))) (sym end) sends)

@@ -24,13 +24,13 @@ failed_then (Some x) b c m n all first then is =
     let same : x + m + n ≡ x + all = omega (arith, is) in behind ∙ ap (λ k. Some k) same
 
 -- what stopped a run that failed so often
-pub stopped : {X : Type 0} (r : Result End Stop) (stop : Stop) (a b : Option ℕ) → r ≡ Err stop → Fails a b (failed_calls {X = X} (Err stop)) → Failures (end_of r) a b
+pub stopped : (r : Result End Stop) (stop : Stop) (a b : Option ℕ) → r ≡ Err stop → Fails a b (failed_calls {X = ℕ} (Err stop)) → Failures (end_of r) a b
 stopped r Fault a b is fails = subst (λ (e : Result End Stop). Failures (end_of e) a b) (sym is) (1, fails, lit< tt)
 stopped r (Refused e) a b is fails = subst (λ (e : Result End Stop). Failures (end_of e) a b) (sym is) (0, fails, tt)
 
 -- the same, where more may have failed
-pub stopped_later : {X : Type 0} (r : Result End Stop) (stop : Stop) (a b : Option ℕ) (more : ℕ) → r ≡ Err stop
-    → Fails a b (failed_calls {X = X} (Err stop) + more) → Failures (end_of r) a b
+pub stopped_later : (r : Result End Stop) (stop : Stop) (a b : Option ℕ) (more : ℕ) → r ≡ Err stop
+    → Fails a b (failed_calls {X = ℕ} (Err stop) + more) → Failures (end_of r) a b
 stopped_later r Fault a b more is fails = subst (λ (e : Result End Stop). Failures (end_of e) a b) (sym is) (1 + more, fails, omega arith)
 stopped_later r (Refused e) a b more is fails = subst (λ (e : Result End Stop). Failures (end_of e) a b) (sym is) (0 + more, fails, tt)
 
@@ -65,15 +65,15 @@ taken_away (Some file) (Ok AnotherObject) finished written old new is h = h
 taken_away (Some file) (Err stop) finished written old new is h = h
 
 -- what is whole couldn't be put there
-pub not_placed : {X D : Type 0} (file : Option X) (r : Result Ending Stop) (stop : Stop) (written old new : Contents) → r ≡ Err stop
+pub not_placed : {X : Type 0} (D : Type 0) (file : Option X) (r : Result Ending Stop) (stop : Stop) (written old new : Contents) → r ≡ Err stop
     → IsFinished {X = X} {D = D} file true (Err stop) written old new → IsPlaced file r written old new
-not_placed None r stop written old new is h = h
-not_placed (Some file) r stop written old new is h = subst (λ (e : Result Ending Stop). IsPlaced (Some file) e written old new) (sym is) h
+not_placed D None r stop written old new is h = h
+not_placed D (Some file) r stop written old new is h = subst (λ (e : Result Ending Stop). IsPlaced (Some file) e written old new) (sym is) h
 
-pub fails_at_end : {X : Type 0} (ended r : Result Ending Stop) (stop : Stop) (a b : Option ℕ) (before : ℕ) → is_whole ended ≡ true → stop ≡ Fault → r ≡ Err stop
-    → Fails a b (before + failed_calls {X = X} (Err stop)) → (n : ℕ) × Fails a b (before + n) × FailsReceiving r (failed_calls ended + n)
-fails_at_end {X} ended r stop a b before is fault ends fails =
-    let once : Fails a b (before + 1) = subst (λ (s : Stop). Fails a b (before + failed_calls {X = X} (Err s))) fault fails in
+pub fails_at_end : (ended r : Result Ending Stop) (stop : Stop) (a b : Option ℕ) (before : ℕ) → is_whole ended ≡ true → stop ≡ Fault → r ≡ Err stop
+    → Fails a b (before + failed_calls {X = ℕ} (Err stop)) → (n : ℕ) × Fails a b (before + n) × FailsReceiving r (failed_calls ended + n)
+fails_at_end ended r stop a b before is fault ends fails =
+    let once : Fails a b (before + 1) = subst (λ (s : Stop). Fails a b (before + failed_calls {X = ℕ} (Err s))) fault fails in
     let of_fault : FailsReceiving (Err Fault) (failed_calls ended + 1) = omega arith in
     (1, once, subst (λ (e : Result Ending Stop). FailsReceiving e (failed_calls ended + 1)) (sym (ends ∙ ap (λ s. Err s) fault)) of_fault)
 

@@ -13,7 +13,7 @@ use Rattle.rq_command.proofs.program.info.Goals.{After-close}
 read : (g : Over) (c : After-close g) → Fails (g.D.Devices.failed c.args.devices.now) (g.D.Devices.failed c.close.new.self) (failed_calls c.read_all-read.result)
 read g c =
     let began : failed_count c.new-input.result ≡ 0 = c.new-input.ensures.none in
-    failed_then (g.D.Devices.failed c.args.devices.now) (g.D.Devices.failed c.open-reader.new.self) (g.D.Devices.failed c.close.new.self) 0
+    failed_then (g.D.Devices.failed c.args.devices.now) (g.D.Devices.failed c.open.new.self) (g.D.Devices.failed c.close.new.self) 0
     (failed_count c.read_all-read.new.reader) (failed_calls c.read_all-read.result)
     c.in_ok-reader.ensures.counts c.close.ensures.counts (omega (arith, began, c.read_all-read.ensures.counts))
 
@@ -26,13 +26,13 @@ returns-in_err-table-clause-failures g c =
 pub returns-in_err-reader-clause-failures : goal.returns-in_err-reader-clause-failures
 returns-in_err-reader-clause-failures g c =
     let p = err_from_is_err_and c.from_residual-in_err-reader.result c.from_residual-in_err-reader.ensures.1 in
-    stopped c.from_residual-in_err-reader.result c.in_err-reader.field-0 (g.D.Devices.failed c.args.devices.now) (g.D.Devices.failed c.open-reader.new.self)
+    stopped c.from_residual-in_err-reader.result c.in_err-reader.field-0.0 (g.D.Devices.failed c.args.devices.now) (g.D.Devices.failed c.open.new.self)
     (p.1 ∙ ap (λ s. Err s) p.2) c.in_err-reader.ensures.counts
 
 pub returns-in_err-bytes-clause-failures : goal.returns-in_err-bytes-clause-failures
 returns-in_err-bytes-clause-failures g c =
     let p = err_from_is_err_and c.from_residual-in_err-bytes.result c.from_residual-in_err-bytes.ensures.1 in
-    stopped c.from_residual-in_err-bytes.result c.in_err-bytes.field-0 (g.D.Devices.failed c.args.devices.now) (g.D.Devices.failed c.close.new.self)
+    stopped c.from_residual-in_err-bytes.result c.in_err-bytes.field-0.0 (g.D.Devices.failed c.args.devices.now) (g.D.Devices.failed c.close.new.self)
     (p.1 ∙ ap (λ s. Err s) p.2)
     (subst (λ r. Fails (g.D.Devices.failed c.args.devices.now) (g.D.Devices.failed c.close.new.self) (failed_calls r)) c.in_err-bytes.was
     (read g (goal.at.returns-in_err-bytes-clause-failures g c).After-close))
@@ -41,6 +41,6 @@ pub returns-clause-failures : goal.returns-clause-failures
 returns-clause-failures g c = (
   0,
   subst (λ r. Fails (g.D.Devices.failed c.args.devices.now) (g.D.Devices.failed c.close.new.self) (failed_calls r)) c.in_ok-bytes.was
-  (read g (goal.at.returns-clause-failures g c).After-close),
+      (read g (goal.at.returns-clause-failures g c).After-close),
   refl,
 )

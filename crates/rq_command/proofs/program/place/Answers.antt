@@ -17,30 +17,30 @@ returns-then-not-is_whole-clause-failures g c = (
   not_whole c.args.ended (failed_calls c.finish.result) (sym c.is_whole.ensures ∙ c.if-not-is_whole.true) (once c.finish.result),
 )
 
-pub returns-in_err-finish-2-clause-same : goal.returns-in_err-finish-2-clause-same
-returns-in_err-finish-2-clause-same g c =
+pub returns-in_err-finish-clause-same : goal.returns-in_err-finish-clause-same
+returns-in_err-finish-clause-same g c =
     let p = err_from_is_err_and c.from_residual.result c.from_residual.ensures.1 in
-    inr (whole c.args.ended (sym c.is_whole.ensures ∙ c.if-not-is_whole.false), p.1 ∙ ap (λ s. Err s) (p.2 ∙ c.in_err-finish-2.ensures.fault))
+    inr (whole c.args.ended (sym c.is_whole.ensures ∙ c.if-not-is_whole.false), p.1 ∙ ap (λ s. Err s) (p.2 ∙ c.in_err-finish.ensures.fault))
 
-pub returns-in_err-finish-2-clause-placed : goal.returns-in_err-finish-2-clause-placed
-returns-in_err-finish-2-clause-placed g c =
+pub returns-in_err-finish-clause-placed : goal.returns-in_err-finish-clause-placed
+returns-in_err-finish-clause-placed g c =
     let p = err_from_is_err_and c.from_residual.result c.from_residual.ensures.1 in
-    not_placed c.args.file c.from_residual.result c.in_err-finish-2.field-0 (g.D.Writer.Write.contents (inner c.args.writer)) (g.D.Devices.placed c.args.devices.now)
-    (g.D.Devices.placed c.finish-2.new.self) (p.1 ∙ ap (λ s. Err s) p.2) c.in_err-finish-2.ensures.placed
+    not_placed _ c.args.file c.from_residual.result c.in_err-finish.field-0.0 (g.D.Writer.Write.contents (inner c.args.writer)) (g.D.Devices.placed c.args.devices.now)
+    (g.D.Devices.placed c.finish-2.new.self) (p.1 ∙ ap (λ s. Err s) p.2) c.in_err-finish.ensures.placed
 
-pub returns-in_err-finish-2-clause-failures : goal.returns-in_err-finish-2-clause-failures
-returns-in_err-finish-2-clause-failures g c =
+pub returns-in_err-finish-clause-failures : goal.returns-in_err-finish-clause-failures
+returns-in_err-finish-clause-failures g c =
     let p = err_from_is_err_and c.from_residual.result c.from_residual.ensures.1 in
-    fails_at_end c.args.ended c.from_residual.result c.in_err-finish-2.field-0 (g.D.Devices.failed c.args.devices.now) (g.D.Devices.failed c.finish-2.new.self)
-    (failed_count c.args.writer) (sym c.is_whole.ensures ∙ c.if-not-is_whole.false) c.in_err-finish-2.ensures.fault (p.1 ∙ ap (λ s. Err s) p.2)
-    c.in_err-finish-2.ensures.counts
+    fails_at_end c.args.ended c.from_residual.result c.in_err-finish.field-0.0 (g.D.Devices.failed c.args.devices.now) (g.D.Devices.failed c.finish-2.new.self)
+    (failed_count c.args.writer) (sym c.is_whole.ensures ∙ c.if-not-is_whole.false) c.in_err-finish.ensures.fault (p.1 ∙ ap (λ s. Err s) p.2)
+    c.in_err-finish.ensures.counts
 
 pub returns-clause-placed : goal.returns-clause-placed
 returns-clause-placed g c =
-    put c.args.file c.args.ended c.in_ok-finish-2.field-0 (g.D.Writer.Write.contents (inner c.args.writer)) (g.D.Devices.placed c.args.devices.now)
-    (g.D.Devices.placed c.finish-2.new.self) (sym c.is_whole.ensures ∙ c.if-not-is_whole.false) c.in_ok-finish-2.ensures.placed
+    put c.args.file c.args.ended c.in_ok-finish.field-0 (g.D.Writer.Write.contents (inner c.args.writer)) (g.D.Devices.placed c.args.devices.now)
+    (g.D.Devices.placed c.finish-2.new.self) (sym c.is_whole.ensures ∙ c.if-not-is_whole.false) c.in_ok-finish.ensures.placed
 
 pub returns-clause-failures : goal.returns-clause-failures
 returns-clause-failures g c =
     fails_nowhere c.args.ended (g.D.Devices.failed c.args.devices.now) (g.D.Devices.failed c.finish-2.new.self) (failed_count c.args.writer)
-    (sym c.is_whole.ensures ∙ c.if-not-is_whole.false) c.in_ok-finish-2.ensures.counts
+    (sym c.is_whole.ensures ∙ c.if-not-is_whole.false) c.in_ok-finish.ensures.counts

@@ -17,21 +17,21 @@ returns-in_err-table-clause-failures g c =
 pub returns-in_err-reader-clause-failures : goal.returns-in_err-reader-clause-failures
 returns-in_err-reader-clause-failures g c =
     let p = err_from_is_err_and c.from_residual-in_err-reader.result c.from_residual-in_err-reader.ensures.1 in
-    stopped c.from_residual-in_err-reader.result c.in_err-reader.field-0 (g.D.Devices.failed c.args.devices.now) (g.D.Devices.failed c.open-reader.new.self)
+    stopped c.from_residual-in_err-reader.result c.in_err-reader.field-0.0 (g.D.Devices.failed c.args.devices.now) (g.D.Devices.failed c.open.new.self)
     (p.1 ∙ ap (λ s. Err s) p.2) c.in_err-reader.ensures.counts
 
 pub returns-in_err-create-clause-failures : goal.returns-in_err-create-clause-failures
 returns-in_err-create-clause-failures g c =
     let p = err_from_is_err_and c.from_residual-in_err-create.result c.from_residual-in_err-create.ensures.1 in
-    stopped c.from_residual-in_err-create.result c.in_err-create.field-0 (g.D.Devices.failed c.args.devices.now) (g.D.Devices.failed c.create.new.self)
+    stopped c.from_residual-in_err-create.result c.in_err-create.field-0.0 (g.D.Devices.failed c.args.devices.now) (g.D.Devices.failed c.create.new.self)
     (p.1 ∙ ap (λ s. Err s) p.2)
-    (failed_then (g.D.Devices.failed c.args.devices.now) (g.D.Devices.failed c.open-reader.new.self) (g.D.Devices.failed c.create.new.self) 0 _ _
+    (failed_then (g.D.Devices.failed c.args.devices.now) (g.D.Devices.failed c.open.new.self) (g.D.Devices.failed c.create.new.self) 0 _ _
     c.in_ok-reader.ensures.counts c.in_err-create.ensures.counts (omega arith))
 
 pub returns-clause-failures : goal.returns-clause-failures
 returns-clause-failures g c =
     let a = g.D.Devices.failed c.args.devices.now in
-    let o = g.D.Devices.failed c.open-reader.new.self in
+    let o = g.D.Devices.failed c.open.new.self in
     let w = g.D.Devices.failed c.create.new.self in
     let r = g.D.Devices.failed c.close.new.self in
     let z = g.D.Devices.failed c.place-ended.new.devices in
@@ -43,9 +43,9 @@ returns-clause-failures g c =
     let all : failed_count c.into_counted.result + (failed_count c.run_receive-ended.new.writer + last.0) ≡ ended + last.0
     = omega (arith, read, input, output, c.run_receive-ended.ensures.failures.counts) in (
       ended + last.0,
-      failed_then a o z 0 _ _ c.in_ok-reader.ensures.counts
-      (failed_then o w z 0 _ _ c.in_ok-create.ensures.counts
-      (failed_then w r z (failed_count c.into_counted.result) (failed_count c.run_receive-ended.new.writer + last.0) (ended + last.0) c.close.ensures.counts last.1
-      all) (omega arith)) (omega arith),
+      failed_then a o z 0 (ended + last.0) (ended + last.0) c.in_ok-reader.ensures.counts
+          (failed_then o w z 0 (ended + last.0) (ended + last.0) c.in_ok-create.ensures.counts
+          (failed_then w r z (failed_count c.into_counted.result) (failed_count c.run_receive-ended.new.writer + last.0) (ended + last.0) c.close.ensures.counts last.1
+          all) (omega arith)) (omega arith),
       last.2,
     )

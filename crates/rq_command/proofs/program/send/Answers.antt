@@ -20,20 +20,21 @@ module _ (g : Over) (c : After-finish-finished g) where
       → SendsFirst (sending_of c.in_ok-sender.sender) number lost last g.D.Devices.blank (g.D.Devices.placed c.finish-finished.new.self)
   there number lost last sends =
       placed_sent g.D.Writer.Write.contents (sending_of c.in_ok-sender.sender) number lost last c.new-output.result c.send-sent.new.output c.new.result
-      c.in_ok-create.field-0 g.D.Devices.blank (g.D.Devices.placed c.finish-finished.new.self) c.new-output.ensures.writer c.new.ensures.inner
-      c.in_ok-create.ensures.blank
-      (c.finish-finished.ensures.placed ∙ ap (λ (w : Counted g.D.Writer). g.D.Writer.Write.contents (inner w)) c.into_counted.ensures) sends
+      c.into_counted.result c.in_ok-create.field-0 g.D.Devices.blank (g.D.Devices.placed c.finish-finished.new.self) c.new-output.ensures.writer
+      c.new.ensures.inner c.in_ok-create.ensures.blank c.into_counted.ensures c.finish-finished.ensures.placed sends
 
   -- and so many calls failed
   counts : Fails (g.D.Devices.failed c.args.devices.now) (g.D.Devices.failed c.finish-finished.new.self)
       (failed_count c.into_counted.result + failed_calls c.finish-finished.result)
   counts =
-      failed_then (g.D.Devices.failed c.args.devices.now) (g.D.Devices.failed c.open-reader.new.self) (g.D.Devices.failed c.finish-finished.new.self) 0 _ _
-      c.in_ok-reader.ensures.counts
-      (failed_then (g.D.Devices.failed c.open-reader.new.self) (g.D.Devices.failed c.prepare-sender.new.devices) (g.D.Devices.failed c.finish-finished.new.self) 0 _ _
-      c.in_ok-sender.ensures.counts
-      (failed_then (g.D.Devices.failed c.prepare-sender.new.devices) (g.D.Devices.failed c.create.new.self) (g.D.Devices.failed c.finish-finished.new.self) 0 _ _
-      c.in_ok-create.ensures.counts c.finish-finished.ensures.counts (omega arith)) (omega arith)) (omega arith)
+      let a = g.D.Devices.failed c.args.devices.now in
+      let o = g.D.Devices.failed c.open.new.self in
+      let s = g.D.Devices.failed c.prepare.new.devices in
+      let w = g.D.Devices.failed c.create.new.self in
+      let z = g.D.Devices.failed c.finish-finished.new.self in
+      let n = failed_count c.into_counted.result + failed_calls c.finish-finished.result in
+      failed_then a o z 0 n n c.in_ok-reader.ensures.counts (failed_then o s z 0 n n c.in_ok-sender.ensures.counts
+      (failed_then s w z 0 n n c.in_ok-create.ensures.counts c.finish-finished.ensures.counts (omega arith)) (omega arith)) (omega arith)
 
 pub returns-in_err-lost-clause-does : goal.returns-in_err-lost-clause-does
 returns-in_err-lost-clause-does g c =
@@ -42,10 +43,10 @@ returns-in_err-lost-clause-does g c =
     let s = sending_of c.in_ok-sender.sender in
     let h = subst (λ r. IfErr r (StopsSending s c.new-output.result c.send-sent.new.output (contents (sink c.new-output.result))
     (contents (sink c.send-sent.new.output)))) c.in_err-lost.was c.send-sent.ensures.stops in
-    let p = err_from_is_err_and c.from_residual.result c.from_residual.ensures.1 in
+    let p = err_from_is_err_and c.from_residual-in_err-lost.result c.from_residual-in_err-lost.ensures.1 in
     rw (p.1, p.2)
     (inr (sends_some c.args.job.order (g.D.Devices.stands c.args.devices.now (map (λ s. s.now) c.args.job.files.items))
-    (g.D.Reader.Read.remaining c.in_ok-reader.reader) s h.number h.lost h.behind c.in_err-lost.field-0 g.D.Devices.blank
+    (g.D.Reader.Read.remaining c.in_ok-reader.reader) s h.number h.lost h.behind c.in_err-lost.field-0.0 g.D.Devices.blank
     (g.D.Devices.placed c.finish-finished.new.self) c.in_ok-reader.ensures.bytes c.in_ok-sender.ensures.prepared
     (there g at h.number h.lost h.behind h.sends) h.stopped))
 
@@ -55,10 +56,10 @@ returns-in_err-lost-clause-failures g c =
     let contents = g.D.Writer.Write.contents in
     let h = subst (λ r. IfErr r (StopsSending (sending_of c.in_ok-sender.sender) c.new-output.result c.send-sent.new.output
     (contents (sink c.new-output.result)) (contents (sink c.send-sent.new.output)))) c.in_err-lost.was c.send-sent.ensures.stops in
-    let p = err_from_is_err_and c.from_residual.result c.from_residual.ensures.1 in
+    let p = err_from_is_err_and c.from_residual-in_err-lost.result c.from_residual-in_err-lost.ensures.1 in
     let made : failed_count c.into_counted.result ≡ failed_count c.send-sent.new.output.writer = ap failed_count c.into_counted.ensures in
     let began : failed_count c.new-output.result.writer ≡ 0 = ap failed_count c.new-output.ensures.writer ∙ c.new.ensures.none in
-    stopped_later {X = ℕ} c.from_residual.result c.in_err-lost.field-0 (g.D.Devices.failed c.args.devices.now) (g.D.Devices.failed c.finish-finished.new.self)
+    stopped_later c.from_residual-in_err-lost.result c.in_err-lost.field-0.0 (g.D.Devices.failed c.args.devices.now) (g.D.Devices.failed c.finish-finished.new.self)
     (h.lost + failed_calls c.finish-finished.result) (p.1 ∙ ap (λ s. Err s) p.2)
     (subst (Fails (g.D.Devices.failed c.args.devices.now) (g.D.Devices.failed c.finish-finished.new.self)) (omega (arith, made, began, h.counts.failed))
     (counts g at))
@@ -70,12 +71,12 @@ returns-in_err-finished-clause-does g c =
     let s = sending_of c.in_ok-sender.sender in
     let sends = subst (λ r. IfOk r (λ lost. SendsFirst s (cell_count s) lost [] (contents (sink c.new-output.result)) (contents (sink c.send-sent.new.output))))
     c.in_ok-lost.was c.send-sent.ensures.sends in
-    let stopped : StopsBehind s (cell_count s) [] c.in_err-finished.field-0
+    let stopped : StopsBehind s (cell_count s) [] c.in_err-finished.field-0.0
     = subst (StopsBehind s (cell_count s) []) (sym (IfErr-at_err _ c.in_err-finished.was c.finish-finished.ensures.fault)) (inl refl) in
     let p = err_from_is_err_and c.from_residual-in_err-finished.result c.from_residual-in_err-finished.ensures.1 in
     rw (p.1, p.2)
     (inr (sends_some c.args.job.order (g.D.Devices.stands c.args.devices.now (map (λ s. s.now) c.args.job.files.items))
-    (g.D.Reader.Read.remaining c.in_ok-reader.reader) s (cell_count s) c.in_ok-lost.lost [] c.in_err-finished.field-0 g.D.Devices.blank
+    (g.D.Reader.Read.remaining c.in_ok-reader.reader) s (cell_count s) c.in_ok-lost.lost [] c.in_err-finished.field-0.0 g.D.Devices.blank
     (g.D.Devices.placed c.finish-finished.new.self) c.in_ok-reader.ensures.bytes c.in_ok-sender.ensures.prepared
     (there g at (cell_count s) c.in_ok-lost.lost [] sends) stopped))
 
@@ -89,3 +90,36 @@ returns-clause-does g c =
     sends_all c.args.job.order (g.D.Devices.stands c.args.devices.now (map (λ s. s.now) c.args.job.files.items)) (g.D.Reader.Read.remaining c.in_ok-reader.reader)
     s c.cells.result c.in_ok-lost.lost g.D.Devices.blank (g.D.Devices.placed c.finish-finished.new.self) c.in_ok-reader.ensures.bytes
     c.in_ok-sender.ensures.prepared c.cells.ensures.value (there g at (cell_count s) c.in_ok-lost.lost [] sends)
+
+pub returns-in_err-sender-clause-failures : goal.returns-in_err-sender-clause-failures
+returns-in_err-sender-clause-failures g c =
+    let p = err_from_is_err_and c.from_residual-in_err-sender.result c.from_residual-in_err-sender.ensures.1 in
+    let n = failed_calls {X = ℕ} (Err c.in_err-sender.field-0.0) in
+    stopped c.from_residual-in_err-sender.result c.in_err-sender.field-0.0 (g.D.Devices.failed c.args.devices.now) (g.D.Devices.failed c.prepare.new.devices)
+    (p.1 ∙ ap (λ s. Err s) p.2)
+    (failed_then (g.D.Devices.failed c.args.devices.now) (g.D.Devices.failed c.open.new.self) (g.D.Devices.failed c.prepare.new.devices) 0 n n
+    c.in_ok-reader.ensures.counts c.in_err-sender.ensures.counts (omega arith))
+
+pub returns-in_err-create-clause-failures : goal.returns-in_err-create-clause-failures
+returns-in_err-create-clause-failures g c =
+    let p = err_from_is_err_and c.from_residual-in_err-create.result c.from_residual-in_err-create.ensures.1 in
+    let a = g.D.Devices.failed c.args.devices.now in
+    let o = g.D.Devices.failed c.open.new.self in
+    let s = g.D.Devices.failed c.prepare.new.devices in
+    let w = g.D.Devices.failed c.create.new.self in
+    let n = failed_calls {X = ℕ} (Err c.in_err-create.field-0.0) in
+    stopped c.from_residual-in_err-create.result c.in_err-create.field-0.0 a w (p.1 ∙ ap (λ s. Err s) p.2)
+    (failed_then a o w 0 n n c.in_ok-reader.ensures.counts (failed_then o s w 0 n n c.in_ok-sender.ensures.counts c.in_err-create.ensures.counts (omega arith))
+    (omega arith))
+
+pub returns-in_err-finished-clause-failures : goal.returns-in_err-finished-clause-failures
+returns-in_err-finished-clause-failures g c =
+    let at = (goal.at.returns-in_err-finished-clause-failures g c).After-finish-finished in
+    let p = err_from_is_err_and c.from_residual-in_err-finished.result c.from_residual-in_err-finished.ensures.1 in
+    let made : failed_count c.into_counted.result ≡ failed_count c.send-sent.new.output.writer = ap failed_count c.into_counted.ensures in
+    let began : failed_count c.new-output.result.writer ≡ 0 = ap failed_count c.new-output.ensures.writer ∙ c.new.ensures.none in
+    let here : failed_calls c.finish-finished.result ≡ failed_calls {X = ℕ} (Err c.in_err-finished.field-0.0) = ap failed_calls c.in_err-finished.was in
+    stopped_later c.from_residual-in_err-finished.result c.in_err-finished.field-0.0 (g.D.Devices.failed c.args.devices.now)
+    (g.D.Devices.failed c.finish-finished.new.self) (failed_count c.into_counted.result) (p.1 ∙ ap (λ s. Err s) p.2)
+    (subst (Fails (g.D.Devices.failed c.args.devices.now) (g.D.Devices.failed c.finish-finished.new.self)) (omega (arith, made, began, here))
+    (counts g at))
