@@ -73,10 +73,10 @@ sends_some order (Some o) read s number lost last stop blank new is prepared sen
 }
 
 -- what an output wrote since its writer was new stands in its place
-pub placed_sent : {W : Type 0} (contents : W → Contents) (s : Sending) (number lost : ℕ) (last : List ℕ) (first out : Output W) (began ended : Counted W) (writer : W)
-    (blank new : Contents) → counting first ≡ began → inner began ≡ writer → contents writer ≡ blank → ended ≡ counting out → new ≡ contents (inner ended)
+pub placed_sent : {W : Type 0} (contents : W → Contents) (s : Sending) (number lost : ℕ) (last : List ℕ) (first out : Output W) (began ended : Counted W) (writer left : W)
+    (blank new : Contents) → counting first ≡ began → inner began ≡ writer → contents writer ≡ blank → ended ≡ counting out → left ≡ inner ended → new ≡ contents left
     → SendsFirst s number lost last (contents (sink first)) (contents (sink out)) → SendsFirst s number lost last blank new
-placed_sent contents s number lost last first out began ended writer blank new is wraps holds leaves placed sends =
+placed_sent contents s number lost last first out began ended writer left blank new is wraps holds leaves unwraps placed sends =
     let start : contents (sink first) ≡ blank = ap contents (ap inner is ∙ wraps) ∙ holds in
-    let end : new ≡ contents (sink out) = placed ∙ ap contents (ap inner leaves) in
+    let end : new ≡ contents (sink out) = placed ∙ ap contents (unwraps ∙ ap inner leaves) in
     subst (λ (o : Contents). SendsFirst s number lost last o new) start (subst (SendsFirst s number lost last (contents (sink first))) (sym end) sends)

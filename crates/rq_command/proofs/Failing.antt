@@ -70,10 +70,10 @@ pub not_placed : {X : Type 0} (D : Type 0) (file : Option X) (r : Result Ending 
 not_placed D None r stop written old new is h = h
 not_placed D (Some file) r stop written old new is h = subst (λ (e : Result Ending Stop). IsPlaced (Some file) e written old new) (sym is) h
 
-pub fails_at_end : (ended r : Result Ending Stop) (stop : Stop) (a b : Option ℕ) (before : ℕ) → is_whole ended ≡ true → stop ≡ Fault → r ≡ Err stop
-    → Fails a b (before + failed_calls {X = ℕ} (Err stop)) → (n : ℕ) × Fails a b (before + n) × FailsReceiving r (failed_calls ended + n)
-fails_at_end ended r stop a b before is fault ends fails =
-    let once : Fails a b (before + 1) = subst (λ (s : Stop). Fails a b (before + failed_calls {X = ℕ} (Err s))) fault fails in
+pub fails_at_end : (ended r : Result Ending Stop) (stop : Stop) (a b : Option ℕ) → is_whole ended ≡ true → stop ≡ Fault → r ≡ Err stop
+    → Fails a b (failed_calls {X = ℕ} (Err stop)) → (n : ℕ) × Fails a b n × FailsReceiving r (failed_calls ended + n)
+fails_at_end ended r stop a b is fault ends fails =
+    let once : Fails a b 1 = subst (λ (s : Stop). Fails a b (failed_calls {X = ℕ} (Err s))) fault fails in
     let of_fault : FailsReceiving (Err Fault) (failed_calls ended + 1) = omega arith in
     (1, once, subst (λ (e : Result Ending Stop). FailsReceiving e (failed_calls ended + 1)) (sym (ends ∙ ap (λ s. Err s) fault)) of_fault)
 
@@ -83,7 +83,7 @@ pub put : {X D : Type 0} (file : Option X) (ended : Result Ending Stop) (d : D) 
 put None ended d written old new is h = h
 put (Some file) ended d written old new is h = subst (λ (e : Result Ending Stop). IsPlaced (Some file) e written old new) (sym (whole ended is)) h
 
-pub fails_nowhere : (ended : Result Ending Stop) (a b : Option ℕ) (before : ℕ) → is_whole ended ≡ true → Fails a b (before + 0)
-    → (n : ℕ) × Fails a b (before + n) × FailsReceiving ended (failed_calls ended + n)
-fails_nowhere ended a b before is fails =
+pub fails_nowhere : (ended : Result Ending Stop) (a b : Option ℕ) → is_whole ended ≡ true → Fails a b 0
+    → (n : ℕ) × Fails a b n × FailsReceiving ended (failed_calls ended + n)
+fails_nowhere ended a b is fails =
     (0, fails, subst (λ (e : Result Ending Stop). FailsReceiving e (failed_calls e + 0)) (sym (whole ended is)) refl)

@@ -1,6 +1,6 @@
 //! What a run reads from, writes to and tells.
-ghost use Rattle.std.specs.Prelude.{◌≡◌, ℕ, ◌+◌, List, length, Option, None, map, IfOk, IfErr, IfSome};
-ghost use Rattle.rq_streams.specs.Counted.{failed_count, inner};
+ghost use Rattle.std.specs.Prelude.{◌≡◌, ℕ, List, length, Option, None, map, IfOk, IfErr, IfSome};
+ghost use Rattle.rq_streams.specs.Counted.{failed_count};
 ghost use Rattle.rq_streams.specs.Ends.{failed_calls};
 ghost use Rattle.rq_command.specs.Failed.{Fails};
 ghost use Rattle.rq_command.specs.Placed.{IsEmpty, IsFinished};
@@ -28,7 +28,7 @@ pub trait Devices<'w> {
     /// What a new writer holds: nothing, where what is written is known.
     ghost blank: { Option (List ℕ) };
 
-    /// How many calls of these failed, and of what they opened and took back, where that is known.
+    /// How many calls of these failed, and were counted of what they opened, where that is known.
     ghost failed: { Self → Option ℕ } = { λ _. None };
 
     /// Whether standard output is a terminal.
@@ -45,9 +45,9 @@ pub trait Devices<'w> {
     fn length(&self, reader: &Self::Reader) -> Option<u64>
         ensures { IfSome result (λ n. IfSome (Self.Reader.remaining reader.now) (λ bytes. length bytes ≡ n)) };
 
-    /// Takes back what was read from.
-    fn close<R: Drop>(&mut self, reader: Counted<R>)
-        ensures counts { Fails (failed self.old) (failed self.new) (failed_count reader) }
+    /// Counts the calls that failed of what was opened.
+    fn count<X>(&mut self, calls: &Counted<X>)
+        ensures counts { Fails (failed self.old) (failed self.new) (failed_count calls.now) }
         ensures kept { placed self.new ≡ placed self.old };
 
     /// What writes beside a file, or on standard output.
@@ -63,12 +63,12 @@ pub trait Devices<'w> {
     fn finish(
         &mut self,
         file: Option<&'w str>,
-        writer: Counted<Self::Writer>,
+        writer: Self::Writer,
         is_whole: bool,
     ) -> Result<(), Stop>
         ensures fault { IfErr result (λ stop. stop ≡ Stop.Fault) }
-        ensures counts { Fails (failed self.old) (failed self.new) (failed_count writer + failed_calls result) }
-        ensures placed { IsFinished file.entry is_whole result (Self.Writer.contents (inner writer)) (placed self.old) (placed self.new) };
+        ensures counts { Fails (failed self.old) (failed self.new) (failed_calls result) }
+        ensures placed { IsFinished file.entry is_whole result (Self.Writer.contents writer) (placed self.old) (placed self.new) };
 }
 
 /// What is told of a run while it goes on. Nothing is promised of it: the run does the same whoever is told.

@@ -1,6 +1,5 @@
 //! The program from its words to its end, over any devices.
 ghost use Rattle.std.specs.Prelude.{◌≡◌, ◌⊎◌, ℕ, ◌+◌, ◌<◌, length, map, Ok, Err, IfOk, IfErr, IfSome};
-ghost use Rattle.rq_streams.specs.Counted.{failed_count, inner};
 ghost use Rattle.rq_streams.specs.Ends.{failed_calls};
 ghost use Rattle.rq_cast.specs.Preparing.{IsPrepared, StopsPreparing};
 ghost use Rattle.rq_cast.specs.Sent.{sending_of};
@@ -40,7 +39,7 @@ fn prepare<'w, D: Devices<'w>, T: Teller>(
     }
     let mut input = Counted::new(Told::new(reader, teller));
     let prepared = read_sender(alloc, order, &mut input);
-    devices.close(input);
+    devices.count(&input);
     prepared
 }
 
@@ -70,7 +69,9 @@ fn send<'w, D: Devices<'w>, T: Teller>(
     teller.announce(&sender);
     let mut output = Output::new(Counted::new(devices.create(None)?));
     let sent = sender.send(alloc, &mut output, teller);
-    let finished = devices.finish(None, output.into_counted(), sent.is_ok());
+    let counted = output.into_counted();
+    devices.count(&counted);
+    let finished = devices.finish(None, counted.into_inner(), sent.is_ok());
     let lost = sent?;
     finished?;
     Ok(End::Sent {
@@ -91,12 +92,12 @@ fn is_whole(ended: &Result<Ending, Stop>) -> bool
 fn place<'w, D: Devices<'w>>(
     devices: &mut D,
     file: Option<&'w str>,
-    writer: Counted<D::Writer>,
+    writer: D::Writer,
     ended: Result<Ending, Stop>,
 ) -> Result<Ending, Stop>
     ensures same { (ended ≡ result) ⊎ ((ended ≡ Ok Ending.Written) × (result ≡ Err Stop.Fault)) }
-    ensures placed { IsPlaced file.entry result (D.Writer.contents (inner writer)) (D.placed devices.old) (D.placed devices.new) }
-    ensures failures { (n : ℕ) × Fails (D.failed devices.old) (D.failed devices.new) (failed_count writer + n) × FailsReceiving result (failed_calls ended + n) }
+    ensures placed { IsPlaced file.entry result (D.Writer.contents writer) (D.placed devices.old) (D.placed devices.new) }
+    ensures failures { (n : ℕ) × Fails (D.failed devices.old) (D.failed devices.new) n × FailsReceiving result (failed_calls ended + n) }
 {
     if !is_whole(&ended) {
         let _ = devices.finish(file, writer, false);
@@ -134,8 +135,9 @@ fn receive<'w, D: Devices<'w>, T: Teller>(
     let mut input = Input::new(Counted::new(reader));
     let mut seen = Seen::default();
     let ended = run_receive(alloc, &wanted, &mut input, &mut writer, &mut seen, teller);
-    devices.close(input.into_counted());
-    let ended = place(devices, output, writer, ended);
+    devices.count(&input.into_counted());
+    devices.count(&writer);
+    let ended = place(devices, output, writer.into_inner(), ended);
     Ok(End::Received(ended, seen))
 }
 
@@ -156,7 +158,7 @@ fn info<'w, D: Devices<'w>, T: Teller>(
     teller.begin(telling, None, devices.length(&reader));
     let mut input = Counted::new(Told::new(reader, teller));
     let read = read_all(alloc, &mut input);
-    devices.close(input);
+    devices.count(&input);
     let bytes = read?;
     let standings = standings_in(alloc, &table, bytes.as_slice())?;
     Ok(End::Surveyed(standings))

@@ -54,7 +54,7 @@ impl<'c, 'w> Devices<'w> for System<'c, 'w> {
         reader.length()
     }
 
-    fn close<R: Drop>(&mut self, _reader: Counted<R>) {}
+    fn count<X>(&mut self, _calls: &Counted<X>) {}
 
     fn create(&mut self, file: Option<&'w str>) -> Result<Target<'c, 'w>, Stop> {
         Target::create(*self, file).map_err(|_| Stop::Fault)
@@ -63,12 +63,9 @@ impl<'c, 'w> Devices<'w> for System<'c, 'w> {
     fn finish(
         &mut self,
         _file: Option<&'w str>,
-        writer: Counted<Target<'c, 'w>>,
+        writer: Target<'c, 'w>,
         is_whole: bool,
     ) -> Result<(), Stop> {
-        writer
-            .into_inner()
-            .finish(is_whole)
-            .map_err(|_| Stop::Fault)
+        writer.finish(is_whole).map_err(|_| Stop::Fault)
     }
 }

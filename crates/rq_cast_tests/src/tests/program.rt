@@ -71,7 +71,7 @@ impl<'w, 'a> Devices<'w> for Memory<'a> {
         Some(reader.rest.len() as u64)
     }
 
-    fn close<R: Drop>(&mut self, _reader: Counted<R>) {}
+    fn count<X>(&mut self, _calls: &Counted<X>) {}
 
     fn create(&mut self, _file: Option<&'w str>) -> Result<Written, Stop> {
         Ok(Written {
@@ -82,10 +82,10 @@ impl<'w, 'a> Devices<'w> for Memory<'a> {
     fn finish(
         &mut self,
         file: Option<&'w str>,
-        writer: Counted<Written>,
+        writer: Written,
         is_whole: bool,
     ) -> Result<(), Stop> {
-        let Written { bytes } = writer.into_inner();
+        let Written { bytes } = writer;
         if is_whole || file.is_none() {
             self.placed = bytes;
         }

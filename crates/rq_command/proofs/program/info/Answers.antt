@@ -7,15 +7,15 @@ use Rattle.rq_command.specs.Failed.{Fails}
 use Rattle.rq_command.proofs.Failing.{failed_then, none_failed, stopped}
 use Rattle.rq_command.proofs.program.info.Goals as goal
 use Rattle.rq_command.proofs.program.info.Given.{Over}
-use Rattle.rq_command.proofs.program.info.Goals.{After-close}
+use Rattle.rq_command.proofs.program.info.Goals.{After-count}
 
 -- so many calls failed until the reader was taken back
-read : (g : Over) (c : After-close g) → Fails (g.D.Devices.failed c.args.devices.now) (g.D.Devices.failed c.close.new.self) (failed_calls c.read_all-read.result)
+read : (g : Over) (c : After-count g) → Fails (g.D.Devices.failed c.args.devices.now) (g.D.Devices.failed c.count.new.self) (failed_calls c.read_all-read.result)
 read g c =
     let began : failed_count c.new-input.result ≡ 0 = c.new-input.ensures.none in
-    failed_then (g.D.Devices.failed c.args.devices.now) (g.D.Devices.failed c.open.new.self) (g.D.Devices.failed c.close.new.self) 0
+    failed_then (g.D.Devices.failed c.args.devices.now) (g.D.Devices.failed c.open.new.self) (g.D.Devices.failed c.count.new.self) 0
     (failed_count c.read_all-read.new.reader) (failed_calls c.read_all-read.result)
-    c.in_ok-reader.ensures.counts c.close.ensures.counts (omega (arith, began, c.read_all-read.ensures.counts))
+    c.in_ok-reader.ensures.counts c.count.ensures.counts (omega (arith, began, c.read_all-read.ensures.counts))
 
 pub returns-in_err-table-clause-failures : goal.returns-in_err-table-clause-failures
 returns-in_err-table-clause-failures g c =
@@ -32,15 +32,15 @@ returns-in_err-reader-clause-failures g c =
 pub returns-in_err-bytes-clause-failures : goal.returns-in_err-bytes-clause-failures
 returns-in_err-bytes-clause-failures g c =
     let p = err_from_is_err_and c.from_residual-in_err-bytes.result c.from_residual-in_err-bytes.ensures.1 in
-    stopped c.from_residual-in_err-bytes.result c.in_err-bytes.field-0.0 (g.D.Devices.failed c.args.devices.now) (g.D.Devices.failed c.close.new.self)
+    stopped c.from_residual-in_err-bytes.result c.in_err-bytes.field-0.0 (g.D.Devices.failed c.args.devices.now) (g.D.Devices.failed c.count.new.self)
     (p.1 ∙ ap (λ s. Err s) p.2)
-    (subst (λ r. Fails (g.D.Devices.failed c.args.devices.now) (g.D.Devices.failed c.close.new.self) (failed_calls r)) c.in_err-bytes.was
-    (read g (goal.at.returns-in_err-bytes-clause-failures g c).After-close))
+    (subst (λ r. Fails (g.D.Devices.failed c.args.devices.now) (g.D.Devices.failed c.count.new.self) (failed_calls r)) c.in_err-bytes.was
+    (read g (goal.at.returns-in_err-bytes-clause-failures g c).After-count))
 
 pub returns-clause-failures : goal.returns-clause-failures
 returns-clause-failures g c = (
   0,
-  subst (λ r. Fails (g.D.Devices.failed c.args.devices.now) (g.D.Devices.failed c.close.new.self) (failed_calls r)) c.in_ok-bytes.was
-      (read g (goal.at.returns-clause-failures g c).After-close),
+  subst (λ r. Fails (g.D.Devices.failed c.args.devices.now) (g.D.Devices.failed c.count.new.self) (failed_calls r)) c.in_ok-bytes.was
+      (read g (goal.at.returns-clause-failures g c).After-count),
   refl,
 )

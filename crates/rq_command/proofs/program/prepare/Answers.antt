@@ -10,8 +10,8 @@ use Rattle.rq_command.proofs.program.prepare.Goals as goal
 pub returns-clause-counts : goal.returns-clause-counts
 returns-clause-counts g c =
     let began : failed_count c.new-input.result ≡ 0 = c.new-input.ensures.none in
-    subst (Fails (g.D.Devices.failed c.args.devices.now) (g.D.Devices.failed c.close.new.self)) (omega (arith, began, c.read_sender-prepared.ensures.counts))
-    c.close.ensures.counts
+    subst (Fails (g.D.Devices.failed c.args.devices.now) (g.D.Devices.failed c.count.new.self)) (omega (arith, began, c.read_sender-prepared.ensures.counts))
+    c.count.ensures.counts
 
 pub returns-in_err-check_length-clause-stops : goal.returns-in_err-check_length-clause-stops
 returns-in_err-check_length-clause-stops g c =

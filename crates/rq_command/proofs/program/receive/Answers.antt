@@ -1,4 +1,4 @@
-use Rattle.std.proofs.Common.{◌≡◌, ◌+◌, Err, ap, subst, sym, ◌∙◌, arith}
+use Rattle.std.proofs.Common.{◌≡◌, ◌+◌, Err, ap, refl, subst, sym, ◌∙◌, arith}
 use Rattle.std.proofs.lemmas.Result.{err_from_is_err_and}
 use Rattle.rq_streams.specs.declared.run.Stop.TheVariants.{Refused}
 use Rattle.rq_streams.specs.Counted.{failed_count}
@@ -33,19 +33,20 @@ returns-clause-failures g c =
     let a = g.D.Devices.failed c.args.devices.now in
     let o = g.D.Devices.failed c.open.new.self in
     let w = g.D.Devices.failed c.create.new.self in
-    let r = g.D.Devices.failed c.close.new.self in
+    let r = g.D.Devices.failed c.count.new.self in
+    let s = g.D.Devices.failed c.count-2.new.self in
     let z = g.D.Devices.failed c.place-ended.new.devices in
     let last = c.place-ended.ensures.failures in
-    let ended = failed_calls c.run_receive-ended.result in
-    let read : failed_count c.into_counted.result ≡ failed_count (counted_of c.run_receive-ended.new.input) = ap failed_count c.into_counted.ensures in
+    let reads = failed_count c.into_counted.result in
+    let writes = failed_count c.run_receive-ended.new.writer in
+    let all = failed_calls c.run_receive-ended.result + last.0 in
+    let read : reads ≡ failed_count (counted_of c.run_receive-ended.new.input) = ap failed_count c.into_counted.ensures in
     let input : failed_count (counted_of c.new-input.result) ≡ 0 = ap failed_count c.new-input.ensures.reader ∙ c.new.ensures.none in
     let output : failed_count c.new-writer.result ≡ 0 = c.new-writer.ensures.none in
-    let all : failed_count c.into_counted.result + (failed_count c.run_receive-ended.new.writer + last.0) ≡ ended + last.0
-    = omega (arith, read, input, output, c.run_receive-ended.ensures.failures.counts) in (
-      ended + last.0,
-      failed_then a o z 0 (ended + last.0) (ended + last.0) c.in_ok-reader.ensures.counts
-          (failed_then o w z 0 (ended + last.0) (ended + last.0) c.in_ok-create.ensures.counts
-          (failed_then w r z (failed_count c.into_counted.result) (failed_count c.run_receive-ended.new.writer + last.0) (ended + last.0) c.close.ensures.counts last.1
-          all) (omega arith)) (omega arith),
+    let sum : reads + (writes + last.0) ≡ all = omega (arith, read, input, output, c.run_receive-ended.ensures.failures.counts) in
+    let behind : Fails r z (writes + last.0) = failed_then r s z writes last.0 (writes + last.0) c.count-2.ensures.counts last.1 refl in (
+      all,
+      failed_then a o z 0 all all c.in_ok-reader.ensures.counts (failed_then o w z 0 all all c.in_ok-create.ensures.counts
+          (failed_then w r z reads (writes + last.0) all c.count.ensures.counts behind sum) (omega arith)) (omega arith),
       last.2,
     )

@@ -20,21 +20,25 @@ module _ (g : Over) (c : After-finish-finished g) where
       → SendsFirst (sending_of c.in_ok-sender.sender) number lost last g.D.Devices.blank (g.D.Devices.placed c.finish-finished.new.self)
   there number lost last sends =
       placed_sent g.D.Writer.Write.contents (sending_of c.in_ok-sender.sender) number lost last c.new-output.result c.send-sent.new.output c.new.result
-      c.into_counted.result c.in_ok-create.field-0 g.D.Devices.blank (g.D.Devices.placed c.finish-finished.new.self) c.new-output.ensures.writer
-      c.new.ensures.inner c.in_ok-create.ensures.blank c.into_counted.ensures c.finish-finished.ensures.placed sends
+      c.into_counted-counted.result c.in_ok-create.field-0 c.into_inner.result g.D.Devices.blank (g.D.Devices.placed c.finish-finished.new.self) c.new-output.ensures.writer
+      c.new.ensures.inner c.in_ok-create.ensures.blank c.into_counted-counted.ensures c.into_inner.ensures c.finish-finished.ensures.placed sends
 
   -- and so many calls failed
   counts : Fails (g.D.Devices.failed c.args.devices.now) (g.D.Devices.failed c.finish-finished.new.self)
-      (failed_count c.into_counted.result + failed_calls c.finish-finished.result)
+      (failed_count c.into_counted-counted.result + failed_calls c.finish-finished.result)
   counts =
       let a = g.D.Devices.failed c.args.devices.now in
       let o = g.D.Devices.failed c.open.new.self in
       let s = g.D.Devices.failed c.prepare.new.devices in
       let w = g.D.Devices.failed c.create.new.self in
       let z = g.D.Devices.failed c.finish-finished.new.self in
-      let n = failed_count c.into_counted.result + failed_calls c.finish-finished.result in
-      failed_then a o z 0 n n c.in_ok-reader.ensures.counts (failed_then o s z 0 n n c.in_ok-sender.ensures.counts
-      (failed_then s w z 0 n n c.in_ok-create.ensures.counts c.finish-finished.ensures.counts (omega arith)) (omega arith)) (omega arith)
+      let r = g.D.Devices.failed c.count.new.self in
+      let writes = failed_count c.into_counted-counted.result in
+      let more = failed_calls c.finish-finished.result in
+      let n = writes + more in
+      failed_then a o z 0 n n c.in_ok-reader.ensures.counts (failed_then o s z 0 n n c.in_ok-sender.ensures.counts (failed_then s w z 0 n n
+      c.in_ok-create.ensures.counts (failed_then w r z writes more n c.count.ensures.counts c.finish-finished.ensures.counts refl) (omega arith)) (omega arith))
+      (omega arith)
 
 pub returns-in_err-lost-clause-does : goal.returns-in_err-lost-clause-does
 returns-in_err-lost-clause-does g c =
@@ -57,7 +61,7 @@ returns-in_err-lost-clause-failures g c =
     let h = subst (λ r. IfErr r (StopsSending (sending_of c.in_ok-sender.sender) c.new-output.result c.send-sent.new.output
     (contents (sink c.new-output.result)) (contents (sink c.send-sent.new.output)))) c.in_err-lost.was c.send-sent.ensures.stops in
     let p = err_from_is_err_and c.from_residual-in_err-lost.result c.from_residual-in_err-lost.ensures.1 in
-    let made : failed_count c.into_counted.result ≡ failed_count c.send-sent.new.output.writer = ap failed_count c.into_counted.ensures in
+    let made : failed_count c.into_counted-counted.result ≡ failed_count c.send-sent.new.output.writer = ap failed_count c.into_counted-counted.ensures in
     let began : failed_count c.new-output.result.writer ≡ 0 = ap failed_count c.new-output.ensures.writer ∙ c.new.ensures.none in
     stopped_later c.from_residual-in_err-lost.result c.in_err-lost.field-0.0 (g.D.Devices.failed c.args.devices.now) (g.D.Devices.failed c.finish-finished.new.self)
     (h.lost + failed_calls c.finish-finished.result) (p.1 ∙ ap (λ s. Err s) p.2)
@@ -116,10 +120,10 @@ pub returns-in_err-finished-clause-failures : goal.returns-in_err-finished-claus
 returns-in_err-finished-clause-failures g c =
     let at = (goal.at.returns-in_err-finished-clause-failures g c).After-finish-finished in
     let p = err_from_is_err_and c.from_residual-in_err-finished.result c.from_residual-in_err-finished.ensures.1 in
-    let made : failed_count c.into_counted.result ≡ failed_count c.send-sent.new.output.writer = ap failed_count c.into_counted.ensures in
+    let made : failed_count c.into_counted-counted.result ≡ failed_count c.send-sent.new.output.writer = ap failed_count c.into_counted-counted.ensures in
     let began : failed_count c.new-output.result.writer ≡ 0 = ap failed_count c.new-output.ensures.writer ∙ c.new.ensures.none in
     let here : failed_calls c.finish-finished.result ≡ failed_calls {X = ℕ} (Err c.in_err-finished.field-0.0) = ap failed_calls c.in_err-finished.was in
     stopped_later c.from_residual-in_err-finished.result c.in_err-finished.field-0.0 (g.D.Devices.failed c.args.devices.now)
-    (g.D.Devices.failed c.finish-finished.new.self) (failed_count c.into_counted.result) (p.1 ∙ ap (λ s. Err s) p.2)
+    (g.D.Devices.failed c.finish-finished.new.self) (failed_count c.into_counted-counted.result) (p.1 ∙ ap (λ s. Err s) p.2)
     (subst (Fails (g.D.Devices.failed c.args.devices.now) (g.D.Devices.failed c.finish-finished.new.self)) (omega (arith, made, began, here))
     (counts g at))
