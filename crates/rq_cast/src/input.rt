@@ -24,6 +24,14 @@ impl<R> Input<R> {
     {
         Input { reader, last: 0 }
     }
+
+    /// The reader that counts its failed calls.
+    pub fn into_counted(self) -> Counted<R>
+        ensures { result ≡ counted_of self }
+    {
+        let Input { reader, last: _ } = self;
+        reader
+    }
 }
 
 impl<R: Read> Read for Input<R> {

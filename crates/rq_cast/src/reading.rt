@@ -69,8 +69,9 @@ pub(crate) struct Found {
     pub seen: Seen,
 }
 
-/// Reads until a wanted cell is whole, at whatever place, or to the end. `seen` becomes what was seen in
-/// all that was read but the last bytes, which made that cell whole, or in all where there is none.
+/// Reads until a wanted cell is whole, at whatever place, to the end, or as often as a `u64` counts, so that
+/// it ends. `seen` becomes what was seen in all that was read but the last bytes, which made that cell whole,
+/// or in all where there is none.
 pub(crate) fn find<R: Read, P: Progress>(
     alloc: Global,
     wanted: &Wanted<'_>,
@@ -90,7 +91,6 @@ pub(crate) fn find<R: Read, P: Progress>(
     let mut bytes = Vec::new(alloc);
     let mut settled = Seen::default();
     *seen = settled;
-    // For the proof that it ends: more reads than these are never made.
     'reading: for _reads in 0..u64::MAX {
         let n = read_more(input, &mut chunk, &mut bytes)?;
         if n == 0 {

@@ -1,5 +1,2 @@
-pub mod Asking
 pub mod Doing
-pub mod Local
-pub mod Parsed
-pub mod Reading
+pub mod Failing

@@ -1,5 +1,5 @@
 -- The status that the program ends with.
-use Rattle.std.specs.Prelude.{ℕ, ◌/◌, ◌&&◌, Bool, List, [], ◌∷◌, Ok, Err, nat_le, nat_lt, if◌then◌else◌}
+use Rattle.std.specs.Prelude.{ℕ, ◌/◌, ◌==◌, ◌&&◌, Bool, List, [], ◌∷◌, Ok, Err, nat_le, nat_lt, if◌then◌else◌}
 use Rattle.clap.specs.Values.{kind_of}
 use Rattle.clap.specs.declared.error.kind.ErrorKind.{ErrorKind}
 use Rattle.clap.specs.declared.error.kind.ErrorKind.TheVariants as kind
@@ -34,9 +34,17 @@ abbrev pub stop_status : Stop → ℕ
 stop_status Fault = 1
 stop_status (Refused e) = refusal_status e
 
--- each second call was refused, since nobody took the cell before it
+-- how many of so many cells are refused where nobody listens: each second one, at which the one before is said to be lost
+abbrev pub most_refused : ℕ → ℕ
+most_refused cells = cells / 2
+
+-- as many are, and some
 abbrev pub all_lost : ℕ → ℕ → Bool
-all_lost cells lost = nat_lt 0 lost && nat_le (cells / 2) lost
+all_lost cells lost = nat_lt 0 lost && nat_le (most_refused cells) lost
+
+-- no cell has an id that was asked for, all were lost, or some were sent
+abbrev pub sent_status : ℕ → ℕ → ℕ
+sent_status cells lost = if cells == 0 then 3 else (if all_lost cells lost then 1 else 0)
 
 -- nothing that was looked for is there
 abbrev pub survey_status : List Standing → ℕ
@@ -46,7 +54,7 @@ survey_status (standing ∷ others) = 0
 abbrev pub status_of : End → ℕ
 status_of (Unasked e) = word_status (kind_of e)
 status_of AtTerminal = 64
-status_of (Sent cells lost) = if all_lost cells lost then 1 else 0
+status_of (Sent cells lost) = sent_status cells lost
 status_of (Received (Ok ending) seen) = ending_status ending
 status_of (Received (Err stop) seen) = stop_status stop
 status_of (Surveyed standings) = survey_status standings.items

@@ -1,8 +1,5 @@
-pub mod Asked
-pub mod Definition
 pub mod Endings
-pub mod Numbers
+pub mod Failed
 pub mod Placed
 pub mod Program
 pub mod Told
-pub mod Values

@@ -1,5 +1,5 @@
 -- What is put where a run writes.
-use Rattle.std.specs.Prelude.{◌≡◌, ℕ, Bool, true, List, [], Option, Some, None, Result, Ok, IfSome}
+use Rattle.std.specs.Prelude.{◌≡◌, ℕ, Bool, true, false, List, [], Option, Some, None, Result, Ok, IfSome}
 use Rattle.rq_streams.specs.declared.run.Stop.{Stop}
 use Rattle.rq_cast.specs.declared.run.Ending.{Ending}
 use Rattle.rq_cast.specs.declared.run.Ending.TheVariants.{Written}
@@ -17,6 +17,11 @@ abbrev pub IsFinished : {X D : Type 0} → Option X → Bool → Result D Stop �
 IsFinished None is_whole result written old new = new ≡ written
 IsFinished (Some file) true (Ok done) written old new = new ≡ written
 IsFinished (Some file) _ _ written old new = new ≡ old
+
+-- all is written
+abbrev pub is_whole : Result Ending Stop → Bool
+is_whole (Ok Written) = true
+is_whole _ = false
 
 -- What was received is put in a file's place where it is all written, and only then.
 abbrev pub IsPlaced : {X : Type 0} → Option X → Result Ending Stop → Contents → Contents → Contents → Type 0

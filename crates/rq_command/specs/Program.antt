@@ -1,7 +1,6 @@
 -- What the program does, from its words to its end.
-use Rattle.std.specs.Prelude.{◌≡◌, ◌⊎◌, ⊤, ℕ, List, [], Option, Result, Ok, Err, map, IfSome}
+use Rattle.std.specs.Prelude.{◌≡◌, ◌⊎◌, ⊤, ℕ, ◌<◌, ◌≤◌, List, [], Option, Result, Ok, Err, map, IfSome}
 use Rattle.clap.specs.Values.{kind_of}
-use Rattle.clap.specs.declared.error.kind.ErrorKind.TheVariants as kind
 use Rattle.rq_bytes.specs.declared.error.Error.TheVariants.{OutOfMemory}
 use Rattle.rq_standard.specs.declared.row.TableRow.{TableRow}
 use Rattle.rq_tables.specs.SystematicTable.{wanted_table}
@@ -16,11 +15,12 @@ use Rattle.rq_cast.specs.Preparing.{IsPrepared, StopsPreparing}
 use Rattle.rq_cast.specs.Received.{EndsReceiving}
 use Rattle.rq_cast.specs.Sent.{Sending, cell_count, SendsFirst, StopsBehind}
 use Rattle.rq_cast.specs.Surveyed.{IsSurvey}
-use Rattle.rq_command.specs.declared.jobs.Job.{Job}
-use Rattle.rq_command.specs.declared.jobs.Job.TheVariants.{Send, Receive, Info}
+use Rattle.rq_words.specs.declared.jobs.Job.{Job}
+use Rattle.rq_words.specs.declared.jobs.Job.TheVariants.{Send, Receive, Info}
 use Rattle.rq_command.specs.declared.ending.End.{End}
 use Rattle.rq_command.specs.declared.ending.End.TheVariants.{Unasked, AtTerminal, Sent, Received, Surveyed, Stopped}
-use Rattle.rq_command.specs.Asked.{AsksFor, AsksForNone}
+use Rattle.rq_words.specs.Asked.{AsksFor, IsRefused}
+use Rattle.rq_command.specs.Failed.{Fails}
 use Rattle.rq_command.specs.Placed.{Contents, IsPlaced}
 
 -- ---- sending
@@ -95,7 +95,28 @@ EndsJob (Send job) stands blank ended old new = EndsSend job.order (stands (map 
 EndsJob (Receive job) stands blank ended old new = EndsReceive job.name.items job.output (stands (map (λ s. s.now) job.files.items)) blank ended old new
 EndsJob (Info job) stands blank ended old new = EndsInfo (stands (map (λ s. s.now) job.files.items)) ended old new
 
--- What the words ask for is done. Where they ask for nothing, so is nothing.
+-- What the words ask for is done. Where they are refused, nothing is.
 abbrev pub Does : List (List ℕ) → (List (List ℕ) → Contents) → Contents → End → Contents → Contents → Type 0
-Does words stands blank (Unasked e) old new = ((kind_of e ≡ kind.OutOfMemory) ⊎ AsksForNone words) × (new ≡ old)
+Does words stands blank (Unasked e) old new = IsRefused words (kind_of e) × (new ≡ old)
 Does words stands blank ended old new = (job : Job) × AsksFor words job × EndsJob job stands blank ended old new
+
+-- ---- failed calls
+
+-- So many calls failed in a run that received so: one that ended it, and one at most at what isn't whole, as it was taken away.
+abbrev pub FailsReceiving : Result Ending Stop → ℕ → Type 0
+FailsReceiving (Ok Written) n = n ≡ 0
+FailsReceiving (Ok _) n = n ≤ 1
+FailsReceiving (Err Fault) n = 0 < n
+FailsReceiving (Err (Refused e)) n = n ≤ 1
+
+-- So many failed in a run that ended so. A lost cell is one, and cells may be lost before memory is refused.
+abbrev pub FailsIn : End → ℕ → Type 0
+FailsIn (Sent cells lost) n = n ≡ lost
+FailsIn (Received result seen) n = FailsReceiving result n
+FailsIn (Stopped Fault) n = 0 < n
+FailsIn (Stopped (Refused e)) n = ⊤
+FailsIn _ n = n ≡ 0
+
+-- that many of the devices' calls
+abbrev pub Failures : End → Option ℕ → Option ℕ → Type 0
+Failures ended old new = (n : ℕ) × Fails old new n × FailsIn ended n

@@ -1,10 +1,13 @@
 //! What a run reads from, writes to and tells.
-ghost use Rattle.std.specs.Prelude.{◌≡◌, ℕ, List, [], length, Option, map, IfOk, IfErr, IfSome};
+ghost use Rattle.std.specs.Prelude.{◌≡◌, ℕ, List, length, Option, None, map, IfOk, IfErr, IfSome};
+ghost use Rattle.rq_streams.specs.Counted.{failed_count};
+ghost use Rattle.rq_streams.specs.Ends.{failed_calls};
+ghost use Rattle.rq_command.specs.Failed.{Fails};
 ghost use Rattle.rq_command.specs.Placed.{IsEmpty, IsFinished};
 
-use crate::jobs::Telling;
 use rq_cast::{Pace, Progress, Sender};
-use rq_streams::Stop;
+use rq_streams::{Counted, Stop};
+use rq_words::Telling;
 use std::io::{Read, Write};
 
 /// Where a run reads and writes: files by their names, and standard input and output. A call that fails is
@@ -25,6 +28,9 @@ pub trait Devices<'w> {
     /// What a new writer holds: nothing, where what is written is known.
     ghost blank: { Option (List ℕ) };
 
+    /// How many calls of these failed, and were counted of what they opened, where that is known.
+    ghost failed: { Self → Option ℕ } = { λ _. None };
+
     /// Whether standard output is a terminal.
     fn shows_output(&self) -> bool;
 
@@ -32,17 +38,24 @@ pub trait Devices<'w> {
     fn open(&mut self, files: Vec<&'w str>) -> Result<Self::Reader, Stop>
         ensures bytes { IfOk result (λ r. Self.Reader.remaining r ≡ stands self.old (map (λ s. s.now) files.entry.items)) }
         ensures fault { IfErr result (λ stop. stop ≡ Stop.Fault) }
+        ensures counts { Fails (failed self.old) (failed self.new) (failed_calls result) }
         ensures kept { placed self.new ≡ placed self.old };
 
     /// How many bytes a reader has, where that is known before they are read.
     fn length(&self, reader: &Self::Reader) -> Option<u64>
         ensures { IfSome result (λ n. IfSome (Self.Reader.remaining reader.now) (λ bytes. length bytes ≡ n)) };
 
+    /// Counts the calls that failed of what was opened.
+    fn count<X>(&mut self, calls: &Counted<X>)
+        ensures counts { Fails (failed self.old) (failed self.new) (failed_count calls.now) }
+        ensures kept { placed self.new ≡ placed self.old };
+
     /// What writes beside a file, or on standard output.
     fn create(&mut self, file: Option<&'w str>) -> Result<Self::Writer, Stop>
         ensures blank { IfOk result (λ w. Self.Writer.contents w ≡ blank) }
         ensures empty { IsEmpty blank }
         ensures fault { IfErr result (λ stop. stop ≡ Stop.Fault) }
+        ensures counts { Fails (failed self.old) (failed self.new) (failed_calls result) }
         ensures kept { placed self.new ≡ placed self.old };
 
     /// Puts what is written in the file's place where it is whole, and takes it away where it isn't. What is
@@ -54,6 +67,7 @@ pub trait Devices<'w> {
         is_whole: bool,
     ) -> Result<(), Stop>
         ensures fault { IfErr result (λ stop. stop ≡ Stop.Fault) }
+        ensures counts { Fails (failed self.old) (failed self.new) (failed_calls result) }
         ensures placed { IsFinished file.entry is_whole result (Self.Writer.contents writer) (placed self.old) (placed self.new) };
 }
 

@@ -1,6 +1,6 @@
 //! How the program ends.
 ghost use Rattle.std.specs.Prelude.{◌≡◌};
-ghost use Rattle.rq_command.specs.Endings.{all_lost, ending_status, stop_status, status_of, word_status};
+ghost use Rattle.rq_command.specs.Endings.{all_lost, ending_status, stop_status, sent_status, status_of, word_status};
 
 use clap::Error;
 use clap::error::ErrorKind;
@@ -32,14 +32,15 @@ pub enum End {
 
 impl End {
     /// The status that the program ends with: 0 where all is done, 1 after a fault of the system, 2 where
-    /// too little came, 3 where what came is refused or isn't what it says, and 64 where the words are wrong.
+    /// too little came, 3 where what came is refused or isn't what it says, or no cell has the ids that were
+    /// asked for, and 64 where the words are wrong.
     pub fn status(&self) -> u8
         ensures { result ≡ status_of self.now }
     {
         match self {
             End::Unasked(error) => word_status(error.kind()),
             End::AtTerminal => 64,
-            End::Sent { cells, lost } => if all_lost(*cells, *lost) { 1 } else { 0 },
+            End::Sent { cells, lost } => sent_status(*cells, *lost),
             End::Received(Ok(ending), _) => ending_status(*ending),
             End::Received(Err(stop), _) => stop_status(*stop),
             End::Surveyed(standings) => if standings.is_empty() { 2 } else { 0 },
@@ -59,12 +60,26 @@ fn word_status(kind: ErrorKind) -> u8
     }
 }
 
-/// Whether nobody listened for any of the cells. That nobody takes a datagram is said at the next call: so
-/// of those that are all lost each second one is refused, and the others seem to be sent.
+/// Whether nobody seems to have listened. That nobody takes a datagram is said at the next call, which sends
+/// nothing. So of cells that are all lost each second one is refused, half of them rounded down, and no more
+/// can be. One that is sent alone is never known to be lost, and of an odd number one may have come.
 pub(crate) fn all_lost(cells: u64, lost: u64) -> bool
     ensures { result ≡ all_lost cells lost }
 {
     lost > 0 && lost >= cells / 2
+}
+
+// Of cells that were to be sent. Where there were none, the words ask for ids that the object doesn't have.
+fn sent_status(cells: u64, lost: u64) -> u8
+    ensures { result ≡ sent_status cells lost }
+{
+    if cells == 0 {
+        3
+    } else if all_lost(cells, lost) {
+        1
+    } else {
+        0
+    }
 }
 
 // Of a run that nothing stopped.

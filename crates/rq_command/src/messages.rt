@@ -155,6 +155,10 @@ pub fn write_end<W: Write>(end: &End, out: &mut W) -> io::Result<()> {
             out,
             "rqcast: cells aren't written to a terminal: send them on, as by >FILE"
         ),
+        End::Sent { cells, .. } if *cells == 0 => writeln!(
+            out,
+            "rqcast: no cell is sent: --from and --share begin behind the last id"
+        ),
         End::Sent { cells, lost } if all_lost(*cells, *lost) => {
             writeln!(
                 out,

@@ -1,43 +1,46 @@
 //! The program from its words to its end, over any devices.
-ghost use Rattle.std.specs.Prelude.{◌≡◌, ◌⊎◌, ◌<◌, length, map, Ok, Err, IfOk, IfErr, IfSome};
+ghost use Rattle.std.specs.Prelude.{◌≡◌, ◌⊎◌, ℕ, ◌+◌, ◌<◌, length, map, Ok, Err, IfOk, IfErr, IfSome};
+ghost use Rattle.rq_streams.specs.Ends.{failed_calls};
 ghost use Rattle.rq_cast.specs.Preparing.{IsPrepared, StopsPreparing};
 ghost use Rattle.rq_cast.specs.Sent.{sending_of};
-ghost use Rattle.rq_command.specs.Placed.{IsPlaced};
-ghost use Rattle.rq_command.specs.Program.{EndsSend, EndsReceive, EndsInfo, end_of, Does};
+ghost use Rattle.rq_command.specs.Failed.{Fails};
+ghost use Rattle.rq_command.specs.Placed.{is_whole, IsPlaced};
+ghost use Rattle.rq_command.specs.Program.{EndsSend, EndsReceive, EndsInfo, end_of, Does, FailsReceiving, Failures};
 
 use crate::devices::{Devices, Teller};
 use crate::ending::End;
-use crate::jobs::{InfoJob, Job, ReceiveJob, SendJob};
 use crate::told::Told;
-use crate::words::job;
 use rq_cast::{
     Ending, Input, Order, Output, Seen, Sender, Wanted, check_length, read_sender, run_receive,
     standings_in,
 };
 use rq_rows::full_table;
 use rq_streams::{Counted, Stop, read_all};
+use rq_words::{InfoJob, Job, ReceiveJob, SendJob, job};
 use std::alloc::Global;
 use std::convert::AsStr;
-use std::io::Read;
 
 // Reads an object to its end, and makes its sender. Where its length is known, that is checked first.
-fn prepare<R: Read + Drop, T: Teller>(
+fn prepare<'w, D: Devices<'w>, T: Teller>(
     alloc: Global,
     order: &Order,
-    known: Option<u64>,
-    reader: R,
+    reader: D::Reader,
+    devices: &mut D,
     teller: &mut T,
 ) -> Result<Sender, Stop>
     requires step { 0 < order.now.ids.step }
-    requires known { IfSome known (λ n. IfSome (R.remaining reader) (λ object. length object ≡ n)) }
-    ensures prepared { IfOk result (λ s. IfSome (R.remaining reader) (λ object. IsPrepared order.now object (sending_of s))) }
-    ensures stops { IfErr result (λ stop. IfSome (R.remaining reader) (λ object. StopsPreparing order.now object stop)) }
+    ensures prepared { IfOk result (λ s. IfSome (D.Reader.remaining reader) (λ object. IsPrepared order.now object (sending_of s))) }
+    ensures stops { IfErr result (λ stop. IfSome (D.Reader.remaining reader) (λ object. StopsPreparing order.now object stop)) }
+    ensures counts { Fails (D.failed devices.old) (D.failed devices.new) (failed_calls result) }
+    ensures kept { D.placed devices.new ≡ D.placed devices.old }
 {
-    if let Some(length) = known {
+    if let Some(length) = devices.length(&reader) {
         check_length(alloc, length, order.symbol_size)?;
     }
     let mut input = Counted::new(Told::new(reader, teller));
-    read_sender(alloc, order, &mut input)
+    let prepared = read_sender(alloc, order, &mut input);
+    devices.count(&input);
+    prepared
 }
 
 // Sends an object. Nothing is read where its cells would go to a terminal.
@@ -48,8 +51,9 @@ fn send<'w, D: Devices<'w>, T: Teller>(
     teller: &mut T,
 ) -> Result<End, Stop>
     requires { 0 < job.order.ids.step }
-    ensures { EndsSend job.entry.order (D.stands devices.old (map (λ s. s.now) job.entry.files.items)) D.blank (end_of result)
+    ensures does { EndsSend job.entry.order (D.stands devices.old (map (λ s. s.now) job.entry.files.items)) D.blank (end_of result)
         (D.placed devices.old) (D.placed devices.new) }
+    ensures failures { Failures (end_of result) (D.failed devices.old) (D.failed devices.new) }
 {
     let SendJob {
         order,
@@ -60,27 +64,31 @@ fn send<'w, D: Devices<'w>, T: Teller>(
         return Ok(End::AtTerminal);
     }
     let reader = devices.open(files)?;
-    let length = devices.length(&reader);
-    teller.begin(telling, order.ids.rate, length);
-    let sender = prepare(alloc, &order, length, reader, teller)?;
+    teller.begin(telling, order.ids.rate, devices.length(&reader));
+    let sender = prepare(alloc, &order, reader, devices, teller)?;
     teller.announce(&sender);
     let mut output = Output::new(Counted::new(devices.create(None)?));
     let sent = sender.send(alloc, &mut output, teller);
-    let finished = devices.finish(None, output.into_counted().into_inner(), sent.is_ok());
-    let lost = match sent {
-        Ok(lost) => lost,
-        Err(stop) => return Ok(End::Stopped(stop)),
-    };
-    if let Err(stop) = finished {
-        return Ok(End::Stopped(stop));
-    }
+    let counted = output.into_counted();
+    devices.count(&counted);
+    let finished = devices.finish(None, counted.into_inner(), sent.is_ok());
+    let lost = sent?;
+    finished?;
     Ok(End::Sent {
         cells: sender.cells(),
         lost,
     })
 }
 
-// Puts what was received in its place where it is all written.
+// Whether all is written.
+fn is_whole(ended: &Result<Ending, Stop>) -> bool
+    ensures { result ≡ is_whole ended.now }
+{
+    matches!(ended, Ok(Ending::Written))
+}
+
+// Puts what was received in its place where it is all written, and else takes it away, at which a failed call
+// is no fault of the run.
 fn place<'w, D: Devices<'w>>(
     devices: &mut D,
     file: Option<&'w str>,
@@ -89,12 +97,14 @@ fn place<'w, D: Devices<'w>>(
 ) -> Result<Ending, Stop>
     ensures same { (ended ≡ result) ⊎ ((ended ≡ Ok Ending.Written) × (result ≡ Err Stop.Fault)) }
     ensures placed { IsPlaced file.entry result (D.Writer.contents writer) (D.placed devices.old) (D.placed devices.new) }
+    ensures failures { (n : ℕ) × Fails (D.failed devices.old) (D.failed devices.new) n × FailsReceiving result (failed_calls ended + n) }
 {
-    let is_whole = ended == Ok(Ending::Written);
-    match devices.finish(file, writer, is_whole) {
-        Err(stop) if is_whole => Err(stop),
-        _ => ended,
+    if !is_whole(&ended) {
+        let _ = devices.finish(file, writer, false);
+        return ended;
     }
+    devices.finish(file, writer, true)?;
+    ended
 }
 
 // Receives an object. The file that it becomes is there before the first byte is read.
@@ -104,8 +114,9 @@ fn receive<'w, D: Devices<'w>, T: Teller>(
     devices: &mut D,
     teller: &mut T,
 ) -> Result<End, Stop>
-    ensures { EndsReceive job.entry.name.items job.entry.output (D.stands devices.old (map (λ s. s.now) job.entry.files.items)) D.blank (end_of result)
+    ensures does { EndsReceive job.entry.name.items job.entry.output (D.stands devices.old (map (λ s. s.now) job.entry.files.items)) D.blank (end_of result)
         (D.placed devices.old) (D.placed devices.new) }
+    ensures failures { Failures (end_of result) (D.failed devices.old) (D.failed devices.new) }
 {
     let ReceiveJob {
         name,
@@ -124,6 +135,8 @@ fn receive<'w, D: Devices<'w>, T: Teller>(
     let mut input = Input::new(Counted::new(reader));
     let mut seen = Seen::default();
     let ended = run_receive(alloc, &wanted, &mut input, &mut writer, &mut seen, teller);
+    devices.count(&input.into_counted());
+    devices.count(&writer);
     let ended = place(devices, output, writer.into_inner(), ended);
     Ok(End::Received(ended, seen))
 }
@@ -135,15 +148,18 @@ fn info<'w, D: Devices<'w>, T: Teller>(
     devices: &mut D,
     teller: &mut T,
 ) -> Result<End, Stop>
-    ensures { EndsInfo (D.stands devices.old (map (λ s. s.now) job.entry.files.items)) (end_of result)
+    ensures does { EndsInfo (D.stands devices.old (map (λ s. s.now) job.entry.files.items)) (end_of result)
         (D.placed devices.old) (D.placed devices.new) }
+    ensures failures { Failures (end_of result) (D.failed devices.old) (D.failed devices.new) }
 {
     let InfoJob { files, telling } = job;
     let table = full_table(alloc)?;
     let reader = devices.open(files)?;
     teller.begin(telling, None, devices.length(&reader));
     let mut input = Counted::new(Told::new(reader, teller));
-    let bytes = read_all(alloc, &mut input)?;
+    let read = read_all(alloc, &mut input);
+    devices.count(&input);
+    let bytes = read?;
     let standings = standings_in(alloc, &table, bytes.as_slice())?;
     Ok(End::Surveyed(standings))
 }
@@ -169,7 +185,11 @@ pub fn run<'w, S: AsStr, D: Devices<'w>, T: Teller>(
     devices: &mut D,
     teller: &mut T,
 ) -> End
-    ensures { Does (map S.text words.entry.now) (D.stands devices.old) D.blank result (D.placed devices.old) (D.placed devices.new) }
+    // What the words ask for is done, and nothing where they are refused.
+    ensures does { Does (map S.text words.entry.now) (D.stands devices.old) D.blank result (D.placed devices.old) (D.placed devices.new) }
+
+    // A failed call ends the run, and nothing else is a fault.
+    ensures failures { Failures result (D.failed devices.old) (D.failed devices.new) }
 {
     match job(alloc, words) {
         Ok(Job::Send(job)) => end_of(send(alloc, job, devices, teller)),

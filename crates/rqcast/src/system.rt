@@ -5,7 +5,7 @@ use crate::failure::Failure;
 use crate::source::Source;
 use crate::target::Target;
 use rq_command::Devices;
-use rq_streams::Stop;
+use rq_streams::{Counted, Stop};
 use std::cell::{Cell, OnceCell};
 use std::io;
 use std::io::IsTerminal;
@@ -69,6 +69,8 @@ impl<'c, 'w> Devices<'w> for System<'c, 'w> {
     fn length(&self, reader: &Source<'c, 'w>) -> Option<u64> {
         reader.length()
     }
+
+    fn count<X>(&mut self, _calls: &Counted<X>) {}
 
     fn create(&mut self, file: Option<&'w str>) -> Result<Target<'c, 'w>, Stop> {
         Target::create(*self, file).map_err(|_| Stop::Fault)

@@ -3,7 +3,7 @@ use crate::tests::stored_cells::{FIRST, FIRST_MISNAMED, OBJECT, SECOND, SECOND_M
 use raptorq::Decoder;
 use rq_cast::{Pace, Progress, Seen, Sender};
 use rq_command::{Devices, End, Teller, Telling, run};
-use rq_streams::Stop;
+use rq_streams::{Counted, Stop};
 use std::alloc::{AllocError, Global};
 use std::io;
 use std::io::{Read, Write};
@@ -71,6 +71,8 @@ impl<'w, 'a> Devices<'w> for Memory<'a> {
         Some(reader.rest.len() as u64)
     }
 
+    fn count<X>(&mut self, _calls: &Counted<X>) {}
+
     fn create(&mut self, _file: Option<&'w str>) -> Result<Written, Stop> {
         Ok(Written {
             bytes: Vec::new(self.alloc),
@@ -137,10 +139,11 @@ fn words_are_done(rt: HostRuntime) {
     const FILE: Two = (&OBJECT, b"");
     const MISNAMED: Two = (&FIRST_MISNAMED, &SECOND_MISNAMED);
     const OLD: Two = (b"old", b"");
-    let rows: [(&str, Two, u8, Two, usize); 11] = [
+    let rows: [(&str, Two, u8, Two, usize); 12] = [
         ("send --cell 50 --repair 0 FILE", FILE, 0, CELLS, 1),
         ("send --cell=50 -r0 --share 0/2", FILE, 0, (&FIRST, b""), 0),
         ("send -c50 -r 0 --from 1 -q", FILE, 0, (&SECOND, b""), 0),
+        ("send --repair 0 --from 2", FILE, 3, NOTHING, 0),
         ("send", NOTHING, 3, OLD, 0),
         ("receive", CELLS, 0, FILE, 0),
         ("receive -o FILE --name bbc2 A B", CELLS, 0, FILE, 2),

@@ -2,7 +2,6 @@
 use crate::tests::stored_cells::{
     FIRST, FIRST_MISNAMED, OBJECT, OF_NO_BLOCK, SECOND, SECOND_MISNAMED, joined,
 };
-use raptorq::error::Error;
 use raptorq::systematic_constants::SystematicTable;
 use rq_cast::{Ending, Input, Seen, Silent, Wanted, run_receive};
 use rq_streams::{Counted, Stop};
@@ -27,18 +26,20 @@ impl<'a> Read for Open<'a> {
     }
 }
 
-type Ended = (Result<Ending, Stop>, Seen, Vec<u8>);
+/// How a run ends, what it has seen, and what it writes.
+pub type Ended = (Result<Ending, Stop>, Seen, Vec<u8>);
 
-// How a run ends, what it has seen, and what it writes.
-fn received<R: Read + Drop>(alloc: Global, name: &[u8], reader: R) -> Result<Ended, Error> {
-    let table = SystematicTable::built_in(alloc)?;
+/// Receives over a table what a reader brings of objects whose name and configuration begin so.
+pub fn received<R: Read + Drop>(
+    alloc: Global,
+    table: &SystematicTable,
+    name: &[u8],
+    reader: R,
+) -> Ended {
     let mut input = Input::new(Counted::new(reader));
     let mut out: Vec<u8> = Vec::new(alloc);
     let mut writer = Counted::new(&mut out);
-    let wanted = Wanted {
-        table: &table,
-        name,
-    };
+    let wanted = Wanted { table, name };
     let mut seen = Seen::default();
     let ended = run_receive(
         alloc,
@@ -49,12 +50,13 @@ fn received<R: Read + Drop>(alloc: Global, name: &[u8], reader: R) -> Result<End
         &mut Silent,
     );
     drop(writer);
-    Ok((ended, seen, out))
+    (ended, seen, out)
 }
 
 #[test]
 fn cells_among_other_bytes_are_received(rt: HostRuntime) {
     let alloc = rt.alloc();
+    let table = SystematicTable::built_in(alloc).expect(&rt, "a table");
     let mut damaged = FIRST;
     damaged[45] ^= 1;
     let parts = [
@@ -77,7 +79,7 @@ fn cells_among_other_bytes_are_received(rt: HostRuntime) {
             rest: bytes.as_slice(),
             most,
         };
-        let (ended, told, out) = received(alloc, &[187, 194], reader).expect(&rt, "memory");
+        let (ended, told, out) = received(alloc, &table, &[187, 194], reader);
         assert_eq!(rt; (ended, told), (Ok(Ending::Written), seen));
         assert_eq!(rt; out.as_slice(), OBJECT.as_slice());
     }
@@ -86,6 +88,7 @@ fn cells_among_other_bytes_are_received(rt: HostRuntime) {
 #[test]
 fn other_runs_write_nothing(rt: HostRuntime) {
     let alloc = rt.alloc();
+    let table = SystematicTable::built_in(alloc).expect(&rt, "a table");
     let misnamed = joined(alloc, &[&FIRST_MISNAMED, &SECOND_MISNAMED]).expect(&rt, "bytes");
     let mut damaged = FIRST;
     damaged[45] ^= 1;
@@ -99,7 +102,7 @@ fn other_runs_write_nothing(rt: HostRuntime) {
         (b"", misnamed.as_slice(), Ending::AnotherObject, [2, 0, 0]),
     ];
     for (name, bytes, ending, [cells, damaged, others]) in cases {
-        let (ended, told, out) = received(alloc, name, bytes).expect(&rt, "memory");
+        let (ended, told, out) = received(alloc, &table, name, bytes);
         let seen = Seen {
             cells,
             damaged,
@@ -113,6 +116,7 @@ fn other_runs_write_nothing(rt: HostRuntime) {
 #[test]
 fn runs_that_are_stopped_say_what_they_saw(rt: HostRuntime) {
     let alloc = rt.alloc();
+    let table = SystematicTable::built_in(alloc).expect(&rt, "a table");
     let mut damaged = FIRST;
     damaged[45] ^= 1;
     let bytes = joined(alloc, &[&FIRST_MISNAMED, &damaged, &FIRST]).expect(&rt, "bytes");
@@ -126,7 +130,7 @@ fn runs_that_are_stopped_say_what_they_saw(rt: HostRuntime) {
             rest: bytes.as_slice(),
             most,
         };
-        let (ended, told, out) = received(alloc, &[187], reader).expect(&rt, "memory");
+        let (ended, told, out) = received(alloc, &table, &[187], reader);
         assert_eq!(rt; (ended, told), (Err(Stop::Fault), seen));
         assert!(rt; out.is_empty());
     }

@@ -1,10 +1,10 @@
 //! Cells that are lost, damaged, mixed and cut, as reads bring them.
 use crate::compare::same;
+use crate::tests::receiving::{Ended, received};
 use crate::tests::stored_runs::RUNS;
 use raptorq::error::Error;
 use raptorq::systematic_constants::SystematicTable;
-use rq_cast::{Ending, Input, Seen, Silent, Wanted, run_receive};
-use rq_streams::{Counted, Stop};
+use rq_cast::{Ending, Seen};
 use std::alloc::Global;
 use std::io;
 use std::io::{ErrorKind, Read};
@@ -47,8 +47,6 @@ impl Read for Pieces<'_> {
     }
 }
 
-type Ended = (Result<Ending, Stop>, Seen, Vec<u8>);
-
 // How a run ends, what it has seen, and what it writes.
 fn ended(alloc: Global, table: &SystematicTable, run: &Run) -> Ended {
     let reader = Pieces {
@@ -56,24 +54,7 @@ fn ended(alloc: Global, table: &SystematicTable, run: &Run) -> Ended {
         next: 0,
         is_open: !matches!(run.ending, Ending::Incomplete { .. }),
     };
-    let mut input = Input::new(Counted::new(reader));
-    let mut out: Vec<u8> = Vec::new(alloc);
-    let mut writer = Counted::new(&mut out);
-    let wanted = Wanted {
-        table,
-        name: run.name,
-    };
-    let mut seen = Seen::default();
-    let ended = run_receive(
-        alloc,
-        &wanted,
-        &mut input,
-        &mut writer,
-        &mut seen,
-        &mut Silent,
-    );
-    drop(writer);
-    (ended, seen, out)
+    received(alloc, table, run.name, reader)
 }
 
 #[test]

@@ -1,0 +1,89 @@
+-- Failed calls of a run.
+use Rattle.std.proofs.Common.{◌≡◌, ℕ, ◌+◌, ◌≤◌, Option, Some, None, Result, Ok, Err, true, false, refl, sym, subst, ap, ◌∙◌, arith, lit<}
+use Rattle.rq_streams.specs.declared.run.Stop.{Stop}
+use Rattle.rq_streams.specs.declared.run.Stop.TheVariants.{Fault, Refused}
+use Rattle.rq_streams.specs.Ends.{failed_calls}
+use Rattle.rq_cast.specs.declared.run.Ending.{Ending}
+use Rattle.rq_cast.specs.declared.run.Ending.TheVariants.{Written, Incomplete, AnotherObject}
+use Rattle.rq_command.specs.declared.ending.End.{End}
+use Rattle.rq_command.specs.Failed.{Fails}
+use Rattle.rq_command.specs.Placed.{Contents, IsFinished, IsPlaced, is_whole}
+use Rattle.rq_command.specs.Program.{Failures, FailsReceiving, end_of}
+
+-- ---- counts
+
+pub none_failed : (a : Option ℕ) → Fails a a 0
+none_failed None = tt
+none_failed (Some n) = let same : n ≡ n + 0 = omega arith in ap (λ k. Some k) same
+
+-- some, and then others
+pub failed_then : (a b c : Option ℕ) (m n all : ℕ) → Fails a b m → Fails b c n → m + n ≡ all → Fails a c all
+failed_then None b c m n all first then is = tt
+failed_then (Some x) b c m n all first then is =
+    let behind : c ≡ Some (x + m + n) = subst (λ (o : Option ℕ). Fails o c n) first then in
+    let same : x + m + n ≡ x + all = omega (arith, is) in behind ∙ ap (λ k. Some k) same
+
+-- what stopped a run that failed so often
+pub stopped : (r : Result End Stop) (stop : Stop) (a b : Option ℕ) → r ≡ Err stop → Fails a b (failed_calls {X = ℕ} (Err stop)) → Failures (end_of r) a b
+stopped r Fault a b is fails = subst (λ (e : Result End Stop). Failures (end_of e) a b) (sym is) (1, fails, lit< tt)
+stopped r (Refused e) a b is fails = subst (λ (e : Result End Stop). Failures (end_of e) a b) (sym is) (0, fails, tt)
+
+-- the same, where more may have failed
+pub stopped_later : (r : Result End Stop) (stop : Stop) (a b : Option ℕ) (more : ℕ) → r ≡ Err stop
+    → Fails a b (failed_calls {X = ℕ} (Err stop) + more) → Failures (end_of r) a b
+stopped_later r Fault a b more is fails = subst (λ (e : Result End Stop). Failures (end_of e) a b) (sym is) (1 + more, fails, omega arith)
+stopped_later r (Refused e) a b more is fails = subst (λ (e : Result End Stop). Failures (end_of e) a b) (sym is) (0 + more, fails, tt)
+
+-- ---- what is placed
+
+pub not_whole : (ended : Result Ending Stop) (n : ℕ) → is_whole ended ≡ false → n ≤ 1 → FailsReceiving ended (failed_calls ended + n)
+not_whole (Ok Written) n is few = absurd (cc is)
+not_whole (Ok (Incomplete missing)) n is few = omega (arith, few)
+not_whole (Ok AnotherObject) n is few = omega (arith, few)
+not_whole (Err Fault) n is few = omega arith
+not_whole (Err (Refused e)) n is few = omega (arith, few)
+
+pub whole : (ended : Result Ending Stop) → is_whole ended ≡ true → ended ≡ Ok Written
+whole (Ok Written) is = refl
+whole (Ok (Incomplete missing)) is = absurd (cc is)
+whole (Ok AnotherObject) is = absurd (cc is)
+whole (Err stop) is = absurd (cc is)
+
+-- one call at most fails
+pub once : {X : Type 0} (r : Result X Stop) → failed_calls r ≤ 1
+once (Ok x) = omega arith
+once (Err Fault) = omega arith
+once (Err (Refused e)) = omega arith
+
+-- what isn't whole is taken away
+pub taken_away : {X D : Type 0} (file : Option X) (ended : Result Ending Stop) (finished : Result D Stop) (written old new : Contents) → is_whole ended ≡ false
+    → IsFinished file false finished written old new → IsPlaced file ended written old new
+taken_away None ended finished written old new is h = h
+taken_away (Some file) (Ok Written) finished written old new is h = absurd (cc is)
+taken_away (Some file) (Ok (Incomplete missing)) finished written old new is h = h
+taken_away (Some file) (Ok AnotherObject) finished written old new is h = h
+taken_away (Some file) (Err stop) finished written old new is h = h
+
+-- what is whole couldn't be put there
+pub not_placed : {X : Type 0} (D : Type 0) (file : Option X) (r : Result Ending Stop) (stop : Stop) (written old new : Contents) → r ≡ Err stop
+    → IsFinished {X = X} {D = D} file true (Err stop) written old new → IsPlaced file r written old new
+not_placed D None r stop written old new is h = h
+not_placed D (Some file) r stop written old new is h = subst (λ (e : Result Ending Stop). IsPlaced (Some file) e written old new) (sym is) h
+
+pub fails_at_end : (ended r : Result Ending Stop) (stop : Stop) (a b : Option ℕ) → is_whole ended ≡ true → stop ≡ Fault → r ≡ Err stop
+    → Fails a b (failed_calls {X = ℕ} (Err stop)) → (n : ℕ) × Fails a b n × FailsReceiving r (failed_calls ended + n)
+fails_at_end ended r stop a b is fault ends fails =
+    let once : Fails a b 1 = subst (λ (s : Stop). Fails a b (failed_calls {X = ℕ} (Err s))) fault fails in
+    let of_fault : FailsReceiving (Err Fault) (failed_calls ended + 1) = omega arith in
+    (1, once, subst (λ (e : Result Ending Stop). FailsReceiving e (failed_calls ended + 1)) (sym (ends ∙ ap (λ s. Err s) fault)) of_fault)
+
+-- what is whole is put there
+pub put : {X D : Type 0} (file : Option X) (ended : Result Ending Stop) (d : D) (written old new : Contents) → is_whole ended ≡ true
+    → IsFinished file true (Ok d) written old new → IsPlaced file ended written old new
+put None ended d written old new is h = h
+put (Some file) ended d written old new is h = subst (λ (e : Result Ending Stop). IsPlaced (Some file) e written old new) (sym (whole ended is)) h
+
+pub fails_nowhere : (ended : Result Ending Stop) (a b : Option ℕ) → is_whole ended ≡ true → Fails a b 0
+    → (n : ℕ) × Fails a b n × FailsReceiving ended (failed_calls ended + n)
+fails_nowhere ended a b is fails =
+    (0, fails, subst (λ (e : Result Ending Stop). FailsReceiving e (failed_calls e + 0)) (sym (whole ended is)) refl)

@@ -1,0 +1,3 @@
+pub mod Local
+pub mod Named
+pub mod Parsed

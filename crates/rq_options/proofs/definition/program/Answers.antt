@@ -1,0 +1,13 @@
+use Rattle.std.proofs.Common.{◌∙◌, ap, ap₂}
+use Rattle.std.proofs.lemmas.Result.{IfOk-weaker}
+use Rattle.clap.specs.Words.{App, with_subcommand}
+use Rattle.rq_options.specs.Definition.{program_app}
+use Rattle.rq_options.proofs.definition.program.Goals as goal
+
+pub returns : goal.returns
+unfolding program_app
+returns c = IfOk-weaker c.subcommand-3.result _ _ (λ m h. h.shape c.in_ok-info.ensures.local
+    ∙ ap₂ with_subcommand (c.in_ok-two.ensures.shape c.in_ok-receive.ensures.local
+    ∙ ap₂ with_subcommand (c.in_ok-one.ensures.shape c.in_ok-send.ensures.local
+    ∙ ap₂ with_subcommand c.in_ok-top.ensures (ap (λ (a : App). a.top) c.in_ok-send.ensures.app)) (ap (λ (a : App). a.top) c.in_ok-receive.ensures.app))
+    (ap (λ (a : App). a.top) c.in_ok-info.ensures.app)) c.subcommand-3.ensures

@@ -1,0 +1,2 @@
+pub mod Definition
+pub mod Options

@@ -1,0 +1,217 @@
+//! The words that the program takes. Help, usage and errors follow from them.
+ghost use Rattle.std.specs.Prelude.{◌≡◌, IfOk, false};
+ghost use Rattle.clap.specs.Words.{app_of, rule_of, with_rule};
+ghost use Rattle.clap.specs.declared.builder.command.Command.TheViews.{out-Command};
+ghost use Rattle.rq_options.specs.Definition.{value_rule, flag_rule, file_rule, cells_rule, subcommand_app, top_app, with_common, with_repair, with_ids, with_places, send_app, receive_app, info_app, program_app};
+
+use crate::version::VERSION;
+use clap::{Arg, ArgAction, Command};
+use std::alloc::{AllocError, Global};
+
+const AFTER_HELP: &str = "\
+Examples:
+  rqcast send --loss 10 --rate 400M FILE >/dev/udp/HOST/PORT
+  socat -u -b65536 UDP-RECV:PORT,rcvbuf=4194304 - | rqcast receive -o FILE
+  rqcast info KEPT
+
+It ends with 0 where all is done, 1 after a fault of the system, 2 where too
+little came, 3 where what came is refused or forged, and 64 where the words
+are wrong.";
+
+// An option that takes a value.
+fn value<'a>(alloc: Global, id: &'a str, name: &'a str, help: &'a str) -> Arg<'a>
+    ensures rule { rule_of result ≡ value_rule id.entry.now }
+    ensures local { result.global ≡ false }
+{
+    Arg::new(alloc, id)
+        .long(id)
+        .value_name(name)
+        .action(ArgAction::Set)
+        .help(help)
+}
+
+// An option that is there or not.
+fn flag<'a>(alloc: Global, id: &'a str, help: &'a str) -> Arg<'a>
+    ensures rule { rule_of result ≡ flag_rule id.entry.now }
+    ensures local { result.global ≡ false }
+{
+    Arg::new(alloc, id)
+        .long(id)
+        .action(ArgAction::SetTrue)
+        .help(help)
+}
+
+// The files that are read.
+fn cells<'a>(alloc: Global) -> Arg<'a>
+    ensures rule { rule_of result ≡ cells_rule }
+    ensures local { result.global ≡ false }
+{
+    Arg::new(alloc, "cells")
+        .value_name("CELLS")
+        .action(ArgAction::Append)
+        .help("Files to read in turn, in place of standard input")
+}
+
+// The file that is read.
+fn file<'a>(alloc: Global) -> Arg<'a>
+    ensures rule { rule_of result ≡ file_rule }
+    ensures local { result.global ≡ false }
+{
+    Arg::new(alloc, "file")
+        .value_name("FILE")
+        .action(ArgAction::Set)
+        .help("The file to send, in place of standard input")
+}
+
+// A subcommand with no options yet.
+fn subcommand<'a>(alloc: Global, name: &'a str, about: &'a str) -> Command<'a>
+    ensures app { app_of result ≡ subcommand_app name.entry.now }
+    ensures local { (out-Command result).has_globals ≡ false }
+{
+    Command::new(alloc, name).about(about).version(VERSION)
+}
+
+// With an argument more, which isn't global.
+fn added<'a>(command: Command<'a>, arg: Arg<'a>) -> Result<Command<'a>, AllocError>
+    requires { arg.global ≡ false }
+    ensures app { IfOk result (λ c. app_of c ≡ with_rule (app_of command.entry) (rule_of arg.entry)) }
+    ensures local { IfOk result (λ c. (out-Command c).has_globals ≡ (out-Command command.entry).has_globals) }
+{
+    command.arg(arg)
+}
+
+// With the options that all subcommands have.
+fn common<'a>(alloc: Global, command: Command<'a>) -> Result<Command<'a>, AllocError>
+    ensures app { IfOk result (λ c. app_of c ≡ with_common (app_of command.entry)) }
+    ensures local { IfOk result (λ c. (out-Command c).has_globals ≡ (out-Command command.entry).has_globals) }
+{
+    let quiet = flag(alloc, "quiet", "Say nothing but what went wrong");
+    let one = added(command, quiet.short('q'))?;
+    let progress = flag(alloc, "progress", "Show how far it is, also off a terminal");
+    let two = added(one, progress)?;
+    let json = flag(alloc, "json", "Say all counts as JSON, a line a second");
+    added(two, json)
+}
+
+// The options that say which packets `send` sends.
+fn repaired<'a>(alloc: Global, command: Command<'a>) -> Result<Command<'a>, AllocError>
+    ensures app { IfOk result (λ c. app_of c ≡ with_repair (app_of command.entry)) }
+    ensures local { IfOk result (λ c. (out-Command c).has_globals ≡ (out-Command command.entry).has_globals) }
+{
+    let cell = value(alloc, "cell", "BYTES", "The most bytes of a cell");
+    let one = added(command, cell.short('c').default_value("1472"))?;
+    let loss = value(
+        alloc,
+        "loss",
+        "PERCENT",
+        "The loss in percent to live through, as 5 or 0.5 [default: 5]",
+    );
+    let two = added(one, loss.short('l'))?;
+    let repair = value(
+        alloc,
+        "repair",
+        "N|N%|all",
+        "Repair packets a block, in place of --loss",
+    );
+    added(two, repair.short('r'))
+}
+
+// The options that say which ids `send` sends, and how fast.
+fn numbered<'a>(alloc: Global, command: Command<'a>) -> Result<Command<'a>, AllocError>
+    ensures app { IfOk result (λ c. app_of c ≡ with_ids (app_of command.entry)) }
+    ensures local { IfOk result (λ c. (out-Command c).has_globals ≡ (out-Command command.entry).has_globals) }
+{
+    let rate = value(
+        alloc,
+        "rate",
+        "BITS",
+        "The most bits a second, as 400M or 0.5G",
+    );
+    let one = added(command, rate)?;
+    let share = value(
+        alloc,
+        "share",
+        "I/N",
+        "This sender is number I of N, from 0",
+    );
+    let two = added(one, share)?;
+    let from = value(alloc, "from", "ID", "The first encoding symbol id");
+    added(two, from.default_value("0"))
+}
+
+// The options of `receive` alone.
+fn placed<'a>(alloc: Global, command: Command<'a>) -> Result<Command<'a>, AllocError>
+    ensures app { IfOk result (λ c. app_of c ≡ with_places (app_of command.entry)) }
+    ensures local { IfOk result (λ c. (out-Command c).has_globals ≡ (out-Command command.entry).has_globals) }
+{
+    let output = value(
+        alloc,
+        "output",
+        "FILE",
+        "Write beside FILE, and put it there when it is whole",
+    );
+    let one = added(command, output.short('o'))?;
+    let name = value(
+        alloc,
+        "name",
+        "HEX",
+        "What `send` printed as name, or its beginning",
+    );
+    added(one, name)
+}
+
+/// `send`, with its options.
+pub(crate) fn send<'a>(alloc: Global) -> Result<Command<'a>, AllocError>
+    ensures app { IfOk result (λ c. app_of c ≡ send_app) }
+    ensures local { IfOk result (λ c. (out-Command c).has_globals ≡ false) }
+{
+    let about = "Writes the cells of FILE, or of standard input, on standard output";
+    let repaired = repaired(alloc, subcommand(alloc, "send", about))?;
+    let numbered = numbered(alloc, repaired)?;
+    let common = common(alloc, numbered)?;
+    added(common, file(alloc))
+}
+
+/// `receive`, with its options.
+pub(crate) fn receive<'a>(alloc: Global) -> Result<Command<'a>, AllocError>
+    ensures app { IfOk result (λ c. app_of c ≡ receive_app) }
+    ensures local { IfOk result (λ c. (out-Command c).has_globals ≡ false) }
+{
+    let about = "Writes what was sent, of cells among any bytes";
+    let placed = placed(alloc, subcommand(alloc, "receive", about))?;
+    let common = common(alloc, placed)?;
+    added(common, cells(alloc))
+}
+
+/// `info`, with its options.
+pub(crate) fn info<'a>(alloc: Global) -> Result<Command<'a>, AllocError>
+    ensures app { IfOk result (λ c. app_of c ≡ info_app) }
+    ensures local { IfOk result (λ c. (out-Command c).has_globals ≡ false) }
+{
+    let about = "Lists the objects whose cells stand among any bytes, and what they lack";
+    let common = common(alloc, subcommand(alloc, "info", about))?;
+    added(common, cells(alloc))
+}
+
+// The program with no subcommand yet. Usage names it before a subcommand.
+fn top<'a>(alloc: Global) -> Result<Command<'a>, AllocError>
+    ensures { IfOk result (λ c. app_of c ≡ top_app) }
+{
+    Command::new(alloc, "rqcast")
+        .about("Sends a file as RaptorQ cells over anything that loses or damages, and receives it")
+        .version(VERSION)
+        .after_help(AFTER_HELP)
+        .no_binary_name(true)
+        .subcommand_required(true)
+        .disable_help_subcommand(true)
+        .bin_name("rqcast")
+}
+
+/// All words behind the program's name.
+pub(crate) fn program<'a>(alloc: Global) -> Result<Command<'a>, AllocError>
+    ensures { IfOk result (λ c. app_of c ≡ program_app) }
+{
+    let one = top(alloc)?.subcommand(send(alloc)?)?;
+    let two = one.subcommand(receive(alloc)?)?;
+    two.subcommand(info(alloc)?)
+}

@@ -1,0 +1,40 @@
+use Rattle.std.proofs.Common.{None, Some, map, ◌∙◌}
+use Rattle.std.proofs.lemmas.Result.{err_from_is_err_and}
+use Rattle.clap.specs.Words.{found_of, kind_of, rows_of}
+use Rattle.rq_options.specs.declared.matches.Verb.TheVariants as verb
+use Rattle.rq_words.proofs.Asking.{refused_at_once, refused_then, uses}
+use Rattle.rq_words.proofs.words.job.Goals as goal
+
+pub returns-in_err-matches-clause-refused : goal.returns-in_err-matches-clause-refused
+returns-in_err-matches-clause-refused g c =
+    let p = err_from_is_err_and c.from_residual.result c.from_residual.ensures.1 in
+    rw (p.1, p.2) (refused_at_once (map g.S.AsStr.text c.args.words.now) (kind_of c.in_err-matches.field-0.0) c.in_err-matches.ensures.fails)
+
+pub returns-in_err-send_job-in-Some-Send-default-clause-refused : goal.returns-in_err-send_job-in-Some-Send-default-clause-refused
+returns-in_err-send_job-in-Some-Send-default-clause-refused g c =
+    let p = err_from_is_err_and c.from_residual-in_err-send_job-in-Some-Send-default.result c.from_residual-in_err-send_job-in-Some-Send-default.ensures.1 in
+    rw (p.1, p.2)
+    (refused_then (map g.S.AsStr.text c.args.words.now) (kind_of c.in_err-send_job-in-Some-Send-default.field-0.0)
+    (Some (verb.Send, rows_of (found_of c.in-Some-Send-default.behind.now))) c.in_ok-matches.ensures.fails
+    ((rw c.in-Some-Send-default.field-0-0-is at c.in-Some-Send-default.ensures) ∙ c.in_ok-matches.ensures.used) c.in_err-send_job-in-Some-Send-default.ensures.fails)
+
+pub returns-in_err-receive_job-in-Some-Receive-default-clause-refused : goal.returns-in_err-receive_job-in-Some-Receive-default-clause-refused
+returns-in_err-receive_job-in-Some-Receive-default-clause-refused g c =
+    let p = err_from_is_err_and c.from_residual-in_err-receive_job-in-Some-Receive-default.result c.from_residual-in_err-receive_job-in-Some-Receive-default.ensures.1 in
+    rw (p.1, p.2)
+    (refused_then (map g.S.AsStr.text c.args.words.now) (kind_of c.in_err-receive_job-in-Some-Receive-default.field-0.0)
+    (Some (verb.Receive, rows_of (found_of c.in-Some-Receive-default.behind.now))) c.in_ok-matches.ensures.fails
+    ((rw c.in-Some-Receive-default.field-0-0-is at c.in-Some-Receive-default.ensures) ∙ c.in_ok-matches.ensures.used) c.in_err-receive_job-in-Some-Receive-default.ensures.fails)
+
+pub returns-in_err-info_job-in-Some-Info-default-clause-refused : goal.returns-in_err-info_job-in-Some-Info-default-clause-refused
+returns-in_err-info_job-in-Some-Info-default-clause-refused g c =
+    let p = err_from_is_err_and c.from_residual-in_err-info_job-in-Some-Info-default.result c.from_residual-in_err-info_job-in-Some-Info-default.ensures.1 in
+    rw (p.1, p.2)
+    (refused_then (map g.S.AsStr.text c.args.words.now) (kind_of c.in_err-info_job-in-Some-Info-default.field-0.0)
+    (Some (verb.Info, rows_of (found_of c.in-Some-Info-default.behind.now))) c.in_ok-matches.ensures.fails
+    ((rw c.in-Some-Info-default.field-0-0-is at c.in-Some-Info-default.ensures) ∙ c.in_ok-matches.ensures.used) c.in_err-info_job-in-Some-Info-default.ensures.fails)
+
+pub returns-clause-refused : goal.returns-clause-refused
+returns-clause-refused g c =
+    refused_then (map g.S.AsStr.text c.args.words.now) (kind_of c.no_subcommand.result) None c.in_ok-matches.ensures.fails
+    (c.in-None.ensures ∙ c.in_ok-matches.ensures.used) c.no_subcommand.ensures

@@ -1,0 +1,189 @@
+-- What the program's words ask for, and how they are refused.
+use Rattle.std.specs.Prelude.{◌≡◌, ◌⊎◌, ⊤, ℕ, ◌+◌, ◌<◌, List, [], ◌∷◌, Option, Some, None, Result, Ok, Err, map, option_map, codes, Bool, true, false}
+use Rattle.clap.specs.Words.{IsAmong, Kinds, Row, first_of}
+use Rattle.clap.specs.Kinds.{or_else}
+use Rattle.clap.specs.declared.error.kind.ErrorKind.{ErrorKind}
+use Rattle.clap.specs.declared.error.kind.ErrorKind.TheVariants.{ArgumentConflict, MissingSubcommand, OutOfMemory, ValueValidation}
+use Rattle.rq_cast.specs.declared.order.Ids.{Ids}
+use Rattle.rq_cast.specs.declared.order.Order.{Order}
+use Rattle.rq_cast.specs.declared.series.Repair.{Repair}
+use Rattle.rq_cast.specs.declared.series.Repair.TheVariants.{Against}
+use Rattle.rq_options.specs.declared.matches.Verb.{Verb}
+use Rattle.rq_options.specs.declared.matches.Verb.TheVariants as verb
+use Rattle.rq_options.specs.declared.misuse.Misuse.{Misuse}
+use Rattle.rq_options.specs.Definition.{faults_of}
+use Rattle.rq_options.specs.Options.{is_flagged, misuse_kind, text_or, texts_of, verb_used}
+use Rattle.rq_words.specs.declared.jobs.Telling.{Telling}
+use Rattle.rq_words.specs.declared.jobs.Telling.TheVariants.{Usual, Quiet, Progress, Json}
+use Rattle.rq_words.specs.declared.jobs.SendJob.{SendJob}
+use Rattle.rq_words.specs.declared.jobs.ReceiveJob.{ReceiveJob}
+use Rattle.rq_words.specs.declared.jobs.InfoJob.{InfoJob}
+use Rattle.rq_words.specs.declared.jobs.Job.{Job}
+use Rattle.rq_words.specs.declared.jobs.Job.TheVariants.{Send, Receive, Info}
+use Rattle.rq_words.specs.Values.{symbol_size_of, loss_of, repair_of, rate_of, id_of, share_of, name_of}
+
+-- What is asked for, or the kind of its refusal: the first one in the order in which the options are read.
+abbrev pub Asked : Type 0 → Type 0
+Asked X = Result X ErrorKind
+
+-- that of an answer
+abbrev pub asked : {X : Type 0} → Result X Misuse → Asked X
+asked (Ok x) = Ok x
+asked (Err misuse) = Err (misuse_kind misuse)
+
+-- what a text says, where it says anything
+abbrev pub valued : {X : Type 0} → Option X → Asked X
+valued None = Err ValueValidation
+valued (Some x) = Ok x
+
+-- the next one, where this isn't refused
+abbrev pub and_then : {X Y : Type 0} → Asked X → (X → Asked Y) → Asked Y
+and_then (Ok x) next = next x
+and_then (Err kind) next = Err kind
+
+-- one and the other, of which the first is refused first
+abbrev pub both : {X Y : Type 0} → Asked X → Asked Y → Asked (X × Y)
+both (Err kind) other = Err kind
+both (Ok x) (Err kind) = Err kind
+both (Ok x) (Ok y) = Ok (x, y)
+
+-- ---- send
+
+unfoldable pub symbol_size_asked : List Row → Asked ℕ
+symbol_size_asked rows = valued (symbol_size_of (text_or rows (codes "cell") []))
+
+-- --repair, or --loss, which is 5 percent where neither is said, and not both
+abbrev pub repair_by : Option (List ℕ) → Option (List ℕ) → Asked Repair
+repair_by None None = valued (option_map Against (loss_of (codes "5")))
+repair_by (Some loss) None = valued (option_map Against (loss_of loss))
+repair_by None (Some repair) = valued (repair_of repair)
+repair_by (Some loss) (Some repair) = Err ArgumentConflict
+
+unfoldable pub repair_asked : List Row → Asked Repair
+repair_asked rows = repair_by (first_of (codes "loss") rows) (first_of (codes "repair") rows)
+
+-- no rate where none is said
+abbrev pub rate_by : Option (List ℕ) → Asked (Option ℕ)
+rate_by None = Ok None
+rate_by (Some text) = valued (option_map (λ n. Some n) (rate_of text))
+
+unfoldable pub rate_asked : List Row → Asked (Option ℕ)
+rate_asked rows = rate_by (first_of (codes "rate") rows)
+
+-- the only sender where no share is said
+abbrev pub share_by : Option (List ℕ) → Asked (ℕ × ℕ)
+share_by None = Ok (0, 1)
+share_by (Some text) = valued (share_of text)
+
+unfoldable pub share_asked : List Row → Asked (ℕ × ℕ)
+share_asked rows = share_by (first_of (codes "share") rows)
+
+unfoldable pub from_asked : List Row → Asked ℕ
+from_asked rows = valued (id_of (text_or rows (codes "from") (codes "0")))
+
+-- from the first id on every nth one, behind those of the senders before this one
+unfoldable pub ids_asked : List Row → Asked Ids
+ids_asked rows = and_then (rate_asked rows) (λ rate. and_then (share_asked rows) (λ share. and_then (from_asked rows) (λ from. Ok (record {
+  first = from + share.0;
+  step = share.1;
+  rate = rate;
+}))))
+
+unfoldable pub order_asked : List Row → Asked Order
+order_asked rows = and_then (symbol_size_asked rows) (λ size. and_then (repair_asked rows) (λ repair. and_then (ids_asked rows) (λ ids. Ok (record {
+  symbol_size = size;
+  repair = repair;
+  ids = ids;
+}))))
+
+-- ---- what all have
+
+-- one of three flags at most
+abbrev pub telling_by : Bool → Bool → Bool → Asked Telling
+telling_by false false false = Ok Usual
+telling_by true false false = Ok Quiet
+telling_by false true false = Ok Progress
+telling_by false false true = Ok Json
+telling_by _ _ _ = Err ArgumentConflict
+
+unfoldable pub telling_asked : List Row → Asked Telling
+telling_asked rows = telling_by (is_flagged rows (codes "quiet")) (is_flagged rows (codes "progress")) (is_flagged rows (codes "json"))
+
+-- ---- jobs
+
+-- what is sent, and what is told
+abbrev pub send_asked : List Row → Asked (Order × Telling)
+send_asked rows = both (order_asked rows) (telling_asked rows)
+
+-- a name, or none
+abbrev pub name_by : Option (List ℕ) → Asked (List ℕ)
+name_by None = Ok []
+name_by (Some text) = valued (name_of text)
+
+unfoldable pub name_asked : List Row → Asked (List ℕ)
+name_asked rows = name_by (first_of (codes "name") rows)
+
+-- what is received, and what is told
+abbrev pub receive_asked : List Row → Asked (List ℕ × Telling)
+receive_asked rows = both (name_asked rows) (telling_asked rows)
+
+pub record IsSendOf (rows : List Row) (job : SendJob) : Type 0 where
+  pub asked_for : send_asked rows ≡ Ok (job.order, job.telling)
+  pub files : map (λ s. s.now) job.files.items ≡ texts_of rows (codes "file")
+
+pub record IsReceiveOf (rows : List Row) (job : ReceiveJob) : Type 0 where
+  pub asked_for : receive_asked rows ≡ Ok (job.name.items, job.telling)
+  pub output : option_map (λ s. s.now) job.output ≡ first_of (codes "output") rows
+  pub files : map (λ s. s.now) job.files.items ≡ texts_of rows (codes "cells")
+
+pub record IsInfoOf (rows : List Row) (job : InfoJob) : Type 0 where
+  pub asked_for : telling_asked rows ≡ Ok job.telling
+  pub files : map (λ s. s.now) job.files.items ≡ texts_of rows (codes "cells")
+
+-- The parser finds no fault in the words, and among them a subcommand with these rows.
+pub record Uses (words : List (List ℕ)) (v : Verb) (rows : List Row) : Type 0 where
+  pub faultless : faults_of words ≡ []
+  pub used : verb_used words ≡ Some (v, rows)
+
+-- the words ask for a job
+abbrev pub AsksFor : List (List ℕ) → Job → Type 0
+AsksFor words (Send job) = (rows : List Row) × Uses words verb.Send rows × IsSendOf rows job
+AsksFor words (Receive job) = (rows : List Row) × Uses words verb.Receive rows × IsReceiveOf rows job
+AsksFor words (Info job) = (rows : List Row) × Uses words verb.Info rows × IsInfoOf rows job
+
+-- the ids of an order go on from one to the next
+abbrev pub StepsOn : Job → Type 0
+StepsOn (Send job) = 0 < job.order.ids.step
+StepsOn (Receive job) = ⊤
+StepsOn (Info job) = ⊤
+
+-- ---- words that ask for nothing
+
+-- the kind of a refusal, where there is one
+abbrev pub kinds_of : {X : Type 0} → Asked X → Kinds
+kinds_of (Ok x) = []
+kinds_of (Err kind) = kind ∷ []
+
+-- of the options of a subcommand
+abbrev pub misuses_behind : Verb → List Row → Kinds
+misuses_behind verb.Send rows = kinds_of (send_asked rows)
+misuses_behind verb.Receive rows = kinds_of (receive_asked rows)
+misuses_behind verb.Info rows = kinds_of (telling_asked rows)
+
+-- of the subcommand that is used, and that none is
+abbrev pub misuses_of : Option (Verb × List Row) → Kinds
+misuses_of None = MissingSubcommand ∷ []
+misuses_of (Some used) = misuses_behind used.0 used.1
+
+-- What the parser finds at fault comes first, and where it finds nothing, the first of the options that is refused.
+unfoldable pub refusals_of : List (List ℕ) → Kinds
+refusals_of words = or_else (faults_of words) (misuses_of (verb_used words))
+
+-- They ask for no job, and are refused for this.
+pub record IsRefusedFor (words : List (List ℕ)) (kind : ErrorKind) : Type 0 where
+  pub among : IsAmong kind (refusals_of words)
+  pub none : (job : Job) → AsksFor words job → ⊥
+
+-- memory may be refused before that
+abbrev pub IsRefused : List (List ℕ) → ErrorKind → Type 0
+IsRefused words kind = (kind ≡ OutOfMemory) ⊎ IsRefusedFor words kind

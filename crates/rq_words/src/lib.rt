@@ -1,0 +1,10 @@
+//! What the words of `rqcast` ask for.
+#![tactic(auto)]
+
+mod jobs;
+mod numbers;
+mod values;
+mod words;
+
+pub use jobs::{InfoJob, Job, ReceiveJob, SendJob, Telling};
+pub use words::job;

@@ -1,0 +1,141 @@
+//! What the values of options say.
+ghost use Rattle.std.specs.Prelude.{◌≡◌, ◌<◌, option_map, IfOk, IfSome};
+ghost use Rattle.rq_words.specs.Values.{symbol_size_of, percent_of, packets_of, loss_of, repair_of, rate_of, id_of, share_of, sized, is_refused, name_of};
+
+use crate::numbers::{count, scaled};
+use hex::FromHexError;
+use raptorq::base::ENCODING_SYMBOL_IDS;
+use rq_cast::{Loss, Repair};
+use std::alloc::{AllocError, Global};
+
+// How many bytes a cell has beside its symbol, and at most.
+const BESIDE_SYMBOL: u64 = 48;
+
+const LONGEST_CELL: u64 = 65_583;
+
+// How many hundred-thousandths of all are lost at most: half.
+const GREATEST_LOSS: u32 = 50_000;
+
+// How many bytes a name and a configuration have.
+const LONGEST_NAME: usize = 28;
+
+/// The most bytes of a symbol, where a cell has as many as a text says: from 49 to 65583.
+#[tactic(auto, using(std::proofs::lemmas::Bool::Decides::nat_tests), unfolding(crate::specs::Values::symbol_size_of))]
+pub(crate) fn symbol_size(text: &str) -> Option<u16>
+    ensures { result ≡ symbol_size_of text.now }
+{
+    match count(text) {
+        Some(size) if size > BESIDE_SYMBOL && size <= LONGEST_CELL => {
+            Some((size - BESIDE_SYMBOL) as u16)
+        }
+        _ => None,
+    }
+}
+
+// So many percent, in hundred-thousandths.
+#[tactic(auto, unfolding(crate::specs::Values::percent_of))]
+fn percent(text: &str) -> Option<u32>
+    ensures { result ≡ percent_of text.now }
+{
+    u32::try_from(scaled(text, 3)?).ok()
+}
+
+// A number of packets.
+#[tactic(auto, unfolding(crate::specs::Values::packets_of))]
+fn packets(text: &str) -> Option<u32>
+    ensures { result ≡ packets_of text.now }
+{
+    u32::try_from(count(text)?).ok()
+}
+
+/// The part of all cells that is lost, in percent, up to 50.
+#[tactic(auto, using(std::proofs::lemmas::Bool::Decides::nat_tests), unfolding(crate::specs::Values::loss_of))]
+pub(crate) fn loss(text: &str) -> Option<Loss>
+    ensures { result ≡ loss_of text.now }
+{
+    match percent(text) {
+        Some(parts) if parts <= GREATEST_LOSS => Some(Loss { parts }),
+        _ => None,
+    }
+}
+
+/// How many repair packets a text asks for: a number, one with a percent sign behind it, or all.
+#[tactic(auto, unfolding(crate::specs::Values::repair_of))]
+pub(crate) fn repair(text: &str) -> Option<Repair>
+    ensures { result ≡ repair_of text.now }
+{
+    if text == "all" {
+        return Some(Repair::All);
+    }
+    match text.strip_suffix('%') {
+        Some(number) => Some(Repair::Share(percent(number)?)),
+        None => Some(Repair::Packets(packets(text)?)),
+    }
+}
+
+/// How many bits a second a text asks for, not 0.
+#[tactic(auto, using(std::proofs::lemmas::Bool::Decides::nat_tests), unfolding(crate::specs::Values::rate_of))]
+pub(crate) fn rate(text: &str) -> Option<u64>
+    ensures { result ≡ rate_of text.now }
+{
+    match count(text) {
+        Some(rate) if rate > 0 => Some(rate),
+        _ => None,
+    }
+}
+
+/// An encoding symbol id, of 24 bits.
+#[tactic(auto, using(std::proofs::lemmas::Bool::Decides::nat_tests), unfolding(crate::specs::Values::id_of))]
+pub(crate) fn id(text: &str) -> Option<u32>
+    ensures value { result ≡ id_of text.now }
+    ensures few { IfSome result (λ id. id < 16777216) }
+{
+    match count(text) {
+        Some(id) if id < u64::from(ENCODING_SYMBOL_IDS) => Some(id as u32),
+        _ => None,
+    }
+}
+
+/// Which sender it is, from 0, and of how many.
+#[tactic(auto, unfolding(crate::specs::Values::share_of))]
+pub(crate) fn share(text: &str) -> Option<(u32, u32)>
+    ensures value { result ≡ share_of text.now }
+    ensures below { IfSome result (λ share. share.0 < share.1) }
+    ensures few { IfSome result (λ share. share.1 < 16777216) }
+{
+    let (number, all) = text.split_once('/')?;
+    match (id(number), id(all)) {
+        (Some(number), Some(all)) if number < all => Some((number, all)),
+        _ => None,
+    }
+}
+
+// Bytes, where a name and a configuration may begin with so many.
+#[tactic(auto, using(std::proofs::lemmas::Bool::Decides::nat_tests))]
+fn sized(bytes: Vec<u8>) -> Option<Vec<u8>>
+    ensures { option_map (λ v. v.items) result ≡ sized bytes.items }
+{
+    if bytes.len() > 0 && bytes.len() <= LONGEST_NAME {
+        Some(bytes)
+    } else {
+        None
+    }
+}
+
+// Whether memory was refused for a text's bytes.
+fn is_refused(error: &FromHexError) -> bool
+    ensures { result ≡ is_refused error.now }
+{
+    matches!(error, FromHexError::OutOfMemory)
+}
+
+/// How name and configuration begin: 1 to 28 bytes, in two hexadecimal digits each.
+pub(crate) fn name(alloc: Global, text: &str) -> Result<Option<Vec<u8>>, AllocError>
+    ensures { IfOk result (λ name. option_map (λ v. v.items) name ≡ name_of text.now) }
+{
+    match hex::decode(alloc, text) {
+        Ok(bytes) => Ok(sized(bytes)),
+        Err(error) if is_refused(&error) => Err(AllocError),
+        Err(_) => Ok(None),
+    }
+}

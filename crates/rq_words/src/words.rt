@@ -1,0 +1,296 @@
+//! What the program's words ask for.
+ghost use Rattle.std.specs.Prelude.{◌≡◌, ◌<◌, map, option_map, IfOk, IfErr};
+ghost use Rattle.std.specs.Result.{result_map_both};
+ghost use Rattle.clap.specs.Words.{FailsBy, found_of, kind_of, rows_of};
+ghost use Rattle.rq_words.specs.Values.{loss_of, repair_of};
+ghost use Rattle.rq_words.specs.Asked.{asked, kinds_of, valued, symbol_size_asked, repair_asked, rate_asked, share_asked, from_asked, ids_asked, order_asked, telling_asked, send_asked, name_asked, receive_asked, IsSendOf, IsReceiveOf, IsInfoOf, AsksFor, StepsOn, IsRefused};
+
+use crate::jobs::{InfoJob, Job, ReceiveJob, SendJob, Telling};
+use crate::values;
+use clap::{ArgMatches, Error};
+use rq_cast::{Ids, Order, Repair};
+use rq_options::{
+    Misuse, Verb, is_flagged, matches_of, no_subcommand, text_of, text_or, texts_of, used,
+};
+use std::alloc::{AllocError, Global};
+use std::convert::AsStr;
+
+// The loss that is lived through where no word says one.
+const USUAL_LOSS: &str = "5";
+
+// How many bytes a symbol has at most.
+#[tactic(auto, unfolding(crate::specs::Asked::symbol_size_asked))]
+fn symbol_size_of<'a>(matches: &ArgMatches<'a>) -> Result<u16, Misuse<'a>>
+    ensures { asked result ≡ symbol_size_asked (rows_of (found_of matches.now)) }
+{
+    let text = text_or(matches, "cell", "");
+    match values::symbol_size(text) {
+        Some(size) => Ok(size),
+        None => Err(Misuse::Value {
+            option: "--cell <BYTES>",
+            takes: "a number from 49 to 65583",
+            text,
+        }),
+    }
+}
+
+// How many repair packets there are.
+#[tactic(auto, unfolding(crate::specs::Asked::repair_asked))]
+fn repair_of<'a>(matches: &ArgMatches<'a>) -> Result<Repair, Misuse<'a>>
+    ensures { asked result ≡ repair_asked (rows_of (found_of matches.now)) }
+{
+    match (text_of(matches, "loss"), text_of(matches, "repair")) {
+        (Some(_), Some(_)) => Err(Misuse::Together {
+            one: "--loss <PERCENT>",
+            other: "--repair <N|N%|all>",
+        }),
+        (None, Some(text)) => repaired(text),
+        (Some(text), None) => against(text),
+        (None, None) => against(USUAL_LOSS),
+    }
+}
+
+// As many as a text asks for.
+fn repaired(text: &str) -> Result<Repair, Misuse<'_>>
+    ensures { asked result ≡ valued (repair_of text.now) }
+{
+    match values::repair(text) {
+        Some(repair) => Ok(repair),
+        None => Err(Misuse::Value {
+            option: "--repair <N|N%|all>",
+            takes: "a number, a percentage as 15%, or all",
+            text,
+        }),
+    }
+}
+
+// As many as a loss asks for.
+fn against(text: &str) -> Result<Repair, Misuse<'_>>
+    ensures { asked result ≡ valued (option_map (λ loss. Repair.Against loss) (loss_of text.now)) }
+{
+    match values::loss(text) {
+        Some(loss) => Ok(Repair::Against(loss)),
+        None => Err(Misuse::Value {
+            option: "--loss <PERCENT>",
+            takes: "a percentage up to 50, as 5 or 0.5",
+            text,
+        }),
+    }
+}
+
+// How many bits a second are sent at most, where that is said.
+#[tactic(auto, unfolding(crate::specs::Asked::rate_asked))]
+fn rate_of<'a>(matches: &ArgMatches<'a>) -> Result<Option<u64>, Misuse<'a>>
+    ensures { asked result ≡ rate_asked (rows_of (found_of matches.now)) }
+{
+    let Some(text) = text_of(matches, "rate") else {
+        return Ok(None);
+    };
+    match values::rate(text) {
+        Some(rate) => Ok(Some(rate)),
+        None => Err(Misuse::Value {
+            option: "--rate <BITS>",
+            takes: "bits a second, as 400M or 0.5G, not 0",
+            text,
+        }),
+    }
+}
+
+// Which sender this is, and of how many.
+#[tactic(auto, unfolding(crate::specs::Asked::share_asked))]
+fn share_of<'a>(matches: &ArgMatches<'a>) -> Result<(u32, u32), Misuse<'a>>
+    ensures value { asked result ≡ share_asked (rows_of (found_of matches.now)) }
+    ensures below { IfOk result (λ share. share.0 < share.1) }
+    ensures few { IfOk result (λ share. share.1 < 16777216) }
+{
+    let Some(text) = text_of(matches, "share") else {
+        return Ok((0, 1));
+    };
+    match values::share(text) {
+        Some(share) => Ok(share),
+        None => Err(Misuse::Value {
+            option: "--share <I/N>",
+            takes: "a number, a stroke and a greater one, as 3/20",
+            text,
+        }),
+    }
+}
+
+// The first id.
+#[tactic(auto, unfolding(crate::specs::Asked::from_asked))]
+fn from_of<'a>(matches: &ArgMatches<'a>) -> Result<u32, Misuse<'a>>
+    ensures value { asked result ≡ from_asked (rows_of (found_of matches.now)) }
+    ensures few { IfOk result (λ id. id < 16777216) }
+{
+    let text = text_or(matches, "from", "0");
+    match values::id(text) {
+        Some(id) => Ok(id),
+        None => Err(Misuse::Value {
+            option: "--from <ID>",
+            takes: "a number below 16777216",
+            text,
+        }),
+    }
+}
+
+// Which ids are sent, and how fast: of n senders each sends every nth one.
+#[tactic(auto, unfolding(crate::specs::Asked::ids_asked))]
+fn ids_of<'a>(matches: &ArgMatches<'a>) -> Result<Ids, Misuse<'a>>
+    ensures steps { IfOk result (λ ids. 0 < ids.step) }
+    ensures value { asked result ≡ ids_asked (rows_of (found_of matches.now)) }
+{
+    let rate = rate_of(matches)?;
+    let (number, step) = share_of(matches)?;
+    let from = from_of(matches)?;
+    Ok(Ids {
+        first: from + number,
+        step,
+        rate,
+    })
+}
+
+// How an object is sent.
+#[tactic(auto, unfolding(crate::specs::Asked::order_asked))]
+fn order_of<'a>(matches: &ArgMatches<'a>) -> Result<Order, Misuse<'a>>
+    ensures steps { IfOk result (λ order. 0 < order.ids.step) }
+    ensures value { asked result ≡ order_asked (rows_of (found_of matches.now)) }
+{
+    let symbol_size = symbol_size_of(matches)?;
+    let repair = repair_of(matches)?;
+    let ids = ids_of(matches)?;
+    Ok(Order {
+        symbol_size,
+        repair,
+        ids,
+    })
+}
+
+// What is told.
+#[tactic(auto, unfolding(crate::specs::Asked::telling_asked))]
+fn telling_of<'a>(matches: &ArgMatches<'a>) -> Result<Telling, Misuse<'a>>
+    ensures { asked result ≡ telling_asked (rows_of (found_of matches.now)) }
+{
+    let quiet = is_flagged(matches, "quiet");
+    let progress = is_flagged(matches, "progress");
+    let json = is_flagged(matches, "json");
+    match (quiet, progress, json) {
+        (false, false, false) => Ok(Telling::Usual),
+        (true, false, false) => Ok(Telling::Quiet),
+        (false, true, false) => Ok(Telling::Progress),
+        (false, false, true) => Ok(Telling::Json),
+        (true, true, _) => Err(Misuse::Together {
+            one: "--quiet",
+            other: "--progress",
+        }),
+        (_, _, true) => Err(Misuse::Together {
+            one: if quiet { "--quiet" } else { "--progress" },
+            other: "--json",
+        }),
+    }
+}
+
+// How an object is sent, and what is told.
+fn sending_of<'a>(matches: &ArgMatches<'a>) -> Result<(Order, Telling), Misuse<'a>>
+    ensures steps { IfOk result (λ sending. 0 < sending.0.ids.step) }
+    ensures value { asked result ≡ send_asked (rows_of (found_of matches.now)) }
+{
+    let order = order_of(matches)?;
+    let telling = telling_of(matches)?;
+    Ok((order, telling))
+}
+
+// How an object is sent, and which.
+fn send_job<'a>(alloc: Global, matches: &ArgMatches<'a>) -> Result<SendJob<'a>, Error>
+    ensures job { IfOk result (IsSendOf (rows_of (found_of matches.now))) }
+    ensures steps { IfOk result (λ job. 0 < job.order.ids.step) }
+    ensures fails { FailsBy (kinds_of (send_asked (rows_of (found_of matches.now)))) result }
+{
+    let (order, telling) = match sending_of(matches) {
+        Ok(sending) => sending,
+        Err(misuse) => return Err(misuse.error(alloc, Verb::Send)),
+    };
+    let files = texts_of(alloc, matches, "file")?;
+    Ok(SendJob {
+        order,
+        files,
+        telling,
+    })
+}
+
+// How name and configuration begin.
+#[tactic(auto, unfolding(crate::specs::Asked::name_asked))]
+fn name_of<'a>(
+    alloc: Global,
+    matches: &ArgMatches<'a>,
+) -> Result<Result<Vec<u8>, Misuse<'a>>, AllocError>
+    ensures { IfOk result (λ name. asked (result_map_both (λ v. v.items) (λ misuse. misuse) name) ≡ name_asked (rows_of (found_of matches.now))) }
+{
+    let Some(text) = text_of(matches, "name") else {
+        return Ok(Ok(Vec::new(alloc)));
+    };
+    match values::name(alloc, text)? {
+        Some(name) => Ok(Ok(name)),
+        None => Ok(Err(Misuse::Value {
+            option: "--name <HEX>",
+            takes: "2 to 56 hexadecimal digits, an even number of them",
+            text,
+        })),
+    }
+}
+
+// Which object is received, and where from and to.
+fn receive_job<'a>(alloc: Global, matches: &ArgMatches<'a>) -> Result<ReceiveJob<'a>, Error>
+    ensures job { IfOk result (IsReceiveOf (rows_of (found_of matches.now))) }
+    ensures fails { FailsBy (kinds_of (receive_asked (rows_of (found_of matches.now)))) result }
+{
+    let name = match name_of(alloc, matches)? {
+        Ok(name) => name,
+        Err(misuse) => return Err(misuse.error(alloc, Verb::Receive)),
+    };
+    let telling = match telling_of(matches) {
+        Ok(telling) => telling,
+        Err(misuse) => return Err(misuse.error(alloc, Verb::Receive)),
+    };
+    let files = texts_of(alloc, matches, "cells")?;
+    Ok(ReceiveJob {
+        name,
+        output: text_of(matches, "output"),
+        files,
+        telling,
+    })
+}
+
+// Which bytes are looked through.
+fn info_job<'a>(alloc: Global, matches: &ArgMatches<'a>) -> Result<InfoJob<'a>, Error>
+    ensures job { IfOk result (IsInfoOf (rows_of (found_of matches.now))) }
+    ensures fails { FailsBy (kinds_of (telling_asked (rows_of (found_of matches.now)))) result }
+{
+    let telling = match telling_of(matches) {
+        Ok(telling) => telling,
+        Err(misuse) => return Err(misuse.error(alloc, Verb::Info)),
+    };
+    let files = texts_of(alloc, matches, "cells")?;
+    Ok(InfoJob { files, telling })
+}
+
+/// What the words after the program's name ask for, of those that `rqcast --help` names.
+///
+/// Refuses what the parser refuses, requests for help and the version among it. Then it refuses the first
+/// of these: a value that its option doesn't take, of `--cell`, `--loss` or `--repair`, `--rate`, `--share`,
+/// `--from` and `--name` in this order, where `--loss` beside `--repair` stands for theirs; and two of
+/// `--quiet`, `--progress` and `--json`. [`ErrorKind::OutOfMemory`](clap::error::ErrorKind) may come
+/// before any of them.
+pub fn job<'a, S: AsStr>(alloc: Global, words: &'a [S]) -> Result<Job<'a>, Error>
+    ensures job { IfOk result (AsksFor (map S.text words.entry.now)) }
+    ensures steps { IfOk result StepsOn }
+    ensures refused { IfErr result (λ e. IsRefused (map S.text words.entry.now) (kind_of e)) }
+{
+    let matches = matches_of(alloc, words)?;
+    match used(&matches) {
+        Some((Verb::Send, behind)) => Ok(Job::Send(send_job(alloc, behind)?)),
+        Some((Verb::Receive, behind)) => Ok(Job::Receive(receive_job(alloc, behind)?)),
+        Some((Verb::Info, behind)) => Ok(Job::Info(info_job(alloc, behind)?)),
+        // There are no others, and one is required.
+        None => Err(no_subcommand(alloc)),
+    }
+}
