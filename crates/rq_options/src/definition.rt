@@ -63,12 +63,15 @@ fn file<'a>(alloc: Global) -> Arg<'a>
         .help("The file to send, in place of standard input")
 }
 
-// A subcommand with no options yet.
-fn subcommand<'a>(alloc: Global, name: &'a str, about: &'a str) -> Command<'a>
-    ensures app { app_of result ≡ subcommand_app name.entry.now }
-    ensures local { (out-Command result).has_globals ≡ false }
+// A subcommand with no options yet. Its version is the program's.
+fn subcommand<'a>(alloc: Global, name: &'a str, about: &'a str) -> Result<Command<'a>, AllocError>
+    ensures app { IfOk result (λ c. app_of c ≡ subcommand_app name.entry.now) }
+    ensures local { IfOk result (λ c. (out-Command c).has_globals ≡ false) }
 {
-    Command::new(alloc, name).about(about).version(VERSION)
+    Command::new(alloc, name)
+        .about(about)
+        .version(VERSION)
+        .display_name("rqcast")
 }
 
 // With an argument more, which isn't global.
@@ -166,7 +169,7 @@ pub(crate) fn send<'a>(alloc: Global) -> Result<Command<'a>, AllocError>
     ensures local { IfOk result (λ c. (out-Command c).has_globals ≡ false) }
 {
     let about = "Writes the cells of FILE, or of standard input, on standard output";
-    let repaired = repaired(alloc, subcommand(alloc, "send", about))?;
+    let repaired = repaired(alloc, subcommand(alloc, "send", about)?)?;
     let numbered = numbered(alloc, repaired)?;
     let common = common(alloc, numbered)?;
     added(common, file(alloc))
@@ -178,7 +181,7 @@ pub(crate) fn receive<'a>(alloc: Global) -> Result<Command<'a>, AllocError>
     ensures local { IfOk result (λ c. (out-Command c).has_globals ≡ false) }
 {
     let about = "Writes what was sent, of cells among any bytes";
-    let placed = placed(alloc, subcommand(alloc, "receive", about))?;
+    let placed = placed(alloc, subcommand(alloc, "receive", about)?)?;
     let common = common(alloc, placed)?;
     added(common, cells(alloc))
 }
@@ -189,7 +192,7 @@ pub(crate) fn info<'a>(alloc: Global) -> Result<Command<'a>, AllocError>
     ensures local { IfOk result (λ c. (out-Command c).has_globals ≡ false) }
 {
     let about = "Lists the objects whose cells stand among any bytes, and what they lack";
-    let common = common(alloc, subcommand(alloc, "info", about))?;
+    let common = common(alloc, subcommand(alloc, "info", about)?)?;
     added(common, cells(alloc))
 }
 

@@ -7,7 +7,7 @@ use Rattle.rq_options.proofs.definition.info.Goals as goal
 pub returns-clause-app : goal.returns-clause-app
 unfolding info_app
 returns-clause-app c = IfOk-weaker c.added.result _ _ (λ m h. h
-    ∙ ap₂ with_rule (c.in_ok-common.ensures.app ∙ ap with_common c.subcommand.ensures.app) c.cells.ensures.rule) c.added.ensures.app
+    ∙ ap₂ with_rule (c.in_ok-common.ensures.app ∙ ap with_common c.in_ok-subcommand.ensures.app) c.cells.ensures.rule) c.added.ensures.app
 
 pub returns-clause-local : goal.returns-clause-local
-returns-clause-local c = IfOk-weaker c.added.result _ _ (λ m h. h ∙ c.in_ok-common.ensures.local ∙ c.subcommand.ensures.local) c.added.ensures.local
+returns-clause-local c = IfOk-weaker c.added.result _ _ (λ m h. h ∙ c.in_ok-common.ensures.local ∙ c.in_ok-subcommand.ensures.local) c.added.ensures.local
