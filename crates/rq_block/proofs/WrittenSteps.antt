@@ -1,13 +1,13 @@
 -- Packets of a block, written one behind another.
-use Rattle.std.proofs.Common.{◌≡◌, ℕ, suc, ◌+◌, ◌-◌, ◌*◌, ◌<◌, ◌≤◌, ◌^◌, List, [], ◌∷◌, ◌++◌, length, take, drop, refl, sym, ap, ◌∙◌, subst, arith, append_assoc}
+use Rattle.std.proofs.Common.{◌≡◌, ℕ, suc, ◌+◌, ◌-◌, ◌*◌, ◌<◌, ◌≤◌, ◌^◌, List, [], ◌∷◌, ◌++◌, length, take, drop, refl, sym, ap, ◌∙◌, arith, append_assoc}
 use Rattle.std.proofs.Math.Seq.{take-append_seam}
 use Rattle.std.proofs.lemmas.List.{length-take-le, length-append}
 use Rattle.rq_bytes.specs.Ranges.{with_range}
-use Rattle.rq_standard.specs.Packet.{Packet, packet_bytes}
+use Rattle.rq_standard.specs.Packet.{Packet}
 use Rattle.rq_standard.specs.Streams.{frames_of}
 use Rattle.rq_standard.proofs.FrameLaws.{frames_of-push}
 use Rattle.rq_block.specs.SourceBlockEncoder.{BlockEncoded}
-use Rattle.rq_block.specs.WrittenPackets.{AreStretchBytes, IsFrame, WritesFrame}
+use Rattle.rq_block.specs.WrittenPackets.{AreStretchBytes, WritesFrame}
 use Rattle.rq_block.proofs.Encodes.{block_packets-more}
 
 -- what stands before a place, and what was written there
