@@ -1,4 +1,5 @@
-/* What calls refuse, each by its number, and that the caller's buffers are as they were then. */
+/* What calls refuse, each by its number, and that the caller's buffers are as they were then; and the bytes that they
+ * write, by rows that are worked by hand from RFC 6330. */
 #include <stdio.h>
 #include <string.h>
 
@@ -62,6 +63,50 @@ static void cuts(void)
     reamertan_read_configuration(header, &cut);
     expect("two of them", 2, cut.source_blocks);
     expect("coders take them", 0, reamertan_check_configuration(header));
+}
+
+/* RFC 6330, 4.3: packets of at most so many bytes, and decoders of so much memory; and blocks of so many symbols. */
+static void headers(void)
+{
+    static const uint8_t one[] = {0, 0, 0, 39, 16, 0, 5, 120, 1, 0, 1, 8};
+    static const uint8_t cut_in_3[] = {0, 0, 0, 39, 16, 0, 1, 240, 1, 0, 3, 8};
+    static const uint8_t cut_in_6[] = {0, 0, 0, 1, 144, 0, 1, 240, 1, 0, 6, 8};
+    static const uint8_t two[] = {0, 0, 15, 66, 64, 0, 5, 0, 2, 0, 1, 1};
+    uint8_t header[REAMERTAN_CONFIGURATION_BYTES];
+    expect("10000 in 1400", 0, reamertan_derive_configuration(10000, 1400, REAMERTAN_DEFAULT_DECODER_MEMORY, header));
+    expect("is one sub-block", 0, memcmp(header, one, sizeof one));
+    expect("10000 in 500", 0, reamertan_derive_configuration(10000, 500, 5000, header));
+    expect("are three", 0, memcmp(header, cut_in_3, sizeof cut_in_3));
+    expect("400 in 500", 0, reamertan_derive_configuration(400, 500, 1000, header));
+    expect("are six", 0, memcmp(header, cut_in_6, sizeof cut_in_6));
+    expect("a million in 1280", 0, reamertan_cut(1000000, 1280, 497, header));
+    expect("are two blocks", 0, memcmp(header, two, sizeof two));
+}
+
+/* RFC 6330, 4.4.1.2: symbols of two sub-blocks, and blocks of which some have no symbol. */
+static void bytes(void)
+{
+    static const uint8_t halves[REAMERTAN_CONFIGURATION_BYTES] = {0, 0, 0, 0, 12, 0, 0, 6, 1, 0, 2, 2};
+    static const uint8_t blocks[REAMERTAN_CONFIGURATION_BYTES] = {0, 0, 0, 0, 3, 0, 0, 2, 5, 0, 1, 1};
+    static const uint8_t numbers[] = {0, 1, 2, 3, 4, 5, 6, 7, 8, 9, 10, 11};
+    static const uint8_t by_halves[] = {0, 0, 0, 0, 0, 1, 2, 3, 8, 9, 0, 0, 0, 1, 4, 5, 6, 7, 10, 11};
+    static const uint8_t by_blocks[] = {0, 0, 0, 0, 7, 8, 1, 0, 0, 0, 9, 0};
+    reamertan_encoder *sender = NULL;
+    reamertan_decoder *receiver = NULL;
+    uint8_t made[20];
+    expect("two symbols", 0, reamertan_encoder_open(&sender, halves, numbers, 12));
+    expect("their packets", 0, reamertan_encoder_write(sender, 0, 0, 2, made, 20));
+    expect("by halves", 0, memcmp(made, by_halves, 20));
+    reamertan_encoder_close(&sender);
+    expect("no symbols yet", 0, reamertan_decoder_open(&receiver, halves));
+    expect("both", 0, reamertan_decoder_add_packets(receiver, by_halves, 20));
+    expect("the object", 0, reamertan_decoder_write_object(receiver, made, 12));
+    expect("its bytes", 0, memcmp(made, numbers, 12));
+    reamertan_decoder_close(&receiver);
+    expect("five blocks", 0, reamertan_encode(blocks, OBJECT, 3, 0, made, 12));
+    expect("two packets", 0, memcmp(made, by_blocks, 12));
+    expect("from them", 0, reamertan_decode(blocks, by_blocks, 12, made, 3));
+    expect("the object", 0, memcmp(made, OBJECT, 3));
 }
 
 static void senders(void)
@@ -221,6 +266,8 @@ int main(void)
     memcpy(buffer, UNTOUCHED, sizeof buffer);
     configurations();
     cuts();
+    headers();
+    bytes();
     senders();
     receivers();
     block_receivers();
