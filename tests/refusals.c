@@ -1,5 +1,5 @@
-/* What calls refuse, each by its number, and that the caller's buffers are as they were then; and what they write, by
- * rows that are worked by hand, and a repair packet of the Rust crate `raptorq` 2.0.1. */
+/* What calls refuse, each by its number, and that the caller's buffers are as they were then; and the bytes that they
+ * write, by rows that are worked by hand from RFC 6330. */
 #include <stdio.h>
 #include <string.h>
 
