@@ -1,5 +1,5 @@
 -- The status that the program ends with.
-use Rattle.std.specs.Prelude.{ℕ, ◌/◌, ◌==◌, ◌&&◌, Bool, List, [], ◌∷◌, Ok, Err, nat_le, nat_lt, if◌then◌else◌}
+use Rattle.std.specs.Prelude.{ℕ, ◌/◌, ◌&&◌, Bool, List, [], ◌∷◌, Ok, Err, nat_le, nat_lt, if◌then◌else◌}
 use Rattle.clap.specs.Values.{kind_of}
 use Rattle.clap.specs.declared.error.kind.ErrorKind.{ErrorKind}
 use Rattle.clap.specs.declared.error.kind.ErrorKind.TheVariants as kind
@@ -42,9 +42,9 @@ most_refused cells = cells / 2
 abbrev pub all_lost : ℕ → ℕ → Bool
 all_lost cells lost = nat_lt 0 lost && nat_le (most_refused cells) lost
 
--- no cell has an id that was asked for, all were lost, or some were sent
+-- all were lost, or not: of a small object a share may be empty
 abbrev pub sent_status : ℕ → ℕ → ℕ
-sent_status cells lost = if cells == 0 then 3 else (if all_lost cells lost then 1 else 0)
+sent_status cells lost = if all_lost cells lost then 1 else 0
 
 -- nothing that was looked for is there
 abbrev pub survey_status : List Standing → ℕ

@@ -69,17 +69,11 @@ pub(crate) fn all_lost(cells: u64, lost: u64) -> bool
     lost > 0 && lost >= cells / 2
 }
 
-// Of cells that were to be sent. Where there were none, the words ask for ids that the object doesn't have.
+// Of cells that were to be sent. There may be none: of a small object a share may be empty.
 fn sent_status(cells: u64, lost: u64) -> u8
     ensures { result ≡ sent_status cells lost }
 {
-    if cells == 0 {
-        3
-    } else if all_lost(cells, lost) {
-        1
-    } else {
-        0
-    }
+    u8::from(all_lost(cells, lost))
 }
 
 // Of a run that nothing stopped.
