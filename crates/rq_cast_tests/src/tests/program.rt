@@ -143,7 +143,7 @@ fn words_are_done(rt: HostRuntime) {
         ("send --cell 50 --repair 0 FILE", FILE, 0, CELLS, 1),
         ("send --cell=50 -r0 --share 0/2", FILE, 0, (&FIRST, b""), 0),
         ("send -c50 -r 0 --from 1 -q", FILE, 0, (&SECOND, b""), 0),
-        ("send --repair 0 --from 2", FILE, 3, NOTHING, 0),
+        ("send --repair 0 --from 2", FILE, 0, NOTHING, 0),
         ("send", NOTHING, 3, OLD, 0),
         ("receive", CELLS, 0, FILE, 0),
         ("receive -o FILE --name bbc2 A B", CELLS, 0, FILE, 2),
