@@ -11,8 +11,9 @@ use rq_bytes::error::Error;
 use rq_tables::systematic_constants::MAX_SOURCE_SYMBOLS_PER_BLOCK;
 use std::alloc::{AllocError, Global};
 
-/// The number of source symbols of a block: the larger blocks come first (RFC 6330, 4.4.1.2).
-pub(crate) fn block_symbols(config: &ObjectTransmissionInformation, number: u8) -> u32
+/// The number of source symbols of a block: the larger blocks come first (RFC 6330, 4.4.1.2). Not in the
+/// Rust crate.
+pub fn block_symbols(config: &ObjectTransmissionInformation, number: u8) -> u32
     requires size { 0 < config.now.symbol_size }
     requires few { largest_block config.now < 65536 }
     requires number { number < config.now.source_blocks }
@@ -28,8 +29,8 @@ pub(crate) fn block_symbols(config: &ObjectTransmissionInformation, number: u8) 
 }
 
 /// The number of source symbols of the blocks before one: the larger blocks come first (RFC 6330,
-/// 4.4.1.2).
-pub(crate) fn symbols_before(config: &ObjectTransmissionInformation, number: u8) -> u64
+/// 4.4.1.2). Not in the Rust crate.
+pub fn symbols_before(config: &ObjectTransmissionInformation, number: u8) -> u64
     requires size { 0 < config.now.symbol_size }
     requires number { number < config.now.source_blocks }
     ensures value { result ≡ symbols_before config.now number }

@@ -12,13 +12,14 @@ pub mod decoder;
 pub mod encoder;
 pub mod laws;
 
-pub use blocks::calculate_block_offsets;
+pub use blocks::{block_symbols, calculate_block_offsets, symbols_before};
 pub use decoder::{Decoder, SourceBlockDecoder};
 pub use encoder::{
     Encoder, EncoderBuilder, SourceBlockEncoder, SourceBlockEncodingPlan,
     SourceBlockEncodingPlanCache,
 };
 pub use rq_base::base::{EncodingPacket, ObjectTransmissionInformation, PayloadId, partition};
+pub use rq_block::BlockLayout;
 pub use rq_base::{base, constraint_matrix};
 pub use rq_bytes::{error, gf2, octet, octets, operation_vector, symbol, symbol_slab, util};
 pub use rq_matrix::{matrix, sparse_matrix};

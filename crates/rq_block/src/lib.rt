@@ -8,3 +8,5 @@ pub mod encoder;
 mod ids;
 mod solving;
 mod sub_blocks;
+
+pub use sub_blocks::BlockLayout;

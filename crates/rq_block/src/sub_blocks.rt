@@ -72,12 +72,13 @@ struct SubBlock {
     width: usize,
 }
 
-/// How a source block is cut: the configuration of its object, and the number of its source symbols
-/// (K).
+/// How a source block is cut (RFC 6330, 4.4.1.2). Not in the Rust crate.
 #[derive(Clone, Copy)]
-pub(crate) struct BlockLayout {
-    pub(crate) config: ObjectTransmissionInformation,
-    pub(crate) source_symbols: u32,
+pub struct BlockLayout {
+    /// The configuration of its object.
+    pub config: ObjectTransmissionInformation,
+    /// The number of its source symbols (K).
+    pub source_symbols: u32,
     pub ghost aligned: { IsAligned config },
 }
 
@@ -135,8 +136,9 @@ impl BlockLayout {
         Ok(())
     }
 
-    /// Appends symbol `e` of a block. The block may end before its last symbol does: the rest are zeros.
-    pub(crate) fn append_source_symbol(
+    /// Appends symbol `e` of a block to bytes. The block may end before its last symbol does: the rest are
+    /// zeros. Where there is no memory, a beginning of the symbol may be appended.
+    pub fn append_source_symbol(
         &self,
         bytes: &mut Vec<u8>,
         block: &[u8],
