@@ -8,7 +8,7 @@ use crate::version::VERSION;
 
 mod coders;
 
-pub use coders::{Coder, Kind};
+pub use coders::{BlockDecoder, BlockEncoder, Coder, Decoder, Encoder, Kind, Plan};
 
 /// How many bytes spell a configuration.
 const CONFIGURATION_LENGTH: usize = 12;
@@ -103,26 +103,6 @@ impl fmt::Display for Refusal {
         f.write_str(named.map_or("?", |(_, name)| name))
     }
 }
-
-/// Makes the packets of an object.
-#[repr(C)]
-pub struct Encoder([u8; 0]);
-
-/// Solves the equations of source blocks of one number of symbols.
-#[repr(C)]
-pub struct Plan([u8; 0]);
-
-/// Makes the packets of a source block.
-#[repr(C)]
-pub struct BlockEncoder([u8; 0]);
-
-/// Takes the packets of an object.
-#[repr(C)]
-pub struct Decoder([u8; 0]);
-
-/// Takes the packets of a source block.
-#[repr(C)]
-pub struct BlockDecoder([u8; 0]);
 
 unsafe extern "C" {
     fn reamertan_version() -> u32;

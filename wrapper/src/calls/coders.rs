@@ -12,29 +12,30 @@ pub trait Kind: Sized {
     const TWIN: Twin<Self>;
 }
 
-impl Kind for Encoder {
-    const CLOSE: Close<Self> = reamertan_encoder_close;
-    const TWIN: Twin<Self> = reamertan_encoder_share;
+macro_rules! kinds {
+    ($($(#[$says:meta])* $kind:ident: $close:ident, $twin:ident;)*) => {$(
+        $(#[$says])*
+        #[repr(C)]
+        pub struct $kind([u8; 0]);
+
+        impl Kind for $kind {
+            const CLOSE: Close<Self> = $close;
+            const TWIN: Twin<Self> = $twin;
+        }
+    )*};
 }
 
-impl Kind for Plan {
-    const CLOSE: Close<Self> = reamertan_plan_close;
-    const TWIN: Twin<Self> = reamertan_plan_share;
-}
-
-impl Kind for BlockEncoder {
-    const CLOSE: Close<Self> = reamertan_block_encoder_close;
-    const TWIN: Twin<Self> = reamertan_block_encoder_share;
-}
-
-impl Kind for Decoder {
-    const CLOSE: Close<Self> = reamertan_decoder_close;
-    const TWIN: Twin<Self> = reamertan_decoder_copy;
-}
-
-impl Kind for BlockDecoder {
-    const CLOSE: Close<Self> = reamertan_block_decoder_close;
-    const TWIN: Twin<Self> = reamertan_block_decoder_copy;
+kinds! {
+    /// Makes the packets of an object.
+    Encoder: reamertan_encoder_close, reamertan_encoder_share;
+    /// Solves the equations of source blocks of one number of symbols.
+    Plan: reamertan_plan_close, reamertan_plan_share;
+    /// Makes the packets of a source block.
+    BlockEncoder: reamertan_block_encoder_close, reamertan_block_encoder_share;
+    /// Takes the packets of an object.
+    Decoder: reamertan_decoder_close, reamertan_decoder_copy;
+    /// Takes the packets of a source block.
+    BlockDecoder: reamertan_block_decoder_close, reamertan_block_decoder_copy;
 }
 
 /// New bytes, so many, which a call fills.
