@@ -1,5 +1,5 @@
 /* What calls refuse, each by its number, and that the caller's buffers are as they were then; and the bytes that they
- * write, by rows that are worked by hand from RFC 6330. */
+ * write, by rows that are worked by hand from RFC 6330, and by repair symbols of the Rust crate `raptorq` 2.0.1. */
 #include <stdio.h>
 #include <string.h>
 
@@ -12,6 +12,8 @@ static const uint8_t PACKETS[12] = {0, 0, 0, 0, 7, 8, 0, 0, 0, 1, 9, 0};
 /* A symbol of one byte, of which repair symbol 133 is zero, whatever the byte is: one of both was forged. */
 static const uint8_t ONE[REAMERTAN_CONFIGURATION_BYTES] = {0, 0, 0, 0, 1, 0, 0, 1, 1, 0, 1, 1};
 static const uint8_t FORGED[10] = {0, 0, 0, 133, 1, 0, 0, 0, 0, 7};
+/* Two symbols of two sub-blocks. */
+static const uint8_t HALVES[REAMERTAN_CONFIGURATION_BYTES] = {0, 0, 0, 0, 12, 0, 0, 6, 1, 0, 2, 2};
 static const uint8_t UNTOUCHED[32] = {170, 170, 170, 170, 170, 170, 170, 170, 170, 170, 170};
 
 static _Alignas(8) uint8_t buffer[32];
@@ -86,7 +88,6 @@ static void headers(void)
 /* RFC 6330, 4.4.1.2: symbols of two sub-blocks, and blocks of which some have no symbol. */
 static void bytes(void)
 {
-    static const uint8_t halves[REAMERTAN_CONFIGURATION_BYTES] = {0, 0, 0, 0, 12, 0, 0, 6, 1, 0, 2, 2};
     static const uint8_t blocks[REAMERTAN_CONFIGURATION_BYTES] = {0, 0, 0, 0, 3, 0, 0, 2, 5, 0, 1, 1};
     static const uint8_t numbers[] = {0, 1, 2, 3, 4, 5, 6, 7, 8, 9, 10, 11};
     static const uint8_t by_halves[] = {0, 0, 0, 0, 0, 1, 2, 3, 8, 9, 0, 0, 0, 1, 4, 5, 6, 7, 10, 11};
@@ -94,11 +95,11 @@ static void bytes(void)
     reamertan_encoder *sender = NULL;
     reamertan_decoder *receiver = NULL;
     uint8_t made[20];
-    expect("two symbols", 0, reamertan_encoder_open(&sender, halves, numbers, 12));
+    expect("two symbols", 0, reamertan_encoder_open(&sender, HALVES, numbers, 12));
     expect("their packets", 0, reamertan_encoder_write(sender, 0, 0, 2, made, 20));
     expect("by halves", 0, memcmp(made, by_halves, 20));
     reamertan_encoder_close(&sender);
-    expect("no symbols yet", 0, reamertan_decoder_open(&receiver, halves));
+    expect("no symbols yet", 0, reamertan_decoder_open(&receiver, HALVES));
     expect("both", 0, reamertan_decoder_add_packets(receiver, by_halves, 20));
     expect("the object", 0, reamertan_decoder_write_object(receiver, made, 12));
     expect("its bytes", 0, memcmp(made, numbers, 12));
@@ -107,6 +108,24 @@ static void bytes(void)
     expect("two packets", 0, memcmp(made, by_blocks, 12));
     expect("from them", 0, reamertan_decode(blocks, by_blocks, 12, made, 3));
     expect("the object", 0, memcmp(made, OBJECT, 3));
+}
+
+/* The crate's repair symbols, which have two sub-blocks too, and the object from them alone. */
+static void repairs(void)
+{
+    static const uint8_t object[] = {108, 130, 165, 98, 203, 128, 141, 16, 214, 50, 190, 137};
+    static const uint8_t repair[] = {0, 0, 0, 2, 0xb2, 0x7c, 0x6c, 0xb4, 0x4c, 0x40,
+                                     0, 0, 0, 3, 0x4f, 0x45, 0xba, 0x21, 0xa0, 0x38};
+    reamertan_encoder *sender = NULL;
+    uint8_t made[40];
+    expect("two and two packets", 0, reamertan_encode(HALVES, object, 12, 2, made, 40));
+    expect("two are repair", 0, memcmp(made + 20, repair, 20));
+    expect("opened", 0, reamertan_encoder_open(&sender, HALVES, object, 12));
+    expect("repair alone", 0, reamertan_encoder_write(sender, 0, 2, 2, made, 20));
+    expect("the same", 0, memcmp(made, repair, 20));
+    reamertan_encoder_close(&sender);
+    expect("from repair alone", 0, reamertan_decode(HALVES, repair, 20, made, 12));
+    expect("the object", 0, memcmp(made, object, 12));
 }
 
 static void senders(void)
@@ -268,6 +287,7 @@ int main(void)
     cuts();
     headers();
     bytes();
+    repairs();
     senders();
     receivers();
     block_receivers();
