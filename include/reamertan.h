@@ -216,7 +216,8 @@ uint8_t reamertan_packets_length(const uint8_t configuration[REAMERTAN_CONFIGURA
 
 /* Fills `packets` with the packets of an object: block by block those of its source symbols, and then
  * of `repair` repair symbols. `packets_length` has to be what they take together, as
- * `reamertan_packets_length` says.
+ * `reamertan_packets_length` says. They are made in as many bytes of memory and then copied, since memory may be
+ * refused at any block: `reamertan_encoder_write` makes packets where the caller wants them.
  *
  * Refuses, in this order: what `reamertan_check_configuration` refuses, WRONG_DATA_LENGTH, SINGULAR,
  * ESI_TOO_LARGE, WRONG_BUFFER. OUT_OF_MEMORY may come before any. */
