@@ -19,8 +19,8 @@ pub use encoder::{
     SourceBlockEncodingPlanCache,
 };
 pub use rq_base::base::{EncodingPacket, ObjectTransmissionInformation, PayloadId, partition};
-pub use rq_block::BlockLayout;
 pub use rq_base::{base, constraint_matrix};
+pub use rq_block::BlockLayout;
 pub use rq_bytes::{error, gf2, octet, octets, operation_vector, symbol, symbol_slab, util};
 pub use rq_matrix::{matrix, sparse_matrix};
 pub use rq_operations::{recorded, steps};
