@@ -1,14 +1,14 @@
 -- Bytes that begin with others, by the test and by what it says.
-use Rattle.std.proofs.Common.{◌≡◌, ℕ, ◌≤◌, List, [], ◌∷◌, ◌++◌, length, take, drop, refl, sym, ap, ◌∙◌, true, false, not, ◌&&◌, nat_eq, append_assoc, drop_at}
+use Rattle.std.proofs.Common.{◌≡◌, ℕ, ◌+◌, ◌<◌, ◌≤◌, List, [], ◌∷◌, ◌++◌, length, take, drop, get_or, refl, sym, ap, subst, ◌∙◌, arith, true, false, not, ◌&&◌, nat_eq, append_assoc, drop_at, length-take, ◌⊎◌, inl, inr}
 use Rattle.std.specs.List.{starts_with}
 use Rattle.std.specs.Cmp.Lexicographic.{pointwise}
 use Rattle.std.specs.Io.{StartsWith}
 use Rattle.std.proofs.Transfers.{starts_with_of_append}
 use Rattle.std.proofs.KnownBytes.{starts_with_rest}
-use Rattle.std.proofs.lemmas.List.{take-append-le}
-use Rattle.std.proofs.lemmas.Bool.{and_parts, eq-eqb, eqb-true, not-false, false_from_ne_true, true≢false}
+use Rattle.std.proofs.lemmas.List.{take-append-le, length-drop, get_or-take, get_or-drop, get_or_past}
+use Rattle.std.proofs.lemmas.Bool.{cases_lt, and_parts, eq-eqb, eqb-true, not-false, false_from_ne_true, true≢false}
 
-same_bytes : (xs : List ℕ) → pointwise nat_eq xs xs ≡ true
+pub same_bytes : (xs : List ℕ) → pointwise nat_eq xs xs ≡ true
 same_bytes [] = refl
 same_bytes (x ∷ xs) = ap (λ b. b && pointwise nat_eq xs xs) (eq-eqb x x refl) ∙ same_bytes xs
 
@@ -59,3 +59,19 @@ begins_both xs a b first second =
     let behind = drop (length b) (drop (length a) xs) in
     starts_with_of_append xs (a ++ b) behind
     (starts_with_rest xs a first ∙ ap (λ l. a ++ l) (starts_with_rest (drop (length a) xs) b second) ∙ sym (append_assoc a b behind))
+
+-- ---- bytes
+
+-- numbers below 256
+abbrev pub AreBytes : List ℕ → Type 0
+AreBytes bytes = (i : ℕ) → i < length bytes → get_or bytes i 0 < 256
+
+pub part_fits : (bytes : List ℕ) (from n k : ℕ) → AreBytes bytes → get_or (take n (drop from bytes)) k 0 < 256
+part_fits bytes from n k fits = by (cases_lt k (length (take n (drop from bytes))))
+  where
+    by : (k < length (take n (drop from bytes))) ⊎ (length (take n (drop from bytes)) ≤ k) → get_or (take n (drop from bytes)) k 0 < 256
+    by (inl within) =
+        let below : k < n = omega (arith, within, length-take n (drop from bytes)) in
+        let inside : from + k < length bytes = omega (arith, within, length-take n (drop from bytes), length-drop from bytes) in
+        subst (λ x. x < 256) (sym (get_or-take n (drop from bytes) k 0 below ∙ get_or-drop from bytes k 0)) (fits (from + k) inside)
+    by (inr past) = subst (λ x. x < 256) (sym (get_or_past (take n (drop from bytes)) k 0 past)) (omega arith)

@@ -1,97 +1,103 @@
--- Before the first wanted cell stands no cell of its object.
-use Rattle.std.proofs.Common.{◌≡◌, ℕ, zero, suc, ◌+◌, ◌<◌, ◌≤◌, List, ◌++◌, length, drop, arith, refl, sym, ap, subst, ◌∙◌, Some, None, Option, Bool, true, false, ◌&&◌, nat_lt, if◌then◌else◌, ◌⊎◌, inl, inr}
+-- Before the first wanted cell stands no wanted one of its stream.
+use Rattle.std.proofs.Common.{◌≡◌, ℕ, zero, suc, ◌+◌, ◌<◌, ◌≤◌, List, ◌∷◌, ◌++◌, length, drop, arith, refl, sym, ap, subst, ◌∙◌, Some, None, Option, Bool, true, false, not, ◌&&◌, nat_lt, if◌then◌else◌, ◌⊎◌, inl, inr}
 use Rattle.std.specs.List.{cons_option}
-use Rattle.std.specs.Prelude.{option_and_then, option_map}
+use Rattle.std.specs.Prelude.{option_and_then, filter, is_some}
 use Rattle.std.proofs.lemmas.List.{length-drop}
 use Rattle.std.proofs.lemmas.Option.{none-some, same_Some}
-use Rattle.std.proofs.lemmas.Bool.{le-ltb, or_from, and_right, cases_lt}
+use Rattle.std.proofs.lemmas.Bool.{le-leb, le-ltb, or_from, and_right, cases_lt}
 use Rattle.rq_cells.specs.declared.head.Head.{Head}
 use Rattle.rq_cells.specs.declared.cell.Cell.{Cell}
-use Rattle.rq_cells.specs.Cells.{head_size, cell_size, head_at, cell_behind, cell_at, IsHead}
-use Rattle.rq_cells.specs.Found.{has_head, packet_at, packets_in}
+use Rattle.rq_cells.specs.Cells.{Key, head_size, cell_size, head_at, cell_at, cell_behind}
+use Rattle.rq_cells.specs.Found.{Source, source_of, is_of, head_of, is_long, cell_of, cells_in}
 use Rattle.rq_cells.specs.Scans.{is_open}
-use Rattle.rq_cells.specs.Wanted.{is_wanted, wanted_at, IsFirstWanted}
+use Rattle.rq_cells.specs.Wanted.{Wish, is_wanted, wanted_at, IsFirstWanted}
+use Rattle.rq_cells.specs.Laws.{wanted_in}
+use Rattle.rq_cells.proofs.HeadBytes.{none_in_short, parts_in_long}
 use Rattle.rq_cells.proofs.CellBytes.{behind-begins, none_behind_in_short}
-use Rattle.rq_cells.proofs.Scanning.{cell_at-headed, stays, next_found}
+use Rattle.rq_cells.proofs.Scanning.{stays, next_found}
 
-module _ (greatest : ℕ) (name : List ℕ) where
+-- a cell that is read is as long as its head says
+whole : (key : Key) (bytes : List ℕ) (c : Cell) → cell_at key bytes ≡ Some c → cell_size c.head.configuration.symbol_size ≤ length bytes
+whole key bytes c = by_head (head_at key bytes) refl
+  where
+    long_enough : (h : Head) → head_at key bytes ≡ Some h → (length bytes < head_size) ⊎ (head_size ≤ length bytes) → head_size ≤ length bytes
+    long_enough h headed (inl short) = absurd (none-some h (sym (none_in_short key bytes short) ∙ headed))
+    long_enough h headed (inr long) = long
+
+    by_length : (h : Head) → head_at key bytes ≡ Some h → cell_behind key h bytes ≡ Some c
+        → (length bytes < cell_size h.configuration.symbol_size) ⊎ (cell_size h.configuration.symbol_size ≤ length bytes)
+        → cell_size h.configuration.symbol_size ≤ length bytes
+    by_length h headed is (inl short) =
+        let lengths = parts_in_long key bytes h (long_enough h headed (cases_lt (length bytes) head_size)) headed in
+        absurd (none-some c (sym (none_behind_in_short key h bytes lengths.0 lengths.1 short) ∙ is))
+    by_length h headed is (inr long) = long
+
+    by_head : (o : Option Head) → head_at key bytes ≡ o → option_and_then (λ h. cell_behind key h bytes) o ≡ Some c → cell_size c.head.configuration.symbol_size ≤ length bytes
+    by_head None headed is = absurd (none-some c is)
+    by_head (Some h) headed is =
+        subst (λ k. cell_size k.configuration.symbol_size ≤ length bytes) (sym (behind-begins key h bytes c is).1)
+        (by_length h headed is (cases_lt (length bytes) (cell_size h.configuration.symbol_size)))
+
+module _ (w : Wish) where
   abbrev taken : Cell → Option Head
-  taken c = if is_wanted greatest name c.head then Some c.head else None
+  taken c = if is_wanted w c.head then Some c.head else None
 
-  -- a wanted cell that bytes begin with
-  pub record IsWantedCell (bytes : List ℕ) (h : Head) : Type 0 where
-    pub cell : Cell
-    pub found : cell_at bytes ≡ Some cell
-    pub behind : cell_behind h bytes ≡ Some cell
-    pub wanted : is_wanted greatest name h ≡ true
+  abbrev test : Cell → Bool
+  test c = is_wanted w c.head
 
-  pub wanted_cell : (bytes : List ℕ) (h : Head) → wanted_at greatest name bytes ≡ Some h → IsWantedCell bytes h
-  wanted_cell bytes h = by_head (head_at bytes) refl
+  -- a wanted cell is as long as its head says
+  found_is_long : (bytes : List ℕ) (h : Head) → wanted_at w bytes ≡ Some h → cell_size h.configuration.symbol_size ≤ length bytes
+  found_is_long bytes h = by_cell (cell_at w.key bytes) refl
     where
-      by_test : (k : Head) (c : Cell) (b : Bool) → head_at bytes ≡ Some k → cell_behind k bytes ≡ Some c → is_wanted greatest name c.head ≡ b → (if b then Some c.head else None) ≡ Some h → IsWantedCell bytes h
-      by_test k c false headed behind e is = absurd (none-some h is)
-      by_test k c true headed behind e is =
-          let same : k ≡ h = sym (behind-begins k bytes c behind).1 ∙ same_Some c.head h is in
-          record {
-            cell = c;
-            found = ap (option_and_then (λ j. cell_behind j bytes)) headed ∙ behind;
-            behind = subst (λ j. cell_behind j bytes ≡ Some c) same behind;
-            wanted = subst (λ j. is_wanted greatest name j ≡ true) (same_Some c.head h is) e;
-          }
+      by_test : (c : Cell) (b : Bool) → cell_at w.key bytes ≡ Some c → (if b then Some c.head else None) ≡ Some h → cell_size h.configuration.symbol_size ≤ length bytes
+      by_test c true found is = subst (λ k. cell_size k.configuration.symbol_size ≤ length bytes) (same_Some c.head h is) (whole w.key bytes c found)
+      by_test c false found is = absurd (none-some h is)
 
-      by_cell : (k : Head) (o : Option Cell) → head_at bytes ≡ Some k → cell_behind k bytes ≡ o → option_and_then taken o ≡ Some h → IsWantedCell bytes h
-      by_cell k None headed behind is = absurd (none-some h is)
-      by_cell k (Some c) headed behind is = by_test k c (is_wanted greatest name c.head) headed behind refl is
+      by_cell : (o : Option Cell) → cell_at w.key bytes ≡ o → option_and_then taken o ≡ Some h → cell_size h.configuration.symbol_size ≤ length bytes
+      by_cell None found is = absurd (none-some h is)
+      by_cell (Some c) found is = by_test c (is_wanted w c.head) found is
 
-      by_head : (o : Option Head) → head_at bytes ≡ o → option_and_then taken (option_and_then (λ j. cell_behind j bytes) o) ≡ Some h → IsWantedCell bytes h
-      by_head None headed is = absurd (none-some h is)
-      by_head (Some k) headed is = by_cell k (cell_behind k bytes) headed refl is
-
-  module _ (h : Head) (fits : IsHead h) where
-    whole : (bytes : List ℕ) (c : Cell) → cell_behind h bytes ≡ Some c → cell_size h.configuration ≤ length bytes
-    whole bytes c is = by (cases_lt (length bytes) (cell_size h.configuration))
+  module _ (s : Source) (same_key : s.key ≡ w.key) where
+    -- where no wanted cell begins, none of the stream that is wanted does
+    skipped : (bytes : List ℕ) (later : List Cell) → wanted_at w bytes ≡ None → filter test (cons_option (cell_of s bytes) later) ≡ filter test later
+    skipped bytes later none = by_cell (cell_at s.key bytes) refl
       where
-        by : (length bytes < cell_size h.configuration) ⊎ (cell_size h.configuration ≤ length bytes) → cell_size h.configuration ≤ length bytes
-        by (inl short) = absurd (none-some c (sym (none_behind_in_short h bytes fits.name short) ∙ is))
-        by (inr long) = long
+        by_test : (c : Cell) (b : Bool) → cell_at s.key bytes ≡ Some c → test c ≡ b → filter test (c ∷ later) ≡ filter test later
+        by_test c true found e =
+            absurd (none-some c.head (sym none ∙ ap (option_and_then taken) (ap (λ k. cell_at k bytes) (sym same_key) ∙ found) ∙ ap (λ b. if b then Some c.head else None) e))
+        by_test c false found e = ap (λ b. if b then c ∷ filter test later else filter test later) e
 
-    -- where no wanted cell begins, none of a wanted object does
-    none_here : (bytes : List ℕ) → is_wanted greatest name h ≡ true → wanted_at greatest name bytes ≡ None → packet_at h bytes ≡ None
-    none_here bytes wanted none = by_head (has_head h bytes) refl
-      where
-        by_cell : has_head h bytes ≡ true → (o : Option Cell) → cell_behind h bytes ≡ o → packet_at h bytes ≡ None
-        by_cell e None is = λ i. if e i then option_map (λ c. c.packet) ((cell_at-headed h bytes fits e ∙ is) i) else None
-        by_cell e (Some c) is =
-            let found = ap (option_and_then taken) (cell_at-headed h bytes fits e ∙ is) in
-            let test : is_wanted greatest name c.head ≡ true = ap (is_wanted greatest name) (behind-begins h bytes c is).1 ∙ wanted in
-            absurd (none-some c.head (sym none ∙ found ∙ ap (λ b. if b then Some c.head else None) test))
+        by_source : (c : Cell) (b : Bool) → cell_at s.key bytes ≡ Some c → filter test (cons_option (if b then Some c else None) later) ≡ filter test later
+        by_source c true found = by_test c (test c) found refl
+        by_source c false found = refl
 
-        by_head : (b : Bool) → has_head h bytes ≡ b → packet_at h bytes ≡ None
-        by_head false e = ap (λ b. if b then option_map (λ c. c.packet) (cell_at bytes) else None) e
-        by_head true e = by_cell e (cell_behind h bytes) refl
+        by_cell : (o : Option Cell) → cell_at s.key bytes ≡ o → filter test (cons_option (option_and_then (λ c. if is_of s c.head then Some c else None) o) later) ≡ filter test later
+        by_cell None found = refl
+        by_cell (Some c) found = by_source c (is_of s c.head) found
 
-    settled : (bytes : List ℕ) → cell_size h.configuration ≤ length bytes → is_open h bytes ≡ false
-    settled bytes long =
-        or_from (nat_lt (length bytes) head_size) (has_head h bytes && nat_lt (length bytes) (cell_size h.configuration))
-        (le-ltb (length bytes) head_size (omega (arith, long)))
-        (and_right (has_head h bytes) (nat_lt (length bytes) (cell_size h.configuration)) (le-ltb (length bytes) (cell_size h.configuration) long))
+  pub nothing_before_first : (h : Head) (bytes rest : List ℕ) (at : ℕ) → IsFirstWanted w bytes at h
+      → wanted_in w (source_of w.key h) (bytes ++ rest) ≡ wanted_in w (source_of w.key h) (drop at bytes ++ rest)
+  nothing_before_first h bytes rest at first = up_to at (omega arith)
+    where
+      long : cell_size h.configuration.symbol_size ≤ length (drop at bytes)
+      long = found_is_long (drop at bytes) h first.found
 
-    pub nothing_before_first : (bytes rest : List ℕ) (at : ℕ) → IsFirstWanted greatest name bytes at h → packets_in h (bytes ++ rest) ≡ packets_in h (drop at bytes ++ rest)
-    nothing_before_first bytes rest at first = up_to at (omega arith)
-      where
-        found : IsWantedCell (drop at bytes) h
-        found = wanted_cell (drop at bytes) h first.found
+      settled : (here : List ℕ) → cell_size h.configuration.symbol_size ≤ length here → is_open (source_of w.key h) here ≡ false
+      settled here enough =
+          or_from (nat_lt (length here) head_size) (is_some (head_of (source_of w.key h) here) && not (is_long (source_of w.key h) here))
+          (le-ltb (length here) head_size (omega (arith, enough)))
+          (and_right (is_some (head_of (source_of w.key h) here)) (not (is_long (source_of w.key h) here))
+          (ap not (le-leb (cell_size h.configuration.symbol_size) (length here) enough)))
 
-        long : cell_size h.configuration ≤ length (drop at bytes)
-        long = whole (drop at bytes) found.cell found.behind
-
-        up_to : (i : ℕ) → i ≤ at → packets_in h (bytes ++ rest) ≡ packets_in h (drop i bytes ++ rest)
-        up_to zero below = refl
-        up_to (suc i) below =
-            let here = drop i bytes in
-            let longer : cell_size h.configuration ≤ length here = omega (arith, below, long, length-drop at bytes, length-drop i bytes) in
-            let next : i + 1 ≡ suc i = omega arith in
-            up_to i (omega (arith, below))
-            ∙ next_found (packet_at h) bytes rest i (omega (arith, below, first.within)) (stays h here rest fits (settled here longer)).packet
-            ∙ ap (λ o. cons_option o (packets_in h (drop (i + 1) bytes ++ rest))) (none_here here found.wanted (first.first i (omega (arith, below))))
-            ∙ ap (λ n. packets_in h (drop n bytes ++ rest)) next
+      up_to : (i : ℕ) → i ≤ at
+          → wanted_in w (source_of w.key h) (bytes ++ rest) ≡ wanted_in w (source_of w.key h) (drop i bytes ++ rest)
+      up_to zero below = refl
+      up_to (suc i) below =
+          let s = source_of w.key h in
+          let here = drop i bytes in
+          let longer : cell_size h.configuration.symbol_size ≤ length here = omega (arith, below, long, length-drop at bytes, length-drop i bytes) in
+          let next : i + 1 ≡ suc i = omega arith in
+          up_to i (omega (arith, below))
+          ∙ ap (filter test) (next_found (cell_of s) bytes rest i (omega (arith, below, first.within)) (stays s here rest (settled here longer)).cell)
+          ∙ skipped s refl here (cells_in s (drop (i + 1) bytes ++ rest)) (first.first i (omega (arith, below)))
+          ∙ ap (λ n. wanted_in w s (drop n bytes ++ rest)) next

@@ -1,6 +1,8 @@
 pub mod Beginnings
+pub mod Digests
 pub mod HeadBytes
 pub mod CellBytes
+pub mod CheckedHeads
 pub mod Scanning
 pub mod FoundCells
 pub mod WantedCells

@@ -1,10 +1,9 @@
 -- What stands in bytes, wherever it begins and whatever stands between.
-use Rattle.std.specs.Prelude.{◌≡◌, ℕ, ◌<◌, ◌≤◌, List, [], ◌∷◌, length, drop, filter_map, count_by, Option, option_map, None, if◌then◌else◌, Bool, not, ◌&&◌, nat_le, nat_eq, is_some, is_none}
-use Rattle.std.specs.List.{starts_with}
-use Rattle.rq_standard.specs.Packet.{Packet}
+use Rattle.std.specs.Prelude.{◌≡◌, ℕ, ◌<◌, ◌≤◌, List, [], ◌∷◌, length, drop, filter_map, count_by, Option, Some, None, option_and_then, if◌then◌else◌, Bool, ◌&&◌, nat_le, nat_eq, is_some, is_none}
+use Rattle.std.specs.Cmp.Lexicographic.{pointwise}
 use Rattle.rq_cells.specs.declared.head.Head.{Head}
 use Rattle.rq_cells.specs.declared.cell.Cell.{Cell}
-use Rattle.rq_cells.specs.Cells.{head_bytes, head_size, cell_size, head_at, cell_at}
+use Rattle.rq_cells.specs.Cells.{Key, head_size, cell_size, head_at, cell_at}
 
 -- the bytes from each of their places on
 abbrev pub places : List ℕ → List (List ℕ)
@@ -15,37 +14,60 @@ places (b ∷ bytes) = (b ∷ bytes) ∷ places bytes
 pub record HoldNoHead (bytes : List ℕ) (n : ℕ) : Type 0 where
   pub within : n ≤ length bytes
   pub enough : (i : ℕ) → i < n → head_size ≤ length (drop i bytes)
-  pub none : (i : ℕ) → i < n → head_at (drop i bytes) ≡ None
+  pub none : (key : Key) (i : ℕ) → i < n → head_at key (drop i bytes) ≡ None
 
 -- the cells at all places
-abbrev pub cells_in : List ℕ → List Cell
-cells_in bytes = filter_map cell_at (places bytes)
+abbrev pub all_cells_in : Key → List ℕ → List Cell
+all_cells_in key bytes = filter_map (cell_at key) (places bytes)
 
--- ---- the cells of one object, by their head
+-- ---- the cells of one stream
 
-abbrev pub has_head : Head → List ℕ → Bool
-has_head h bytes = starts_with nat_eq bytes (head_bytes h)
+-- whose cells they are, of symbols of one length
+pub record Source : Type 0 where
+  pub key : Key
+  pub stream : List ℕ
+  pub symbol_size : ℕ
 
--- the packet of the cell with this head that bytes begin with
-abbrev pub packet_at : Head → List ℕ → Option Packet
-packet_at h bytes = if has_head h bytes then option_map (λ c. c.packet) (cell_at bytes) else None
+-- where a head and its like come from
+abbrev pub source_of : Key → Head → Source
+source_of key h = record { key = key; stream = h.stream; symbol_size = h.configuration.symbol_size }
 
--- this head, and as many bytes as a cell has, which are none
-abbrev pub is_damaged : Head → List ℕ → Bool
-is_damaged h bytes = has_head h bytes && nat_le (cell_size h.configuration) (length bytes) && is_none (cell_at bytes)
+-- a head of these cells
+abbrev pub is_of : Source → Head → Bool
+is_of s h = pointwise nat_eq h.stream s.stream && nat_eq h.configuration.symbol_size s.symbol_size
 
--- the head of another object's cells, whatever stands behind it
-abbrev pub is_other : Head → List ℕ → Bool
-is_other h bytes = is_some (head_at bytes) && not (has_head h bytes)
+-- the head of one that bytes begin with
+abbrev pub head_of : Source → List ℕ → Option Head
+head_of s bytes = option_and_then (λ h. if is_of s h then Some h else None) (head_at s.key bytes)
 
--- the packets of an object's cells at all places
-abbrev pub packets_in : Head → List ℕ → List Packet
-packets_in h bytes = filter_map (packet_at h) (places bytes)
+-- as many bytes as a cell has
+abbrev pub is_long : Source → List ℕ → Bool
+is_long s bytes = nat_le (cell_size s.symbol_size) (length bytes)
 
--- how many of its cells are damaged behind their head
-abbrev pub damaged_in : Head → List ℕ → ℕ
-damaged_in h bytes = count_by (is_damaged h) (places bytes)
+-- the head, where so many bytes stand there
+abbrev pub long_head_of : Source → List ℕ → Option Head
+long_head_of s bytes = if is_long s bytes then head_of s bytes else None
 
--- how many heads are those of other objects
-abbrev pub others_in : Head → List ℕ → ℕ
-others_in h bytes = count_by (is_other h) (places bytes)
+-- the cell that bytes begin with
+abbrev pub cell_of : Source → List ℕ → Option Cell
+cell_of s bytes = option_and_then (λ c. if is_of s c.head then Some c else None) (cell_at s.key bytes)
+
+-- a head, and as many bytes as a cell has, which are none
+abbrev pub is_damaged : Source → List ℕ → Bool
+is_damaged s bytes = is_some (long_head_of s bytes) && is_none (cell_of s bytes)
+
+-- the head of another stream's cell, or of another length, whatever stands behind it
+abbrev pub is_other : Source → List ℕ → Bool
+is_other s bytes = is_some (head_at s.key bytes) && is_none (head_of s bytes)
+
+-- the cells at all places
+abbrev pub cells_in : Source → List ℕ → List Cell
+cells_in s bytes = filter_map (cell_of s) (places bytes)
+
+-- how many cells are damaged behind their head
+abbrev pub damaged_in : Source → List ℕ → ℕ
+damaged_in s bytes = count_by (is_damaged s) (places bytes)
+
+-- how many heads are others'
+abbrev pub others_in : Source → List ℕ → ℕ
+others_in s bytes = count_by (is_other s) (places bytes)

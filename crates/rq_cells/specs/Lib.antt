@@ -1,3 +1,4 @@
+pub mod LongHeads
 pub mod Cells
 pub mod Found
 pub mod Laws

@@ -1,44 +1,69 @@
 -- What bytes say of their places, whatever comes behind them.
-use Rattle.std.specs.Prelude.{◌≡◌, ◌⊎◌, ℕ, ◌+◌, ◌-◌, ◌<◌, ◌≤◌, List, [], ◌++◌, length, drop, Option, Some, None, Bool, true, false, ◌||◌, ◌&&◌, nat_lt}
-use Rattle.rq_standard.specs.Packet.{Packet}
+use Rattle.std.specs.Prelude.{◌≡◌, ◌⊎◌, ℕ, zero, suc, ◌+◌, ◌-◌, ◌<◌, ◌≤◌, List, [], ◌++◌, length, drop, map, All, Option, Some, None, option_map, Bool, true, false, not, ◌||◌, ◌&&◌, nat_lt, nat_eq, is_some}
+use Rattle.std.specs.List.{cons_option, starts_with}
 use Rattle.rq_cells.specs.declared.head.Head.{Head}
-use Rattle.rq_cells.specs.declared.scanner.Place.{Place}
-use Rattle.rq_cells.specs.declared.scanner.Place.TheVariants as P
+use Rattle.rq_cells.specs.declared.cell.FoundCell.{FoundCell}
+use Rattle.rq_cells.specs.declared.long_heads.Place.{Place}
+use Rattle.rq_cells.specs.declared.long_heads.Place.TheVariants as P
+use Rattle.rq_cells.specs.declared.long_heads.LongHead.{LongHead}
+use Rattle.rq_cells.specs.declared.long_heads.LongHeads.{LongHeads}
+use Rattle.rq_cells.specs.declared.scanner.KnownHead.{KnownHead}
 use Rattle.rq_cells.specs.declared.scanner.Scan.{Scan}
-use Rattle.rq_cells.specs.Cells.{head_size, cell_size}
-use Rattle.rq_cells.specs.Found.{has_head, packet_at, is_damaged, is_other, packets_in, damaged_in, others_in}
+use Rattle.rq_cells.specs.Cells.{Key, head_size, head_at, cell_size, digest_of}
+use Rattle.rq_cells.specs.Found.{Source, head_of, is_long, long_head_of, is_other, cells_in, damaged_in, others_in}
 
--- What comes behind the bytes may make more of them: a head, or a cell of the object.
-abbrev pub is_open : Head → List ℕ → Bool
-is_open h bytes = nat_lt (length bytes) head_size || (has_head h bytes && nat_lt (length bytes) (cell_size h.configuration))
+-- bytes that begin with these begin with this head
+abbrev pub IsKnown : Key → KnownHead → Type 0
+IsKnown key known = (bytes : List ℕ) → starts_with nat_eq bytes known.bytes ≡ true → head_at key bytes ≡ Some known.head
 
--- Bytes that aren't open begin with a cell of the object or a damaged one, with the head of another object, or with none of these.
-pub record Begins (h : Head) (bytes : List ℕ) (p : Option Packet) (d o : Bool) : Type 0 where
-  pub settled : is_open h bytes ≡ false
-  pub packet : packet_at h bytes ≡ p
-  pub damaged : is_damaged h bytes ≡ d
-  pub other : is_other h bytes ≡ o
+-- What comes behind the bytes may make more of them: a head, or a cell.
+abbrev pub is_open : Source → List ℕ → Bool
+is_open s bytes = nat_lt (length bytes) head_size || (is_some (head_of s bytes) && not (is_long s bytes))
+
+-- Bytes that aren't open begin with a head behind which a cell's bytes stand, with another's head, or with none of these.
+pub record Begins (s : Source) (bytes : List ℕ) (h : Option Head) (o : Bool) : Type 0 where
+  pub settled : is_open s bytes ≡ false
+  pub head : long_head_of s bytes ≡ h
+  pub other : is_other s bytes ≡ o
 
 -- what stands where bytes begin
-abbrev pub IsPlace : Head → List ℕ → Place → Type 0
-IsPlace h bytes P.Open = is_open h bytes ≡ true
-IsPlace h bytes P.Nothing = Begins h bytes None false false
-IsPlace h bytes (P.Packet p) = Begins h bytes (Some p) false false
-IsPlace h bytes P.Damaged = Begins h bytes None true false
-IsPlace h bytes P.Other = Begins h bytes None false true
+abbrev pub IsPlace : Source → List ℕ → Place → Type 0
+IsPlace s bytes P.Open = is_open s bytes ≡ true
+IsPlace s bytes P.Nothing = Begins s bytes None false
+IsPlace s bytes (P.Headed h) = Begins s bytes (Some h) false
+IsPlace s bytes P.Other = Begins s bytes None true
 
 -- None are left, or what comes behind them may make more of them where they begin.
-abbrev pub IsUnsettled : Head → List ℕ → Type 0
-IsUnsettled h bytes = (bytes ≡ []) ⊎ (is_open h bytes ≡ true)
+abbrev pub IsUnsettled : Source → List ℕ → Type 0
+IsUnsettled s bytes = (bytes ≡ []) ⊎ (is_open s bytes ≡ true)
+
+-- the heads at the first n places behind which a cell's bytes stand
+abbrev pub long_heads_before : Source → List ℕ → ℕ → List LongHead
+long_heads_before s bytes zero = []
+long_heads_before s bytes (suc n) =
+    long_heads_before s bytes n ++ cons_option (option_map (λ h. record { at = n; head = h }) (long_head_of s (drop n bytes))) []
+
+-- What stands at the first places, whatever comes behind the bytes: up to the first of which these don't say it yet.
+pub record AreLongHeads (s : Source) (bytes : List ℕ) (found : LongHeads) : Type 0 where
+  pub within : found.places ≤ length bytes
+  pub settled : (i : ℕ) → i < found.places → is_open s (drop i bytes) ≡ false
+  pub stopped : IsUnsettled s (drop found.places bytes)
+  pub heads : found.heads.items ≡ long_heads_before s bytes found.places
+  pub others : (rest : List ℕ) → others_in s (bytes ++ rest) ≡ found.others + others_in s (drop found.places bytes ++ rest)
+
+-- it carries its symbol's digest
+abbrev pub HasDigest : FoundCell → Type 0
+HasDigest found = found.digest ≡ digest_of found.cell.packet.payload
 
 -- What stands at the first places of some bytes, whatever comes behind the bytes: up to the first of which these don't say it yet. In what is left no
--- cell of the object is whole.
-pub record Settles (h : Head) (bytes : List ℕ) (scan : Scan) : Type 0 where
+-- cell is whole.
+pub record Settles (s : Source) (bytes : List ℕ) (scan : Scan) : Type 0 where
   pub within : scan.places ≤ length bytes
-  pub few : length bytes - scan.places < cell_size h.configuration
-  pub stopped : IsUnsettled h (drop scan.places bytes)
-  pub none : packets_in h (drop scan.places bytes) ≡ []
-  pub no_damaged : damaged_in h (drop scan.places bytes) ≡ 0
-  pub packets : (rest : List ℕ) → packets_in h (bytes ++ rest) ≡ scan.packets.items ++ packets_in h (drop scan.places bytes ++ rest)
-  pub damaged : (rest : List ℕ) → damaged_in h (bytes ++ rest) ≡ scan.damaged + damaged_in h (drop scan.places bytes ++ rest)
-  pub others : (rest : List ℕ) → others_in h (bytes ++ rest) ≡ scan.others + others_in h (drop scan.places bytes ++ rest)
+  pub few : length bytes - scan.places < cell_size s.symbol_size
+  pub stopped : IsUnsettled s (drop scan.places bytes)
+  pub none : cells_in s (drop scan.places bytes) ≡ []
+  pub no_damaged : damaged_in s (drop scan.places bytes) ≡ 0
+  pub cells : (rest : List ℕ) → cells_in s (bytes ++ rest) ≡ map (λ found. found.cell) scan.cells.items ++ cells_in s (drop scan.places bytes ++ rest)
+  pub digests : All HasDigest scan.cells.items
+  pub damaged : (rest : List ℕ) → damaged_in s (bytes ++ rest) ≡ scan.damaged + damaged_in s (drop scan.places bytes ++ rest)
+  pub others : (rest : List ℕ) → others_in s (bytes ++ rest) ≡ scan.others + others_in s (drop scan.places bytes ++ rest)

@@ -1,147 +1,210 @@
-//! Cells of one object among any bytes.
-ghost use Rattle.std.specs.Prelude.{◌≡◌, Ok, IfOk, IfErr};
-ghost use Rattle.rq_bytes.specs.Refusals.{IsAnswer};
-ghost use Rattle.rq_cells.specs.Cells.{IsHead};
-ghost use Rattle.rq_cells.specs.Found.{others_in};
-ghost use Rattle.rq_cells.specs.Scans.{Settles, IsPlace};
+//! Cells of one stream among any bytes.
+ghost use Rattle.std.specs.Prelude.{◌≡◌, ◌≤◌, length, Some, IfSome, IfOk, IfErr};
+ghost use Rattle.rq_cells.specs.Cells.{head_at, head_size, cell_size};
+ghost use Rattle.rq_cells.specs.Found.{source_of, is_of, is_other, others_in};
+ghost use Rattle.rq_cells.specs.Scans.{Settles, AreLongHeads, IsPlace};
 
-use crate::cell::read_behind;
-use crate::head::{HEAD_LENGTH, Head, MARK, headless_places};
-use rq_base::base::EncodingPacket;
+use crate::cell::FoundCell;
+use crate::checking::check_cells;
+use crate::head::{HEAD_LENGTH, Head, STREAM_LENGTH, headless_places};
+use crate::key::{CHECK_LENGTH, Key};
+use crate::long_heads::{LongHead, LongHeads, Place};
+use crate::parts::part;
+use rq_base::base::PAYLOAD_ID_LENGTH;
 use rq_bytes::error::Error;
 use std::alloc::Global;
 use std::marker::Model;
-
-/// What stands at a place of bytes.
-#[derive(Debug, PartialEq, Eq, Drop)]
-pub(crate) enum Place {
-    /// The bytes don't say it yet: they are too few.
-    Open,
-    /// Neither a cell of the object nor a head of another one.
-    Nothing,
-    /// A cell of the object, with this packet.
-    Packet(EncodingPacket),
-    /// A cell of the object that is damaged behind its head.
-    Damaged,
-    /// The head of another object's cells.
-    Other,
-}
 
 /// What stands at the first places of some bytes, whatever comes behind the bytes.
 #[derive(Debug, PartialEq, Eq, Drop)]
 pub struct Scan {
     /// How many places these are.
     pub places: usize,
-    /// The packets of the object's cells at these places, in order.
-    pub packets: Vec<EncodingPacket>,
+    /// The stream's cells at these places, in order.
+    pub cells: Vec<FoundCell>,
     /// How many of its cells are damaged behind their head.
     pub damaged: usize,
-    /// How many heads are those of other objects.
+    /// How many heads are those of other streams' cells, or of cells of another length.
     pub others: usize,
 }
 
-/// Finds the cells of one object among any bytes.
-#[derive(Debug, Drop)]
+// A head that was right, and its bytes.
+#[derive(Clone, Copy, Debug)]
+pub(crate) struct KnownHead {
+    pub head: Head,
+    pub bytes: [u8; HEAD_LENGTH],
+}
+
+/// Finds the cells of one stream among any bytes: those of one length.
+#[derive(Drop)]
 pub struct CellScanner {
-    head: Head,
-    bytes: Vec<u8>,
-    cell_length: usize,
+    key: Key,
+    stream: [u8; STREAM_LENGTH],
+    symbol_size: u16,
+    // The last head that was right isn't hashed again.
+    known: Option<KnownHead>,
 }
 
 impl Model for CellScanner {
-    ghost use Rattle.std.specs.Prelude.{◌≡◌};
-    ghost use Rattle.rq_cells.specs.declared.head.Head.{Head};
-    ghost use Rattle.rq_cells.specs.Cells.{IsHead, head_bytes, cell_size};
+    ghost use Rattle.std.specs.Prelude.{◌≡◌, IfSome};
+    ghost use Rattle.rq_cells.specs.Found.{Source};
+    ghost use Rattle.rq_cells.specs.Scans.{IsKnown};
 
-    ghost Value = { Head };
+    ghost Value = { Source };
 
-    ghost view = { λ s. s.head };
+    ghost view = { λ s. record { key = s.key; stream = s.stream; symbol_size = s.symbol_size } };
 
-    ghost invariant = { λ s. IsHead s.head × (s.bytes.items ≡ head_bytes s.head) × (s.cell_length ≡ cell_size s.head.configuration) };
+    ghost invariant = { λ s. IfSome s.known (IsKnown s.key) };
 }
 
 impl CellScanner {
-    /// A scanner of the cells with this head.
-    pub fn new(alloc: Global, head: Head) -> Result<CellScanner, Error>
-        ensures { IsAnswer (λ s. s) result (Ok head) }
+    /// A scanner of the cells that are a head's: those of its stream whose symbols are as long.
+    pub fn new(key: Key, head: &Head) -> CellScanner
+        ensures { result ≡ source_of key head.now }
     {
-        Ok(CellScanner {
-            head,
-            bytes: head.serialize(alloc)?,
-            cell_length: head.cell_length(),
-        })
+        CellScanner {
+            key,
+            stream: head.stream,
+            symbol_size: head.configuration.symbol_size(),
+            known: None,
+        }
     }
 
-    /// The head of the cells that it finds.
-    pub fn head(&self) -> Head
-        ensures { result ≡ self.now }
+    // How many bytes its cells have.
+    fn cell_length(&self) -> usize
+        ensures { result ≡ cell_size self.now.symbol_size }
     {
-        self.head
+        HEAD_LENGTH + PAYLOAD_ID_LENGTH + usize::from(self.symbol_size) + CHECK_LENGTH
+    }
+
+    /// Whether a head is one of its cells'.
+    pub fn is_of(&self, head: &Head) -> bool
+        ensures { result ≡ is_of self.now head.now }
+    {
+        head.stream == self.stream && head.configuration.symbol_size() == self.symbol_size
+    }
+
+    // The known head, where bytes begin with it.
+    fn known_head(&self, bytes: &[u8]) -> Option<Head>
+        ensures { IfSome result (λ head. head_at self.now.key bytes.now ≡ Some head) }
+    {
+        match &self.known {
+            Some(known) if bytes.starts_with(&known.bytes) => Some(known.head),
+            _ => None,
+        }
+    }
+
+    // Makes the head with which bytes begin the known one.
+    fn remember(&mut self, head: &Head, bytes: &[u8])
+        requires long { head_size ≤ length bytes.now }
+        requires head { head_at self.old.key bytes.now ≡ Some head.now }
+        ensures { self.new ≡ self.old }
+    {
+        self.known = Some(KnownHead {
+            head: *head,
+            bytes: part(bytes, 0),
+        });
+    }
+
+    // The head whose bytes these begin with, whoever's.
+    fn read_head(&mut self, bytes: &[u8]) -> Option<Head>
+        requires { head_size ≤ length bytes.now }
+        ensures head { result ≡ head_at self.old.key bytes.now }
+        ensures same { self.new ≡ self.old }
+    {
+        if let Some(head) = self.known_head(bytes) {
+            return Some(head);
+        }
+        let Some(head) = Head::read(&self.key, bytes) else {
+            return None;
+        };
+        self.remember(&head, bytes);
+        Some(head)
     }
 
     // What stands where these bytes begin.
-    fn look(&self, alloc: Global, bytes: &[u8]) -> Result<Place, Error>
-        ensures place { IfOk result (IsPlace self.now bytes.now) }
-        ensures head { IsHead self.now }
-        ensures memory { IfErr result (λ e. e ≡ Error.OutOfMemory) }
+    fn look(&mut self, bytes: &[u8]) -> Place
+        ensures place { IsPlace self.old bytes.now result }
+        ensures same { self.new ≡ self.old }
     {
-        let head = self.head;
         if bytes.len() < HEAD_LENGTH {
-            return Ok(Place::Open);
+            return Place::Open;
         }
-        if !bytes.starts_with(&MARK) {
-            return Ok(Place::Nothing);
+        let Some(head) = self.read_head(bytes) else {
+            return Place::Nothing;
+        };
+        if !self.is_of(&head) {
+            return Place::Other;
         }
-        if !bytes.starts_with(self.bytes.as_slice()) {
-            return Ok(match Head::read(bytes) {
-                Some(_) => Place::Other,
-                None => Place::Nothing,
-            });
+        if bytes.len() < self.cell_length() {
+            return Place::Open;
         }
-        if bytes.len() < self.cell_length {
-            return Ok(Place::Open);
+        Place::Headed(head)
+    }
+
+    // Looks at each place up to the first of which the bytes don't say yet what stands there.
+    fn long_heads(&mut self, alloc: Global, bytes: &[u8]) -> Result<LongHeads, Error>
+        ensures found { IfOk result (AreLongHeads self.old bytes.now) }
+        ensures memory { IfErr result (λ e. e ≡ Error.OutOfMemory) }
+        ensures same { self.new ≡ self.old }
+    {
+        let mut found = LongHeads {
+            places: 0,
+            heads: Vec::with_capacity(alloc, bytes.len() / self.cell_length())?,
+            others: 0,
+        };
+        'places: while found.places < bytes.len() {
+            found.places += headless_places(&bytes[found.places..]);
+            match self.look(&bytes[found.places..]) {
+                Place::Open => break,
+                Place::Nothing => {}
+                Place::Headed(head) => found.heads.push(LongHead {
+                    at: found.places,
+                    head,
+                })?,
+                Place::Other => found.others += 1,
+            }
+            found.places += 1;
         }
-        Ok(match read_behind(alloc, head, bytes)? {
-            Some(cell) => Place::Packet(cell.packet),
-            None => Place::Damaged,
-        })
+        Ok(found)
     }
 
     /// Looks at each place of bytes behind which others may come, up to the first of which these don't
-    /// say yet what stands there. From there on no cell of the object is whole. Refuses
+    /// say yet what stands there. From there on no cell of the stream is whole. Refuses
     /// [`Error::OutOfMemory`] alone.
-    pub fn scan(&self, alloc: Global, bytes: &[u8]) -> Result<Scan, Error>
-        ensures scan { IfOk result (Settles self.now bytes.now) }
+    pub fn scan(&mut self, alloc: Global, bytes: &[u8]) -> Result<Scan, Error>
+        ensures scan { IfOk result (Settles self.old bytes.now) }
         ensures memory { IfErr result (λ e. e ≡ Error.OutOfMemory) }
+        ensures same { self.new ≡ self.old }
     {
-        let mut scan = Scan {
-            places: 0,
-            packets: Vec::with_capacity(alloc, bytes.len() / self.cell_length)?,
-            damaged: 0,
-            others: 0,
-        };
-        'places: while scan.places < bytes.len() {
-            scan.places += headless_places(&bytes[scan.places..]);
-            match self.look(alloc, &bytes[scan.places..])? {
-                Place::Open => break,
-                Place::Nothing => {}
-                Place::Packet(packet) => scan.packets.push(packet)?,
-                Place::Damaged => scan.damaged += 1,
-                Place::Other => scan.others += 1,
-            }
-            scan.places += 1;
-        }
-        Ok(scan)
+        let found = self.long_heads(alloc, bytes)?;
+        let symbol_size = usize::from(self.symbol_size);
+        let checked = check_cells(alloc, &self.key, found.heads.as_slice(), symbol_size, bytes)?;
+        Ok(Scan {
+            places: found.places,
+            cells: checked.cells,
+            damaged: checked.damaged,
+            others: found.others,
+        })
     }
 
-    /// How many heads in some bytes are those of other objects, at whatever places.
+    // Whether bytes begin with the head of another's cell.
+    fn is_other(&self, bytes: &[u8]) -> bool
+        ensures { result ≡ is_other self.now bytes.now }
+    {
+        match Head::read(&self.key, bytes) {
+            Some(head) => !self.is_of(&head),
+            None => false,
+        }
+    }
+
+    /// How many heads in some bytes are others', at whatever places.
     pub fn count_others(&self, bytes: &[u8]) -> usize
         ensures { result ≡ others_in self.now bytes.now }
     {
         let mut others = 0;
         for at in 0..bytes.len() {
-            let here = &bytes[at..];
-            if !here.starts_with(self.bytes.as_slice()) && Head::read(here).is_some() {
+            if self.is_other(&bytes[at..]) {
                 others += 1;
             }
         }

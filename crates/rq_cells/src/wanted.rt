@@ -1,14 +1,34 @@
 //! The first cell that a receiver takes.
 ghost use Rattle.std.specs.Prelude.{◌≡◌, IfOk, IfErr, true};
-ghost use Rattle.rq_standard.specs.TableRows.{greatest_size};
-ghost use Rattle.rq_cells.specs.Found.{has_head};
-ghost use Rattle.rq_cells.specs.Wanted.{is_wanted, IsCandidate, IsSearch};
+ghost use Rattle.rq_cells.specs.Wanted.{wish_of, is_wanted, IsCandidate, IsSearch};
 
-use crate::cell::read_behind;
+use crate::cell::Cell;
 use crate::head::{HEAD_LENGTH, Head, headless_places};
+use crate::key::Key;
 use rq_bytes::error::Error;
 use rq_tables::systematic_constants::SystematicTable;
 use std::alloc::Global;
+
+/// Which cells are wanted: those whose configuration coders take over a table, and whose stream begins
+/// with some bytes.
+#[derive(Clone, Copy)]
+pub struct Wanted<'a> {
+    /// What their checks are made with.
+    pub key: &'a Key,
+    /// The table.
+    pub table: &'a SystematicTable,
+    /// How the stream begins: any does where there are no bytes.
+    pub name: &'a [u8],
+}
+
+impl Wanted<'_> {
+    // Whether a head is that of wanted cells.
+    fn wants(&self, head: &Head) -> bool
+        ensures { result ≡ is_wanted (wish_of self.now) head.now }
+    {
+        head.configuration.check(self.table).is_ok() && head.stream.starts_with(self.name)
+    }
+}
 
 /// What stands at a place of bytes in which no cell was taken yet.
 #[derive(Clone, Copy, Debug, PartialEq, Eq)]
@@ -52,53 +72,33 @@ pub enum Search {
     },
 }
 
-// Whether coders take the head's configuration over a table, and its name and configuration begin
-// with some bytes. `bytes` begin with the head.
-fn is_wanted(table: &SystematicTable, name: &[u8], head: &Head, bytes: &[u8]) -> bool
-    requires { has_head head.now bytes.now ≡ true }
-    ensures { result ≡ is_wanted (greatest_size table.now) name.now head.now }
-{
-    head.configuration.check(table).is_ok() && bytes[4..32].starts_with(name)
-}
-
 // What stands where these bytes begin.
-fn look(
-    alloc: Global,
-    table: &SystematicTable,
-    name: &[u8],
-    bytes: &[u8],
-) -> Result<Candidate, Error>
-    ensures candidate { IfOk result (IsCandidate (greatest_size table.now) name.now bytes.now) }
+fn look(alloc: Global, wanted: &Wanted<'_>, bytes: &[u8]) -> Result<Candidate, Error>
+    ensures candidate { IfOk result (IsCandidate (wish_of wanted.now) bytes.now) }
     ensures memory { IfErr result (λ e. e ≡ Error.OutOfMemory) }
 {
     if bytes.len() < HEAD_LENGTH {
         return Ok(Candidate::Open);
     }
-    let Some(head) = Head::read(bytes) else {
+    let Some(head) = Head::read(wanted.key, bytes) else {
         return Ok(Candidate::Nothing);
     };
-    if !is_wanted(table, name, &head, bytes) {
+    if !wanted.wants(&head) {
         return Ok(Candidate::Other);
     }
     if bytes.len() < head.cell_length() {
         return Ok(Candidate::Open);
     }
-    Ok(match read_behind(alloc, head, bytes)? {
+    Ok(match Cell::read(alloc, wanted.key, bytes)? {
         Some(cell) => Candidate::Found(cell.head),
         None => Candidate::Damaged,
     })
 }
 
-/// The first wanted cell in bytes behind which others may come: one whose configuration coders take
-/// over a table, and whose name and configuration begin with `name`. A cell that is begun and not
-/// whole yet doesn't hold up one behind it. Refuses [`Error::OutOfMemory`] alone.
-pub fn first_wanted(
-    alloc: Global,
-    table: &SystematicTable,
-    name: &[u8],
-    bytes: &[u8],
-) -> Result<Search, Error>
-    ensures search { IfOk result (IsSearch (greatest_size table.now) name.now bytes.now) }
+/// The first wanted cell in bytes behind which others may come. A cell that is begun and not whole yet
+/// doesn't hold up one behind it. Refuses [`Error::OutOfMemory`] alone.
+pub fn first_wanted(alloc: Global, wanted: &Wanted<'_>, bytes: &[u8]) -> Result<Search, Error>
+    ensures search { IfOk result (IsSearch (wish_of wanted.now) bytes.now) }
     ensures memory { IfErr result (λ e. e ≡ Error.OutOfMemory) }
 {
     let mut heads = Heads::default();
@@ -106,7 +106,7 @@ pub fn first_wanted(
     let mut at = 0;
     'places: while at < bytes.len() {
         at += headless_places(&bytes[at..]);
-        match look(alloc, table, name, &bytes[at..])? {
+        match look(alloc, wanted, &bytes[at..])? {
             Candidate::Open => pending = pending.or(Some((at, heads))),
             Candidate::Nothing => {}
             Candidate::Damaged => heads.damaged += 1,

@@ -5,4 +5,4 @@ use Rattle.rq_cells.proofs.CellBytes.{cell_at-written}
 use Rattle.rq_cells.proofs.laws.cells_are_written.Goals as goal
 
 pub returns : goal.returns
-returns c = λ cell bytes is. (drop (length (cell_bytes cell)) bytes, starts_with_rest bytes (cell_bytes cell) (cell_at-written bytes cell is))
+returns c = λ key cell bytes is. (drop (length (cell_bytes key cell)) bytes, starts_with_rest bytes (cell_bytes key cell) (cell_at-written key bytes cell is))

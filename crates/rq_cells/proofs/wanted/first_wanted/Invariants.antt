@@ -1,5 +1,5 @@
 use Rattle.std.proofs.Common.{◌-◌, ◌≤◌, length}
-use Rattle.rq_standard.specs.TableRows.{greatest_size}
+use Rattle.rq_cells.specs.Wanted.{wish_of}
 use Rattle.rq_cells.proofs.WantedCells.{SearchedTo}
 use Rattle.rq_cells.proofs.wanted.first_wanted.Given as goal
 
@@ -7,7 +7,7 @@ use Rattle.rq_cells.proofs.wanted.first_wanted.Given as goal
 abbrev pub invariant-places : goal.invariant-places
 invariant-places l = record {
   within : l.at ≤ length l.fn.bytes;
-  searched : SearchedTo (greatest_size l.fn.table) l.fn.name l.fn.bytes l.at l.heads l.pending;
+  searched : SearchedTo (wish_of l.fn.wanted) l.fn.bytes l.at l.heads l.pending;
 }
 
 abbrev pub decreases-places : goal.decreases-places
