@@ -4,7 +4,7 @@ use Rattle.std.specs.Int.{div_ceil}
 use Rattle.std.proofs.lemmas.Bool.{cases_lt}
 use Rattle.std.proofs.lemmas.Grind.{div_ceil_times}
 use Rattle.std.proofs.Math.Nat.{mul-le-mul, mul-le-mul_right}
-use Rattle.rq_cast.specs.Loss.{whole, IsEnough, IsLeastEnough}
+use Rattle.rq_cast.specs.Loss.{whole, IsLeastEnough}
 
 -- the least number whose square isn't below another one: behind one whose square is
 pub root_behind : (squared below r : ℕ) → below * below < squared → squared ≤ r * r → below + 1 ≤ r

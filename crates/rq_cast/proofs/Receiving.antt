@@ -1,36 +1,122 @@
 -- The cells that are whole in what was read.
-use Rattle.std.proofs.Common.{◌≡◌, inl, inr, ℕ, ◌+◌, ◌-◌, ◌^◌, ◌≤◌, ◌<◌, List, [], ◌++◌, length, drop, refl, sym, ap, subst, ◌∙◌, arith, append-nil, append_assoc, length-append, Option, None, Some, Bool, true, false, Vec, Global}
+use Rattle.std.proofs.Common.{◌≡◌, inl, inr, ℕ, ◌+◌, ◌-◌, ◌^◌, ◌≤◌, ◌<◌, List, [], ◌∷◌, ◌++◌, length, drop, refl, sym, ap, subst, ◌∙◌, arith, append-nil, append_assoc, length-append, map, filter, Option, None, Some, Bool, true, false, not, cond, if◌then◌else◌, Vec, Global}
 use Rattle.std.specs.Prelude.{IsSome, is_some}
 use Rattle.std.proofs.lemmas.Bool.{true≢false}
 use Rattle.std.specs.Io.KnownBytes.{Consumes, IsAtEnd}
 use Rattle.std.proofs.KnownBytes.{Consumes-nil, Consumes-trans}
-use Rattle.std.proofs.lemmas.List.{nil_from_length}
+use Rattle.std.proofs.lemmas.List.{nil_from_length, map-append, length-map}
+use Rattle.std.proofs.lemmas.List.Elements.{filter-append}
+use Rattle.std.proofs.lemmas.List.Sums.{sum_by-append, length-filter}
+use Rattle.std.proofs.lemmas.List.Filters.{length-filter_both}
 use Rattle.rq_bytes.specs.declared.error.Error.{Error}
 use Rattle.rq_standard.specs.Configuration.{Configuration}
+use Rattle.rq_standard.specs.Packet.{Packet}
 use Rattle.rq_standard.specs.DecoderState.{result_of}
 use Rattle.raptorq.specs.Decoder.{state_of}
 use Rattle.raptorq.specs.declared.decoder.object.Decoder.{Decoder}
 use Rattle.rq_cells.specs.declared.head.Head.{Head}
+use Rattle.rq_cells.specs.declared.cell.Cell.{Cell}
+use Rattle.rq_cells.specs.declared.cell.FoundCell.{FoundCell}
 use Rattle.rq_cells.specs.declared.scanner.Scan.{Scan}
-use Rattle.rq_cells.specs.Found.{packets_in, damaged_in, others_in}
+use Rattle.rq_cells.specs.Found.{cells_in}
 use Rattle.rq_cells.specs.Scans.{Settles}
 use Rattle.rq_cast.specs.declared.receiver.Receiver.{Receiver}
 use Rattle.rq_cast.specs.declared.receiver.Seen.{Seen}
+use Rattle.rq_cast.specs.Parts.{Part, source_of_part, has_head, is_of_part, packets_of_part, count_of_others, packets_in, damaged_in, other_cells_in, others_in}
 use Rattle.rq_cast.specs.Taken.{known_packets, unknown_count, TakesAll, StopsAmong}
 use Rattle.rq_cast.specs.Reading.{chunk_length, ReadsOnce}
-use Rattle.rq_cast.specs.Receiving.{counted, TakesFrom, TakesCells, HasSeen, HasTaken, IsLast, EndsDetermined, EndsUndetermined, RefusesPackets, ReceivesBehind, SeesBehind}
+use Rattle.rq_cast.specs.Receiving.{part_of, counted, TakesFrom, TakesCells, HasSeen, HasTaken, IsLast, EndsDetermined, EndsUndetermined, RefusesPackets, ReceivesBehind, SeesBehind}
 use Rattle.rq_cast.proofs.TakenPackets.{takes_both, stops_behind, known_both, unknown_both}
 
--- what a scan takes is all that is there
-pub all_settled : (h : Head) (bytes : List ℕ) (s : Scan) → Settles h bytes s → packets_in h bytes ≡ s.packets.items
-all_settled h bytes s settles =
-    ap (packets_in h) (sym (append-nil bytes)) ∙ settles.packets []
-    ∙ ap (λ xs. s.packets.items ++ packets_in h xs) (append-nil (drop s.places bytes))
-    ∙ ap (λ ps. s.packets.items ++ ps) settles.none
-    ∙ append-nil s.packets.items
+-- ---- what a scan finds of a part
+
+-- cells and those behind them
+packets_both : (p : Part) (xs ys : List Cell) → packets_of_part p (xs ++ ys) ≡ packets_of_part p xs ++ packets_of_part p ys
+packets_both p xs ys =
+    ap (map (λ (c : Cell). c.packet)) (filter-append (is_of_part p) xs ys)
+    ∙ map-append (λ (c : Cell). c.packet) (filter (is_of_part p) xs) (filter (is_of_part p) ys)
+
+-- the packets of the cells among those that were found which have a head
+abbrev pub found_with : Head → List FoundCell → List Packet
+found_with h found = map (λ f. f.cell.packet) (filter (λ f. has_head h f.cell) found)
+
+-- one more
+module _ (h : Head) (done : List FoundCell) (f : FoundCell) where
+  with_one : (b : Bool) → has_head h f.cell ≡ b
+      → found_with h (done ++ f ∷ []) ≡ found_with h done ++ map (λ (g : FoundCell). g.cell.packet) (if b then f ∷ [] else [])
+  with_one b is =
+      let test = λ (g : FoundCell). has_head h g.cell in
+      let packet = λ (g : FoundCell). g.cell.packet in
+      ap (map packet) (filter-append test done (f ∷ [])) ∙ map-append packet (filter test done) (filter test (f ∷ []))
+      ∙ ap (λ (a : Bool). found_with h done ++ map packet (if a then f ∷ [] else [])) is
+
+  pub with_more : has_head h f.cell ≡ true → found_with h (done ++ f ∷ []) ≡ found_with h done ++ f.cell.packet ∷ []
+  with_more is = with_one true is
+
+  pub with_same : has_head h f.cell ≡ false → found_with h (done ++ f ∷ []) ≡ found_with h done
+  with_same is = with_one false is ∙ append-nil (found_with h done)
+
+same_found : (p : Part) (found : List FoundCell) → found_with p.head found ≡ packets_of_part p (map (λ f. f.cell) found)
+same_found p [] = refl
+same_found p (f ∷ found) = by (has_head p.head f.cell) refl (same_found p found)
+  where
+    by : (b : Bool) → has_head p.head f.cell ≡ b → found_with p.head found ≡ packets_of_part p (map (λ (g : FoundCell). g.cell) found)
+        → found_with p.head (f ∷ found) ≡ packets_of_part p (f.cell ∷ map (λ (g : FoundCell). g.cell) found)
+    by true e rest = rw e (ap (λ ps. f.cell.packet ∷ ps) rest)
+    by false e rest = rw e rest
+
+-- the packets of the cells of a part that were found
+pub same_packets : (p : Part) (s : Scan) → found_with p.head s.cells.items ≡ packets_of_part p (map (λ found. found.cell) s.cells.items)
+same_packets p s = same_found p s.cells.items
+
+module _ (p : Part) (bytes : List ℕ) (s : Scan) (settles : Settles (source_of_part p) bytes s) where
+  -- the cells that were found
+  abbrev pub found_cells : List Cell
+  found_cells = map (λ found. found.cell) s.cells.items
+
+  abbrev pub found_packets : List Packet
+  found_packets = packets_of_part p found_cells
+
+  pub packets_found : (rest : List ℕ) → packets_in p (bytes ++ rest) ≡ found_packets ++ packets_in p (drop s.places bytes ++ rest)
+  packets_found rest = ap (packets_of_part p) (settles.cells rest) ∙ packets_both p found_cells (cells_in (source_of_part p) (drop s.places bytes ++ rest))
+
+  pub none_left : packets_in p (drop s.places bytes) ≡ []
+  none_left = ap (packets_of_part p) settles.none
+
+  pub others_found : (rest : List ℕ)
+      → others_in p (bytes ++ rest) ≡ (s.others + count_of_others p found_cells) + others_in p (drop s.places bytes ++ rest)
+  others_found rest =
+      let count = ap (count_of_others p) (settles.cells rest)
+      ∙ sum_by-append (λ c. cond (not (is_of_part p c)) 1 0) found_cells (cells_in (source_of_part p) (drop s.places bytes ++ rest)) in
+      let heads = settles.others rest in
+      omega (arith, count, heads)
+
+  -- a cell is one of the part, or another one
+  pub of_part_or_not : length found_packets + count_of_others p found_cells ≡ length s.cells.items
+  of_part_or_not =
+      let others = λ (c : Cell). not (is_of_part p c) in
+      let both = length-filter_both (is_of_part p) others (λ c. refl) found_cells in
+      omega (
+        arith,
+        both,
+        length-map (filter (is_of_part p) found_cells) (λ (c : Cell). c.packet),
+        length-filter others found_cells,
+        length-map s.cells.items (λ (f : FoundCell). f.cell),
+      )
+
+  pub no_others_left : other_cells_in p (drop s.places bytes) ≡ 0
+  no_others_left = ap (count_of_others p) settles.none
+
+  -- what it takes is all that is there
+  pub all_settled : packets_in p bytes ≡ found_packets
+  all_settled =
+      ap (packets_in p) (sym (append-nil bytes)) ∙ packets_found []
+      ∙ ap (λ xs. found_packets ++ packets_in p xs) (append-nil (drop s.places bytes))
+      ∙ ap (λ ps. found_packets ++ ps) none_left
+      ∙ append-nil found_packets
 
 -- what is taken from bytes is all that is in them
-module _ (h : Head) (bytes : List ℕ) (old new : Receiver) (t : TakesFrom h bytes old new) where
+module _ (h : Part) (bytes : List ℕ) (old new : Receiver) (t : TakesFrom h bytes old new) where
   pub all_packets : packets_in h bytes ≡ t.packets
   all_packets =
       ap (packets_in h) (sym (append-nil bytes)) ∙ t.found []
@@ -47,12 +133,12 @@ module _ (h : Head) (bytes : List ℕ) (old new : Receiver) (t : TakesFrom h byt
 pub taken_first : (old new : Receiver) → TakesCells old new → HasTaken old new old.bytes.items
 taken_first old new cells =
     let t = cells.taken in
-    let h = old.scanner in
+    let h = part_of old in
     let c = (state_of old.decoder).configuration in
     let all = all_packets h old.bytes.items old new t in
     let damaged = all_damaged h old.bytes.items old new t in
     record {
-      head = cells.head;
+      part = cells.part;
       found = λ rest. t.found rest ∙ ap (λ ps. ps ++ packets_in h (new.bytes.items ++ rest)) (sym all);
       takes = subst (λ ps. TakesAll (state_of old.decoder) (known_packets c ps) (state_of new.decoder)) (sym all) t.takes;
       damaged_found = λ rest. t.damaged_found rest ∙ ap (λ n. n + damaged_in h (new.bytes.items ++ rest)) (sym damaged);
@@ -62,6 +148,7 @@ taken_first old new cells =
         heads = t.others;
         found = t.others_found;
         others = t.others_seen ∙ ap (λ ps. counted (old.seen.others + (t.others + unknown_count c ps))) (sym all);
+        no_others = t.no_others;
       };
     }
 
@@ -72,29 +159,30 @@ seen_still first now new all has seen bytes = record {
   cells = ap (λ (s : Seen). s.cells) seen ∙ has.cells;
   damaged = ap (λ (s : Seen). s.damaged) seen ∙ has.damaged;
   heads = has.heads;
-  found = λ rest. has.found rest ∙ ap (λ xs. has.heads + others_in first.scanner (xs ++ rest)) (sym bytes);
+  found = λ rest. has.found rest ∙ ap (λ xs. has.heads + others_in (part_of first) (xs ++ rest)) (sym bytes);
   others = ap (λ (s : Seen). s.others) seen ∙ has.others;
+  no_others = ap (other_cells_in (part_of first)) bytes ∙ has.no_others;
 }
 
 -- a receiver that keeps other bytes
 abbrev pub with_bytes : Receiver → Vec ℕ Global → Receiver
-with_bytes r bytes = record { scanner = r.scanner; decoder = r.decoder; bytes = bytes; seen = r.seen }
+with_bytes r bytes = record r { bytes = bytes }
 
 -- a piece more, and its cells
 module _ (old now : Receiver) (all : List ℕ) (has : HasTaken old now all) (bytes : Vec ℕ Global) (piece : List ℕ)
     (behind : bytes.items ≡ now.bytes.items ++ piece) where
-  abbrev h : Head
-  h = old.scanner
+  abbrev h : Part
+  h = part_of old
 
   abbrev c : Configuration
   c = (state_of old.decoder).configuration
 
   abbrev longer : Receiver
-  longer = record { scanner = now.scanner; decoder = now.decoder; bytes = bytes; seen = now.seen }
+  longer = record now { bytes = bytes }
 
   pub taken_next : (new : Receiver) → TakesCells longer new → HasTaken old new (all ++ piece)
   taken_next new cells =
-      let t : TakesFrom h bytes.items longer new = subst (λ k. TakesFrom k bytes.items longer new) has.head cells.taken in
+      let t : TakesFrom h bytes.items longer new = subst (λ k. TakesFrom k bytes.items longer new) has.part cells.taken in
       let same : (state_of now.decoder).configuration ≡ c = has.takes.configuration in
       let later : (rest : List ℕ) → now.bytes.items ++ (piece ++ rest) ≡ bytes.items ++ rest =
       λ rest. sym (append_assoc now.bytes.items piece rest) ∙ ap (λ xs. xs ++ rest) (sym behind) in
@@ -121,7 +209,7 @@ module _ (old now : Receiver) (all : List ℕ) (has : HasTaken old now all) (byt
       ∙ length-append (known_packets c (packets_in h all)) (known_packets c t.packets) in
       let known_here = ap (λ k. length (known_packets k t.packets)) same in
       record {
-        head = cells.head ∙ has.head;
+        part = cells.part ∙ has.part;
         found = λ rest.
             found rest ∙ sym (append_assoc (packets_in h all) t.packets (packets_in h (new.bytes.items ++ rest)))
             ∙ ap (λ ps. ps ++ packets_in h (new.bytes.items ++ rest)) (sym whole);
@@ -139,6 +227,7 @@ module _ (old now : Receiver) (all : List ℕ) (has : HasTaken old now all) (byt
               ∙ ap (λ xs. has.seen.heads + others_in h xs) (later rest) ∙ ap (λ n. has.seen.heads + n) (t.others_found rest) in
               omega (arith, all_of);
           others = omega (arith, t.others_seen, has.seen.others, unknown, unknown_here);
+          no_others = t.no_others;
         };
       }
 
@@ -147,7 +236,7 @@ module _ (old now : Receiver) (all : List ℕ) (has : HasTaken old now all) (byt
   taken_same none =
       let same : bytes.items ≡ now.bytes.items = behind ∙ ap (λ xs. now.bytes.items ++ xs) none ∙ append-nil now.bytes.items in
       record {
-        head = has.head;
+        part = has.part;
         found = λ rest. has.found rest ∙ ap (λ xs. packets_in h all ++ packets_in h (xs ++ rest)) (sym same);
         takes = has.takes;
         damaged_found = λ rest. has.damaged_found rest ∙ ap (λ xs. damaged_in h all + damaged_in h (xs ++ rest)) (sym same);
@@ -155,13 +244,13 @@ module _ (old now : Receiver) (all : List ℕ) (has : HasTaken old now all) (byt
       }
 
   -- or what came is refused
-  pub stops_next : (e : Error) → StopsAmong (state_of now.decoder) (known_packets (state_of now.decoder).configuration (packets_in now.scanner bytes.items)) e
+  pub stops_next : (e : Error) → StopsAmong (state_of now.decoder) (known_packets (state_of now.decoder).configuration (packets_in (part_of now) bytes.items)) e
       → StopsAmong (state_of old.decoder) (known_packets c (packets_in h (all ++ piece))) e
   stops_next e stops =
       let same : (state_of now.decoder).configuration ≡ c = has.takes.configuration in
       let here : StopsAmong (state_of now.decoder) (known_packets c (packets_in h bytes.items)) e =
-      subst (λ k. StopsAmong (state_of now.decoder) (known_packets c (packets_in k bytes.items)) e) has.head
-      (subst (λ k. StopsAmong (state_of now.decoder) (known_packets k (packets_in now.scanner bytes.items)) e) same stops) in
+      subst (λ k. StopsAmong (state_of now.decoder) (known_packets c (packets_in k bytes.items)) e) has.part
+      (subst (λ k. StopsAmong (state_of now.decoder) (known_packets k (packets_in (part_of now) bytes.items)) e) same stops) in
       let whole : packets_in h (all ++ piece) ≡ packets_in h all ++ packets_in h bytes.items = has.found piece
       ∙ ap (λ xs. packets_in h all ++ packets_in h xs) (sym behind) in
       subst (λ ps. StopsAmong (state_of old.decoder) ps e)
@@ -245,12 +334,12 @@ module _ (old : Receiver) (had : List ℕ) (before : Option (List ℕ)) (n : ℕ
         }
 
     pub refuses_next : (e : Error)
-        → StopsAmong (state_of now.decoder) (known_packets (state_of now.decoder).configuration (packets_in now.scanner bytes.items)) e
+        → StopsAmong (state_of now.decoder) (known_packets (state_of now.decoder).configuration (packets_in (part_of now) bytes.items)) e
         → RefusesPackets old had before after' e
     refuses_next e stops = record {
       past = past ++ piece;
       read = all_read;
-      stops = subst (λ xs. StopsAmong (state_of old.decoder) (known_packets (state_of old.decoder).configuration (packets_in old.scanner xs)) e)
+      stops = subst (λ xs. StopsAmong (state_of old.decoder) (known_packets (state_of old.decoder).configuration (packets_in (part_of old) xs)) e)
           (append_assoc had past piece) (stops_next old now (had ++ past) r.taken bytes piece behind e stops);
     }
 
@@ -273,12 +362,12 @@ receives_many old had before n now after n' reads r many false e = ends_in_many 
 
 pub sees_behind : (first : Receiver) (had : List ℕ) (now new : Receiver) (before after after' : Option (List ℕ)) (n n' m reads : ℕ)
     → IsReceiving first had now before after n n' reads → ReadsOnce after after' m
-    → new.scanner ≡ now.scanner → new.seen ≡ now.seen → new.bytes.items ≡ now.bytes.items → SeesBehind first had new before after' m
-sees_behind first had now new before after after' n n' m reads r once head seen bytes = record {
+    → part_of new ≡ part_of now → new.seen ≡ now.seen → new.bytes.items ≡ now.bytes.items → SeesBehind first had new before after' m
+sees_behind first had now new before after after' n n' m reads r once part seen bytes = record {
   past = r.earlier ++ r.last;
   last = once.piece;
   read = Consumes-trans before after after' (r.earlier ++ r.last) once.piece r.read once.taken;
   brought = once.brought;
-  head = head ∙ r.taken.head;
+  part = part ∙ r.taken.part;
   seen = seen_still first now new (had ++ (r.earlier ++ r.last)) r.taken.seen seen bytes;
 }

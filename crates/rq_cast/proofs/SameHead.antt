@@ -1,15 +1,22 @@
--- Heads that are equal.
-use Rattle.std.proofs.Common.{◌≡◌, Bool, true, List, subst, rules}
+-- Heads that are equal, and heads of one stream.
+use Rattle.std.proofs.Common.{◌≡◌, true, ℕ, List, map, nat_eq, sym, ap, subst, ◌∙◌, arith, rules}
 use Rattle.std.specs.Prelude.{Contains}
 use Rattle.std.specs.List.{list_any}
+use Rattle.std.specs.Cmp.Lexicographic.{pointwise}
+use Rattle.std.proofs.lemmas.List.{get_or-map, length-map}
 use Rattle.std.proofs.lemmas.List.Folds.{Any-from_list_any}
 use Rattle.rq_cells.specs.declared.head.Head.{Head}
-use Rattle.rq_cells.specs.contracts.head.HeadPartialEq.TheImpl.{ghosts}
+use Rattle.rq_cells.specs.declared.cell.Cell.{Cell}
+use Rattle.rq_cells.proofs.Beginnings.{same_from_test}
+use Rattle.rq_cast.specs.Parts.{has_head}
 
-same_head : (a b : Head) → ghosts.eq a b ≡ true → a ≡ b
-same_head a b is = search rules
+pub same_head : (h : Head) (cell : Cell) → has_head h cell ≡ true → cell.head ≡ h
+same_head h cell is = search rules
 
--- a head that one in a list is equal to stands in it
-pub Contains-equal : (heads : List Head) (h : Head) → list_any (λ y. ghosts.eq y h) heads ≡ true → Contains heads h
-Contains-equal heads h is =
-    let (k, x, less, there, same) = Any-from_list_any (λ y. ghosts.eq y h) heads is in subst (Contains heads) (same_head x h same) (k, less, there)
+-- one of some heads is that of a stream
+pub Contains-stream : (heads : List Head) (s : List ℕ) → list_any (λ h. pointwise nat_eq h.stream s) heads ≡ true → Contains (map (λ h. h.stream) heads) s
+Contains-stream heads s is =
+    let (k, x, less, there, same) = Any-from_list_any (λ (h : Head). pointwise nat_eq h.stream s) heads is in
+    let found = get_or-map (λ (h : Head). h.stream) heads k x x.stream less ∙ ap (λ (h : Head). h.stream) there in
+    subst (Contains (map (λ (h : Head). h.stream) heads)) (sym (same_from_test x.stream s same))
+    (k, omega (arith, less, length-map heads (λ (h : Head). h.stream)), found)

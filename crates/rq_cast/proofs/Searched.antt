@@ -6,7 +6,7 @@ use Rattle.std.proofs.lemmas.List.{length-drop, drop-append-le}
 use Rattle.std.proofs.lemmas.Bool.{cases_lt}
 use Rattle.rq_cells.specs.declared.head.Head.{Head}
 use Rattle.rq_cells.specs.declared.wanted.Heads.{Heads}
-use Rattle.rq_cells.specs.Wanted.{wanted_at, is_wanted_damaged, is_unwanted, AreHeads, IsFirstWanted, HasNoWanted, NoneBefore}
+use Rattle.rq_cells.specs.Wanted.{Wish, wanted_at, is_wanted_damaged, is_unwanted, AreHeads, IsFirstWanted, HasNoWanted, NoneBefore}
 use Rattle.rq_cells.proofs.WantedCells.{count_further}
 use Rattle.rq_cast.specs.Reading.{chunk_length, ReadsOnce}
 use Rattle.rq_cast.specs.declared.receiver.Seen.{Seen}
@@ -14,12 +14,12 @@ use Rattle.rq_cast.specs.Receiving.{SeesHeads}
 use Rattle.rq_cast.specs.Searching.{SeesBefore, SeesNoneYet, FindsFirst, FindsNone}
 
 -- the heads at the places from one on, behind those before it
-pub sees_more : (greatest : ℕ) (name bytes : List ℕ) (from n : ℕ) (old new : Seen) (heads : Heads)
-    → SeesBefore greatest name bytes from old → AreHeads greatest name (drop from bytes) n heads → SeesHeads old heads new
-    → SeesBefore greatest name bytes (from + n) new
-sees_more greatest name bytes from n old new heads before are sees =
-    let damaged = count_further (is_wanted_damaged greatest name) bytes from n in
-    let others = count_further (is_unwanted greatest name) bytes from n in
+pub sees_more : (w : Wish) (bytes : List ℕ) (from n : ℕ) (old new : Seen) (heads : Heads)
+    → SeesBefore w bytes from old → AreHeads w (drop from bytes) n heads → SeesHeads old heads new
+    → SeesBefore w bytes (from + n) new
+sees_more w bytes from n old new heads before are sees =
+    let damaged = count_further (is_wanted_damaged w) bytes from n in
+    let others = count_further (is_unwanted w) bytes from n in
     record {
       no_cells = sees.cells ∙ before.no_cells;
       damaged = omega (arith, sees.damaged, before.damaged, are.damaged, damaged);
@@ -28,25 +28,25 @@ sees_more greatest name bytes from n old new heads before are sees =
 
 -- So many reads were made, and of what they brought the bytes from a place on are kept, before which no wanted cell begins, whatever comes behind.
 -- What was seen before that place, and in all.
-pub record IsUnfound (greatest : ℕ) (name : List ℕ) (before after : Option (List ℕ)) (reads : ℕ) (kept : List ℕ) (settled every : Seen) : Type 0 where
+pub record IsUnfound (w : Wish) (before after : Option (List ℕ)) (reads : ℕ) (kept : List ℕ) (settled every : Seen) : Type 0 where
   pub past : List ℕ
   pub brought : reads ≤ length past
   pub read : Consumes before after past
   pub from : ℕ
   pub within : from ≤ length past
   pub from_there : kept ≡ drop from past
-  pub never : (rest : List ℕ) (i : ℕ) → i < from → wanted_at greatest name (drop i past ++ rest) ≡ None
-  pub none : NoneBefore greatest name past (length past)
-  pub seen : (rest : List ℕ) → SeesBefore greatest name (past ++ rest) from settled
-  pub all_seen : SeesBefore greatest name past (length past) every
+  pub never : (rest : List ℕ) (i : ℕ) → i < from → wanted_at w (drop i past ++ rest) ≡ None
+  pub none : NoneBefore w past (length past)
+  pub seen : (rest : List ℕ) → SeesBefore w (past ++ rest) from settled
+  pub all_seen : SeesBefore w past (length past) every
 
 -- no read at all
 pub reads_nothing : (there : Option (List ℕ)) (n : ℕ) → ReadsOnce there there n
 reads_nothing there n = record { piece = []; taken = Consumes-nil there; brought = inl refl }
 
-module _ (greatest : ℕ) (name : List ℕ) (before : Option (List ℕ)) where
+module _ (w : Wish) (before : Option (List ℕ)) where
   pub none_in_many : (after : Option (List ℕ)) (reads : ℕ) (kept : List ℕ) (settled every : Seen)
-      → IsUnfound greatest name before after reads kept settled every → 2 ^ 64 - 1 ≤ reads → FindsNone greatest name before after every
+      → IsUnfound w before after reads kept settled every → 2 ^ 64 - 1 ≤ reads → FindsNone w before after every
   none_in_many after reads kept settled every u many = record {
     past = u.past;
     read = u.read;
@@ -56,7 +56,7 @@ module _ (greatest : ℕ) (name : List ℕ) (before : Option (List ℕ)) where
   }
 
   pub sees_none_yet : (after after' : Option (List ℕ)) (n reads : ℕ) (kept : List ℕ) (settled every : Seen)
-      → IsUnfound greatest name before after reads kept settled every → ReadsOnce after after' n → SeesNoneYet greatest name before after' n every
+      → IsUnfound w before after reads kept settled every → ReadsOnce after after' n → SeesNoneYet w before after' n every
   sees_none_yet after after' n reads kept settled every u once = record {
     past = u.past;
     last = once.piece;
@@ -67,7 +67,7 @@ module _ (greatest : ℕ) (name : List ℕ) (before : Option (List ℕ)) where
 
   -- a piece more was read
   module _ (after after' : Option (List ℕ)) (reads : ℕ) (kept piece : List ℕ) (settled every : Seen)
-      (u : IsUnfound greatest name before after reads kept settled every) (more : Consumes after after' piece) (few : length piece ≤ chunk_length) where
+      (u : IsUnfound w before after reads kept settled every) (more : Consumes after after' piece) (few : length piece ≤ chunk_length) where
     abbrev past' : List ℕ
     past' = u.past ++ piece
 
@@ -79,24 +79,24 @@ module _ (greatest : ℕ) (name : List ℕ) (before : Option (List ℕ)) where
         let sum : u.from + (i - u.from) ≡ i = omega (arith, h) in
         ap (λ n. drop n past') (sym sum) ∙ sym (drop-drop (i - u.from) u.from past') ∙ ap (drop (i - u.from)) (sym kept_is)
 
-    none_so_far : (n : ℕ) → NoneBefore greatest name (kept ++ piece) n → NoneBefore greatest name past' (u.from + n)
+    none_so_far : (n : ℕ) → NoneBefore w (kept ++ piece) n → NoneBefore w past' (u.from + n)
     none_so_far n none i below = by (cases_lt i u.from)
       where
-        by : (i < u.from) ⊎ (u.from ≤ i) → wanted_at greatest name (drop i past') ≡ None
+        by : (i < u.from) ⊎ (u.from ≤ i) → wanted_at w (drop i past') ≡ None
         by (inl less) =
-            ap (wanted_at greatest name) (drop-append-le i u.past piece (omega (arith, less, u.within))) ∙ u.never piece i less
-        by (inr at) = ap (wanted_at greatest name) (same_place i at) ∙ none (i - u.from) (omega (arith, at, below))
+            ap (wanted_at w) (drop-append-le i u.past piece (omega (arith, less, u.within))) ∙ u.never piece i less
+        by (inr at) = ap (wanted_at w) (same_place i at) ∙ none (i - u.from) (omega (arith, at, below))
 
     -- the heads behind the settled ones
-    heads_behind : (rest : List ℕ) (n : ℕ) (heads : Heads) → AreHeads greatest name (kept ++ piece ++ rest) n heads
-        → AreHeads greatest name (drop u.from (past' ++ rest)) n heads
+    heads_behind : (rest : List ℕ) (n : ℕ) (heads : Heads) → AreHeads w (kept ++ piece ++ rest) n heads
+        → AreHeads w (drop u.from (past' ++ rest)) n heads
     heads_behind rest n heads are =
         let within : u.from ≤ length past' = omega (arith, u.within, length-append u.past piece) in
-        subst (λ xs. AreHeads greatest name xs n heads) (ap (λ xs. xs ++ rest) kept_is ∙ sym (drop-append-le u.from past' rest within)) are
+        subst (λ xs. AreHeads w xs n heads) (ap (λ xs. xs ++ rest) kept_is ∙ sym (drop-append-le u.from past' rest within)) are
 
-    pub found_first : (at : ℕ) (h : Head) (left : List ℕ) → IsFirstWanted greatest name (kept ++ piece) at h → left ≡ drop at (kept ++ piece)
-        → (heads : Heads) → AreHeads greatest name (kept ++ piece) at heads → (new : Seen) → SeesHeads settled heads new
-        → (n : ℕ) → length piece ≡ n → 0 < n → FindsFirst greatest name before after' n h left new
+    pub found_first : (at : ℕ) (h : Head) (left : List ℕ) → IsFirstWanted w (kept ++ piece) at h → left ≡ drop at (kept ++ piece)
+        → (heads : Heads) → AreHeads w (kept ++ piece) at heads → (new : Seen) → SeesHeads settled heads new
+        → (n : ℕ) → length piece ≡ n → 0 < n → FindsFirst w before after' n h left new
     found_first at h left first is heads are new sees n brought some =
         let place : u.from ≤ u.from + at = omega arith in
         let back : at ≡ u.from + at - u.from = omega arith in
@@ -113,17 +113,17 @@ module _ (greatest : ℕ) (name : List ℕ) (before : Option (List ℕ)) where
           first = record {
             within = omega
                 (arith, first.within, u.within, ap length u.from_there, length-drop u.from u.past, length-append kept piece, length-append u.past piece);
-            found = ap (wanted_at greatest name) there ∙ first.found;
+            found = ap (wanted_at w) there ∙ first.found;
             first = none_so_far at first.first;
           };
           from_there = is ∙ sym there;
-          seen = sees_more greatest name past' u.from at settled new heads (u.seen piece) (subst (λ xs. AreHeads greatest name xs at heads) kept_is are) sees;
+          seen = sees_more w past' u.from at settled new heads (u.seen piece) (subst (λ xs. AreHeads w xs at heads) kept_is are) sees;
         }
 
-    pub unfound_more : (from : ℕ) (left : List ℕ) (heads all : Heads) → HasNoWanted greatest name (kept ++ piece) from heads all
+    pub unfound_more : (from : ℕ) (left : List ℕ) (heads all : Heads) → HasNoWanted w (kept ++ piece) from heads all
         → left ≡ drop from (kept ++ piece) → 0 < length piece
         → (settled' every' : Seen) → SeesHeads settled heads settled' → SeesHeads settled all every'
-        → IsUnfound greatest name before after' (reads + 1) left settled' every'
+        → IsUnfound w before after' (reads + 1) left settled' every'
     unfound_more from left heads all h is some settled' every' sees sees_all =
         let size : length past' ≡ u.from + length (kept ++ piece) =
         omega (arith, u.within, ap length u.from_there, length-drop u.from u.past, length-append kept piece, length-append u.past piece) in
@@ -139,19 +139,19 @@ module _ (greatest : ℕ) (name : List ℕ) (before : Option (List ℕ)) where
           never = λ rest i below. never' rest i below (cases_lt i u.from);
           none = λ i below. none_so_far (length (kept ++ piece)) h.none i (omega (arith, below, size));
           seen = λ rest.
-              sees_more greatest name (past' ++ rest) u.from from settled settled' heads
-              (subst (λ xs. SeesBefore greatest name xs u.from settled) (sym (append_assoc u.past piece rest)) (u.seen (piece ++ rest)))
+              sees_more w (past' ++ rest) u.from from settled settled' heads
+              (subst (λ xs. SeesBefore w xs u.from settled) (sym (append_assoc u.past piece rest)) (u.seen (piece ++ rest)))
               (heads_behind rest from heads (h.before rest)) sees;
           all_seen =
-              subst (λ n. SeesBefore greatest name past' n every') (sym size)
-              (sees_more greatest name past' u.from (length (kept ++ piece)) settled every' all (u.seen piece)
-              (subst (λ xs. AreHeads greatest name xs (length (kept ++ piece)) all) kept_is h.all) sees_all);
+              subst (λ n. SeesBefore w past' n every') (sym size)
+              (sees_more w past' u.from (length (kept ++ piece)) settled every' all (u.seen piece)
+              (subst (λ xs. AreHeads w xs (length (kept ++ piece)) all) kept_is h.all) sees_all);
         }
       where
-        never' : (rest : List ℕ) (i : ℕ) → i < u.from + from → (i < u.from) ⊎ (u.from ≤ i) → wanted_at greatest name (drop i past' ++ rest) ≡ None
+        never' : (rest : List ℕ) (i : ℕ) → i < u.from + from → (i < u.from) ⊎ (u.from ≤ i) → wanted_at w (drop i past' ++ rest) ≡ None
         never' rest i below (inl less) =
-            ap (λ xs. wanted_at greatest name (xs ++ rest)) (drop-append-le i u.past piece (omega (arith, less, u.within)))
-            ∙ ap (wanted_at greatest name) (append_assoc (drop i u.past) piece rest)
+            ap (λ xs. wanted_at w (xs ++ rest)) (drop-append-le i u.past piece (omega (arith, less, u.within)))
+            ∙ ap (wanted_at w) (append_assoc (drop i u.past) piece rest)
             ∙ u.never (piece ++ rest) i less
         never' rest i below (inr at) =
-            ap (λ xs. wanted_at greatest name (xs ++ rest)) (same_place i at) ∙ h.never rest (i - u.from) (omega (arith, at, below))
+            ap (λ xs. wanted_at w (xs ++ rest)) (same_place i at) ∙ h.never rest (i - u.from) (omega (arith, at, below))

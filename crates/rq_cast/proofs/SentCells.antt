@@ -1,21 +1,24 @@
 -- Cells that are written or lost one by one.
-use Rattle.std.proofs.Common.{◌≡◌, ℕ, suc, ◌+◌, ◌-◌, ◌≤◌, ◌<◌, List, [], ◌++◌, length, replicate, take, Option, refl, sym, ap, subst, ◌∙◌, arith, inl, inr, append-nil, append_assoc, length-append}
+use Rattle.std.proofs.Common.{◌≡◌, ℕ, suc, ◌+◌, ◌-◌, ◌≤◌, ◌<◌, List, [], ◌++◌, length, replicate, take, drop, Option, refl, sym, ap, subst, ◌∙◌, arith, inl, inr, append-nil, append_assoc, length-append}
 use Rattle.std.proofs.Math.Seq.{take-append_seam}
-use Rattle.std.proofs.lemmas.List.{length-replicate, length-take-le, take_all}
+use Rattle.std.proofs.lemmas.List.{length-replicate, length-take-le, take_all, take_at}
 use Rattle.std.specs.Io.KnownBytes.{Keeps, Appends}
 use Rattle.std.proofs.KnownBytes.{Appends-nil, Appends-trans, Appends-kept}
 use Rattle.rq_bytes.specs.declared.error.Error.{Error}
 use Rattle.rq_bytes.specs.declared.error.Error.TheVariants.{OutOfMemory}
 use Rattle.rq_standard.specs.Configuration.{Configuration}
+use Rattle.rq_standard.specs.Packet.{id_bytes}
 use Rattle.rq_standard.specs.Streams.{frame_size}
 use Rattle.raptorq.specs.Encoder.{IsFrameIn}
 use Rattle.rq_cells.specs.declared.head.Head.{Head}
-use Rattle.rq_cells.specs.Cells.{check_of, with_check, head_bytes, cell_size}
+use Rattle.rq_cells.specs.declared.cell.Cell.{Cell}
+use Rattle.rq_cells.specs.Cells.{Key, check_of, digest_of, head_bytes, cell_fields, cell_size}
 use Rattle.rq_cells.proofs.HeadBytes.{length-check_of, length-head_bytes}
 use Rattle.rq_streams.specs.declared.run.Stop.TheVariants.{Fault, Refused}
 use Rattle.rq_cast.specs.declared.output.Output.{Output}
 use Rattle.rq_cast.specs.Output.{CountsLost}
 use Rattle.rq_cast.specs.Writing.{IsRoom}
+use Rattle.rq_cast.proofs.SentDigests.{payload_of}
 use Rattle.rq_cast.specs.Sent.{Sending, cell_count, sent_id, IsSentCell, AreSent, SendsFirst, StopsSending}
 
 -- nothing is sent yet
@@ -100,10 +103,10 @@ stops_wanting s old new there then e memory kept counts = record {
 -- ---- one cell over another
 
 -- there is room behind a head
-pub room_behind : (h : Head) (head bytes : List ℕ) (size : ℕ) → head ≡ head_bytes h → length h.name ≡ 16 → size ≡ cell_size h.configuration
-    → bytes ≡ take size head ++ replicate (size - length head) 0 → IsRoom h bytes
-room_behind h head bytes size written named long grown =
-    let short : length head ≡ 36 = ap length written ∙ length-head_bytes h ∙ omega (arith, named) in
+pub room_behind : (key : Key) (h : Head) (head bytes : List ℕ) (size : ℕ) → head ≡ head_bytes key h → length h.stream ≡ 8 → length h.name ≡ 16
+    → size ≡ cell_size h.configuration.symbol_size → bytes ≡ take size head ++ replicate (size - length head) 0 → IsRoom key h bytes
+room_behind key h head bytes size written streamed named long grown =
+    let short : length head ≡ 52 = ap length written ∙ length-head_bytes key h ∙ omega (arith, streamed, named) in
     let is : bytes ≡ head ++ replicate (size - length head) 0 = grown ∙ ap (λ xs. xs ++ replicate (size - length head) 0) (take_all size head (omega (arith, short, long))) in
     record {
       long = omega (arith, ap length is, length-append head (replicate (size - length head) 0), length-replicate {A = ℕ} (size - length head) 0, short, long);
@@ -111,36 +114,63 @@ room_behind h head bytes size written named long grown =
     }
 
 -- a packet and a check are written behind the head
-module _ (s : Sending) (i : ℕ) (old packet rest new : List ℕ) (room : IsRoom s.head old) (same : s.head.configuration ≡ s.encoded.configuration) (frame : IsFrameIn s.encoded (sent_id s i).block (sent_id s i).esi packet) (last : length rest ≡ 8) where
+module _ (s : Sending) (i : ℕ) (old packet rest digest new : List ℕ) (room : IsRoom s.key s.head old) (same : s.head.configuration ≡ s.encoded.configuration)
+    (frame : IsFrameIn s.encoded (sent_id s i).block (sent_id s i).esi packet) (last : length rest ≡ 8) (hashed : digest ≡ digest_of (drop 4 packet)) where
+  abbrev cell : Cell
+  cell = record { head = s.head; packet = frame.packet }
+
+  abbrev id : List ℕ
+  id = id_bytes frame.packet.id
+
+  -- the cell before its check is written
+  abbrev unchecked : List ℕ
+  unchecked = take 52 old ++ (packet ++ rest)
+
   abbrev checked : List ℕ
-  checked = take 36 old ++ packet
+  checked = take 52 old ++ packet
 
-  size : length checked ≡ 36 + frame_size s.encoded.configuration
-  size = length-append (take 36 old) packet ∙ omega (arith, length-take-le 36 old (omega (arith, room.long)), frame.long)
+  headed : length (take 52 old) ≡ 52
+  headed = length-take-le 52 old (omega (arith, room.long))
 
-  front : take (length (take 36 old ++ (packet ++ rest)) - 8) (take 36 old ++ (packet ++ rest)) ≡ checked
+  size : length checked ≡ 52 + frame_size s.encoded.configuration
+  size = length-append (take 52 old) packet ∙ omega (arith, headed, frame.long)
+
+  front : take (length unchecked - 8) unchecked ≡ checked
   front =
-      let whole : take 36 old ++ (packet ++ rest) ≡ checked ++ rest = sym (append_assoc (take 36 old) packet rest) in
+      let whole : unchecked ≡ checked ++ rest = sym (append_assoc (take 52 old) packet rest) in
       let end : length (checked ++ rest) - 8 ≡ length checked = omega (arith, length-append checked rest, last) in
       ap (λ xs. take (length xs - 8) xs) whole ∙ ap (λ n. take n (checked ++ rest)) end ∙ take-append_seam checked rest
 
-  module _ (written : new ≡ with_check 8 (take (length (take 36 old ++ (packet ++ rest)) - 8) (take 36 old ++ (packet ++ rest)))) where
-    is : new ≡ with_check 8 checked
-    is = written ∙ ap (with_check 8) front
+  -- what the check is over
+  fields : take 56 unchecked ++ digest ≡ cell_fields s.key cell
+  fields =
+      let payload = frame.packet.payload in
+      let four : length id ≡ 4 = refl in
+      let parted : unchecked ≡ (take 52 old ++ id) ++ (payload ++ rest) =
+      ap (λ xs. take 52 old ++ xs) (ap (λ xs. xs ++ rest) frame.spelled ∙ append_assoc id payload rest) ∙ sym (append_assoc (take 52 old) id (payload ++ rest)) in
+      let long : length (take 52 old ++ id) ≡ 56 = length-append (take 52 old) id ∙ omega (arith, headed, four) in
+      let first : take 56 unchecked ≡ take 52 old ++ id = ap (take 56) parted ∙ take_at (take 52 old ++ id) (payload ++ rest) 56 long in
+      let symbol : digest ≡ digest_of payload = hashed ∙ ap digest_of (payload_of s.encoded (sent_id s i).block (sent_id s i).esi packet frame) in
+      ap (λ xs. xs ++ digest) first ∙ (λ j. (room.headed j ++ id) ++ symbol j)
+
+  module _ (written : new ≡ take (length unchecked - 8) unchecked ++ check_of s.key (take 56 unchecked ++ digest)) where
+    is : new ≡ checked ++ check_of s.key (cell_fields s.key cell)
+    is = written ∙ (λ j. front j ++ check_of s.key (fields j))
 
     pub sent_over : IsSentCell s i new
     sent_over = record {
       packet = frame.packet;
       id = frame.id;
       of_object = frame.of_object;
-      spelled = is ∙ (λ j. with_check 8 (room.headed j ++ frame.spelled j));
+      spelled = is ∙ (λ j. (room.headed j ++ frame.spelled j) ++ check_of s.key (cell_fields s.key cell));
     }
 
-    pub room_again : IsRoom s.head new
-    room_again = record {
-      long = omega (arith, ap length is, length-append checked (check_of 8 checked), length-check_of 8 checked (omega arith), size, ap (λ (c : Configuration). c.symbol_size) same);
-      headed =
-          let first : length (take 36 old) ≡ 36 = length-take-le 36 old (omega (arith, room.long)) in
-          ap (take 36) (is ∙ append_assoc (take 36 old) packet (check_of 8 checked)) ∙ ap (λ n. take n (take 36 old ++ (packet ++ check_of 8 checked))) (sym first)
-          ∙ take-append_seam (take 36 old) (packet ++ check_of 8 checked) ∙ room.headed;
-    }
+    pub room_again : IsRoom s.key s.head new
+    room_again =
+        let check = check_of s.key (cell_fields s.key cell) in
+        record {
+          long = omega (arith, ap length is, length-append checked check, length-check_of s.key (cell_fields s.key cell), size, ap (λ (c : Configuration). c.symbol_size) same);
+          headed =
+              ap (take 52) (is ∙ append_assoc (take 52 old) packet check) ∙ ap (λ n. take n (take 52 old ++ (packet ++ check))) (sym headed)
+              ∙ take-append_seam (take 52 old) (packet ++ check) ∙ room.headed;
+        }

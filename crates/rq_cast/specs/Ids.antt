@@ -3,7 +3,6 @@ use Rattle.std.specs.Prelude.{◌≡◌, ℕ, ◌+◌, ◌*◌, ◌<◌, ◌^◌
 use Rattle.std.specs.Int.{div_ceil}
 use Rattle.rq_cast.specs.declared.series.Repair.{Repair}
 use Rattle.rq_cast.specs.declared.series.Repair.TheVariants.{Packets, Share, Against, All}
-use Rattle.rq_cast.specs.declared.loss.Loss.{Loss}
 use Rattle.rq_cast.specs.Loss.{IsLossRepair, whole}
 
 -- so many ids, the first one and others a step apart, have 24 bits

@@ -3,6 +3,7 @@ pub mod Input
 pub mod Loss
 pub mod Missing
 pub mod Output
+pub mod Parts
 pub mod Preparing
 pub mod Reading
 pub mod Received

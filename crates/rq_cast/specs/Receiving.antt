@@ -1,6 +1,7 @@
 -- What a receiver of an object makes of bytes among which the object's cells stand.
 use Rattle.std.specs.Prelude.{◌≡◌, ◌⊎◌, ⊤, ℕ, ◌+◌, ◌-◌, ◌^◌, ◌<◌, ◌≤◌, min, Bool, true, false, List, [], ◌++◌, length, Option, None, IsSome}
 use Rattle.std.specs.Io.KnownBytes.{Consumes, IsAtEnd}
+use Rattle.rq_standard.specs.Configuration.{largest_block}
 use Rattle.rq_standard.specs.DecoderState.{result_of}
 use Rattle.rq_streams.specs.declared.run.Stop.{Stop}
 use Rattle.rq_streams.specs.declared.run.Stop.TheVariants.{Fault, Refused}
@@ -13,13 +14,12 @@ use Rattle.rq_base.specs.RefusedInput.{checked_configuration}
 use Rattle.rq_standard.specs.Packet.{Packet}
 use Rattle.rq_standard.specs.Following.{FollowsRun}
 use Rattle.raptorq.specs.Decoder.{state_of}
-use Rattle.rq_cells.specs.declared.head.Head.{Head}
 use Rattle.rq_cells.specs.declared.wanted.Heads.{Heads}
-use Rattle.rq_cells.specs.Cells.{IsHead}
-use Rattle.rq_cells.specs.Found.{packets_in, damaged_in, others_in}
+use Rattle.rq_cells.specs.Cells.{Key}
 use Rattle.rq_cast.specs.declared.reading.Found.{Found}
 use Rattle.rq_cast.specs.declared.receiver.Receiver.{Receiver}
 use Rattle.rq_cast.specs.declared.receiver.Seen.{Seen}
+use Rattle.rq_cast.specs.Parts.{Part, source_of_part, packets_in, damaged_in, other_heads_in, other_cells_in, others_in}
 use Rattle.rq_cast.specs.Reading.{chunk_length, IsLastRead}
 use Rattle.rq_cast.specs.Taken.{known_packets, unknown_count, TakesAll, StopsAmong}
 
@@ -33,84 +33,95 @@ pub record SeesHeads (old : Seen) (heads : Heads) (new : Seen) : Type 0 where
   pub damaged : new.damaged ≡ counted (old.damaged + heads.damaged)
   pub others : new.others ≡ counted (old.others + heads.others)
 
+-- whose cells a receiver takes
+abbrev pub part_of : Receiver → Part
+part_of r = record { key = r.scanner.key; head = r.head }
+
+-- it scans for cells of that stream
+abbrev pub ScansPart : Receiver → Type 0
+ScansPart r = r.scanner ≡ source_of_part (part_of r)
+
 -- a receiver of the object that was found, which has taken nothing yet, with what was seen before
-pub record IsNewReceiver (table : List TableRow) (found : Found) (r : Receiver) : Type 0 where
-  pub fits : IsHead found.head
-  pub head : r.scanner ≡ found.head
+pub record IsNewReceiver (table : List TableRow) (key : Key) (found : Found) (r : Receiver) : Type 0 where
+  pub part : part_of r ≡ record { key = key; head = found.head }
+  pub scans : ScansPart r
+  pub few : largest_block found.head.configuration < 65536
   pub configuration : (state_of r.decoder).configuration ≡ found.head.configuration
   pub follows : FollowsRun table [] (state_of r.decoder)
   pub bytes : r.bytes ≡ found.bytes
   pub seen_is : r.seen ≡ found.seen
 
--- Of bytes it takes the cells with a head, whatever comes behind them: none is left in what it keeps.
-pub record TakesFrom (h : Head) (bytes : List ℕ) (old new : Receiver) : Type 0 where
+-- Of bytes it takes the cells of a part, whatever comes behind them: none is left in what it keeps.
+pub record TakesFrom (p : Part) (bytes : List ℕ) (old new : Receiver) : Type 0 where
   pub packets : List Packet
-  pub found : (rest : List ℕ) → packets_in h (bytes ++ rest) ≡ packets ++ packets_in h (new.bytes.items ++ rest)
-  pub none : packets_in h new.bytes.items ≡ []
+  pub found : (rest : List ℕ) → packets_in p (bytes ++ rest) ≡ packets ++ packets_in p (new.bytes.items ++ rest)
+  pub none : packets_in p new.bytes.items ≡ []
+  pub no_others : other_cells_in p new.bytes.items ≡ 0
   pub takes : TakesAll (state_of old.decoder) (known_packets (state_of old.decoder).configuration packets) (state_of new.decoder)
   pub cells_seen : new.seen.cells ≡ counted (old.seen.cells + length (known_packets (state_of old.decoder).configuration packets))
   pub damaged : ℕ
-  pub damaged_found : (rest : List ℕ) → damaged_in h (bytes ++ rest) ≡ damaged + damaged_in h (new.bytes.items ++ rest)
-  pub no_damaged : damaged_in h new.bytes.items ≡ 0
+  pub damaged_found : (rest : List ℕ) → damaged_in p (bytes ++ rest) ≡ damaged + damaged_in p (new.bytes.items ++ rest)
+  pub no_damaged : damaged_in p new.bytes.items ≡ 0
   pub damaged_seen : new.seen.damaged ≡ counted (old.seen.damaged + damaged)
   pub others : ℕ
-  pub others_found : (rest : List ℕ) → others_in h (bytes ++ rest) ≡ others + others_in h (new.bytes.items ++ rest)
+  pub others_found : (rest : List ℕ) → others_in p (bytes ++ rest) ≡ others + others_in p (new.bytes.items ++ rest)
   pub others_seen : new.seen.others ≡ counted (old.seen.others + (others + unknown_count (state_of old.decoder).configuration packets))
 
 -- it takes the cells of its object that are whole in what it has
 pub record TakesCells (old new : Receiver) : Type 0 where
-  pub head : new.scanner ≡ old.scanner
-  pub taken : TakesFrom old.scanner old.bytes.items old new
+  pub part : part_of new ≡ part_of old
+  pub taken : TakesFrom (part_of old) old.bytes.items old new
 
 -- It stops at the first packet of these cells that is refused, or for want of memory.
 abbrev pub StopsInCells : Receiver → Error → Type 0
 StopsInCells old e =
     (e ≡ OutOfMemory)
-    ⊎ StopsAmong (state_of old.decoder) (known_packets (state_of old.decoder).configuration (packets_in old.scanner old.bytes.items)) e
+    ⊎ StopsAmong (state_of old.decoder) (known_packets (state_of old.decoder).configuration (packets_in (part_of old) old.bytes.items)) e
 
 -- It has seen and keeps what it had.
 pub record SeesNothingMore (old new : Receiver) : Type 0 where
-  pub head : new.scanner ≡ old.scanner
+  pub part : part_of new ≡ part_of old
   pub seen : new.seen ≡ old.seen
   pub bytes : new.bytes.items ≡ old.bytes.items
 
--- what was seen, with heads of other objects in the bytes that it keeps
+-- what was seen, with heads of other streams in the bytes that it keeps
 pub record SeesAll (r : Receiver) (seen : Seen) : Type 0 where
   pub cells : seen.cells ≡ r.seen.cells
   pub damaged : seen.damaged ≡ counted r.seen.damaged
-  pub others : seen.others ≡ counted (r.seen.others + others_in r.scanner r.bytes.items)
+  pub others : seen.others ≡ counted (r.seen.others + other_heads_in (part_of r) r.bytes.items)
 
 -- ---- reading
 
--- A receiver has seen all that stands in these bytes, but for heads of other objects in what it keeps.
+-- A receiver has seen all that stands in these bytes, but for heads of other streams in what it keeps.
 pub record HasSeen (first new : Receiver) (all : List ℕ) : Type 0 where
-  pub cells : new.seen.cells ≡ counted (first.seen.cells + length (known_packets (state_of first.decoder).configuration (packets_in first.scanner all)))
-  pub damaged : new.seen.damaged ≡ counted (first.seen.damaged + damaged_in first.scanner all)
+  pub cells : new.seen.cells ≡ counted (first.seen.cells + length (known_packets (state_of first.decoder).configuration (packets_in (part_of first) all)))
+  pub damaged : new.seen.damaged ≡ counted (first.seen.damaged + damaged_in (part_of first) all)
   pub heads : ℕ
-  pub found : (rest : List ℕ) → others_in first.scanner (all ++ rest) ≡ heads + others_in first.scanner (new.bytes.items ++ rest)
+  pub found : (rest : List ℕ) → others_in (part_of first) (all ++ rest) ≡ heads + others_in (part_of first) (new.bytes.items ++ rest)
   pub others : new.seen.others
-      ≡ counted (first.seen.others + (heads + unknown_count (state_of first.decoder).configuration (packets_in first.scanner all)))
+      ≡ counted (first.seen.others + (heads + unknown_count (state_of first.decoder).configuration (packets_in (part_of first) all)))
+  pub no_others : other_cells_in (part_of first) new.bytes.items ≡ 0
 
 -- Of all these bytes, which it had or read, it has taken the cells that are whole in them.
 pub record HasTaken (first new : Receiver) (all : List ℕ) : Type 0 where
-  pub head : new.scanner ≡ first.scanner
-  pub found : (rest : List ℕ) → packets_in first.scanner (all ++ rest) ≡ packets_in first.scanner all ++ packets_in first.scanner (new.bytes.items ++ rest)
-  pub takes : TakesAll (state_of first.decoder) (known_packets (state_of first.decoder).configuration (packets_in first.scanner all)) (state_of new.decoder)
-  pub damaged_found : (rest : List ℕ) → damaged_in first.scanner (all ++ rest)
-      ≡ damaged_in first.scanner all + damaged_in first.scanner (new.bytes.items ++ rest)
+  pub part : part_of new ≡ part_of first
+  pub found : (rest : List ℕ) → packets_in (part_of first) (all ++ rest) ≡ packets_in (part_of first) all ++ packets_in (part_of first) (new.bytes.items ++ rest)
+  pub takes : TakesAll (state_of first.decoder) (known_packets (state_of first.decoder).configuration (packets_in (part_of first) all)) (state_of new.decoder)
+  pub damaged_found : (rest : List ℕ) → damaged_in (part_of first) (all ++ rest)
+      ≡ damaged_in (part_of first) all + damaged_in (part_of first) (new.bytes.items ++ rest)
   pub seen : HasSeen first new all
 
 -- a receiver of the object that was found, which has taken the cells of what was read from the first one on
-pub record HasBegun (table : List TableRow) (found : Found) (r : Receiver) : Type 0 where
+pub record HasBegun (table : List TableRow) (key : Key) (found : Found) (r : Receiver) : Type 0 where
   pub first : Receiver
-  pub made : IsNewReceiver table found first
+  pub made : IsNewReceiver table key found first
   pub taken : HasTaken first r first.bytes.items
 
 -- why there is none: what a decoder refuses, or one of these cells
-abbrev pub StopsBeginning : List TableRow → Found → Error → Type 0
-StopsBeginning table found e =
+abbrev pub StopsBeginning : List TableRow → Key → Found → Error → Type 0
+StopsBeginning table key found e =
     IsRefusal e (checked_configuration (greatest_size table) found.head.configuration)
-    ⊎ ((first : Receiver) × IsNewReceiver table found first × StopsInCells first e)
+    ⊎ ((first : Receiver) × IsNewReceiver table key found first × StopsInCells first e)
 
 -- What a receiver that has taken what it had then reads. The last read brought n bytes, and what came before them doesn't determine the object.
 pub record NeedsLast (first : Receiver) (had earlier last : List ℕ) (n : ℕ) : Type 0 where
@@ -155,7 +166,7 @@ Receives old new before after n n' complete =
 pub record RefusesPackets (first : Receiver) (had : List ℕ) (before after : Option (List ℕ)) (e : Error) : Type 0 where
   pub past : List ℕ
   pub read : Consumes before after past
-  pub stops : StopsAmong (state_of first.decoder) (known_packets (state_of first.decoder).configuration (packets_in first.scanner (had ++ past))) e
+  pub stops : StopsAmong (state_of first.decoder) (known_packets (state_of first.decoder).configuration (packets_in (part_of first) (had ++ past))) e
 
 -- what stops it: a failed read, want of memory, or a packet that is refused
 abbrev pub StopsReceiving : Receiver → Option (List ℕ) → Option (List ℕ) → Stop → Type 0
@@ -169,7 +180,7 @@ pub record SeesBehind (first : Receiver) (had : List ℕ) (new : Receiver) (befo
   pub last : List ℕ
   pub read : Consumes before after (past ++ last)
   pub brought : IsLastRead last n
-  pub head : new.scanner ≡ first.scanner
+  pub part : part_of new ≡ part_of first
   pub seen : HasSeen first new (had ++ past)
 
 abbrev pub SeesCells : Receiver → Receiver → Option (List ℕ) → Option (List ℕ) → ℕ → Type 0

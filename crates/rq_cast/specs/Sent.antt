@@ -2,14 +2,13 @@
 use Rattle.std.specs.Prelude.{◌≡◌, ◌↔◌, ◌⊎◌, ℕ, zero, suc, ◌+◌, ◌*◌, ◌/◌, ◌%◌, ◌<◌, ◌≤◌, List, [], ◌++◌, take, Option, Err}
 use Rattle.std.specs.Io.KnownBytes.{Appends}
 use Rattle.rq_bytes.specs.declared.error.Error.TheVariants.{OutOfMemory}
-use Rattle.rq_standard.specs.Configuration.{Configuration}
 use Rattle.rq_standard.specs.Packet.{SymbolId, Packet}
 use Rattle.raptorq.specs.Encoder.{Encoded, encoded_of, IsPacketIn}
 use Rattle.rq_streams.specs.Ends.{failed_calls}
 use Rattle.rq_streams.specs.declared.run.Stop.{Stop}
 use Rattle.rq_streams.specs.declared.run.Stop.TheVariants.{Fault, Refused}
 use Rattle.rq_cells.specs.declared.head.Head.{Head}
-use Rattle.rq_cells.specs.Cells.{name_of, cell_bytes}
+use Rattle.rq_cells.specs.Cells.{Key, cell_bytes}
 use Rattle.rq_cast.specs.declared.series.Series.{Series}
 use Rattle.rq_cast.specs.declared.sending.Sender.{Sender}
 use Rattle.rq_cast.specs.declared.output.Output.{Output}
@@ -29,18 +28,15 @@ pub record IsSeries (first step end : ℕ) (s : Series) : Type 0 where
 abbrev pub IsSeriesOf : ℕ → ℕ → ℕ → Repair → Series → Type 0
 IsSeriesOf first step largest repair s = (end : ℕ) × IsIdEnd largest repair end × IsSeries first step end s
 
--- what a sender sends: packets of an object's encoder, under the head of its cells, with these ids
+-- what a sender sends: packets of an object's encoder, under the head of its cells, with these ids and with checks by a key
 pub record Sending : Type 0 where
+  pub key : Key
   pub encoded : Encoded
   pub head : Head
   pub series : Series
 
 abbrev pub sending_of : Sender → Sending
-sending_of s = record { encoded = encoded_of s.encoder; head = s.head; series = s.series }
-
--- the head of an object's cells
-abbrev pub object_head : List ℕ → Configuration → Head
-object_head object c = record { name = name_of object; configuration = c }
+sending_of s = record { key = s.key; encoded = encoded_of s.encoder; head = s.head; series = s.series }
 
 -- how many cells are sent: one of each block for each id
 abbrev pub cell_count : Sending → ℕ
@@ -55,7 +51,7 @@ pub record IsSentCell (s : Sending) (i : ℕ) (bytes : List ℕ) : Type 0 where
   pub packet : Packet
   pub id : packet.id ≡ sent_id s i
   pub of_object : IsPacketIn s.encoded packet
-  pub spelled : bytes ≡ cell_bytes (record { head = s.head; packet = packet })
+  pub spelled : bytes ≡ cell_bytes s.key (record { head = s.head; packet = packet })
 
 -- ---- what is written
 

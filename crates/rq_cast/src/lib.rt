@@ -5,9 +5,9 @@
 mod input;
 mod loss;
 mod missing;
-mod naming;
 mod order;
 mod output;
+mod parts;
 mod preparing;
 mod progress;
 mod reading;
@@ -15,7 +15,9 @@ mod receiver;
 mod run;
 mod sending;
 mod series;
+mod stream;
 mod survey;
+mod taking;
 
 pub use input::Input;
 pub use loss::Loss;
@@ -24,7 +26,6 @@ pub use order::{Ids, Order};
 pub use output::Output;
 pub use preparing::{check_length, read_sender};
 pub use progress::{Progress, Silent};
-pub use reading::Wanted;
 pub use receiver::Seen;
 pub use run::{Ending, run_receive};
 pub use sending::{Pace, Sender};

@@ -1,17 +1,16 @@
 //! How bytes are read until cells stand among them.
 ghost use Rattle.std.specs.Prelude.{◌≡◌, ◌+◌, ◌^◌, ◌-◌, ◌<◌, ◌≤◌, length, drop, IfOk, IfErr, OnErr};
-ghost use Rattle.rq_standard.specs.TableRows.{greatest_size};
 ghost use Rattle.rq_streams.specs.Counted.{failed_count};
 ghost use Rattle.rq_streams.specs.Ends.{failed_calls};
 ghost use Rattle.rq_cast.specs.Input.{counted_of, source, last_length};
 ghost use Rattle.rq_cast.specs.Reading.{Reads, ReadsOnce, IsStopOfReads};
 ghost use Rattle.rq_cast.specs.Searching.{Searches, SeesNoneYet};
+ghost use Rattle.rq_cells.specs.Wanted.{wish_of};
 
 use crate::input::Input;
 use crate::progress::Progress;
 use crate::receiver::Seen;
-use raptorq::systematic_constants::SystematicTable;
-use rq_cells::{Head, Search, first_wanted};
+use rq_cells::{Head, Search, Wanted, first_wanted};
 use rq_streams::Stop;
 use std::alloc::Global;
 use std::io::Read;
@@ -51,17 +50,7 @@ pub(crate) fn remove_front(bytes: &mut Vec<u8>, n: usize)
     bytes.truncate(kept);
 }
 
-/// What is wanted: objects whose configuration coders take over a table, and whose name and configuration
-/// begin with some bytes.
-#[derive(Clone, Copy)]
-pub struct Wanted<'a> {
-    /// The table.
-    pub table: &'a SystematicTable,
-    /// How name and configuration begin: any do where there are no bytes.
-    pub name: &'a [u8],
-}
-
-/// The object that is received, what was read from its first cell on, and what was seen before that.
+/// The stream that is received, what was read from its first cell on, and what was seen before that.
 #[derive(Debug, PartialEq, Eq, Drop)]
 pub(crate) struct Found {
     pub head: Head,
@@ -80,9 +69,9 @@ pub(crate) fn find<R: Read, P: Progress>(
     progress: &mut P,
 ) -> Result<Option<Found>, Stop>
     requires { failed_count (counted_of input.old) < 2 ^ 64 - 1 }
-    ensures searches { IfOk result (Searches (greatest_size wanted.now.table.now) wanted.now.name.now (R.remaining (source input.old))
+    ensures searches { IfOk result (Searches (wish_of wanted.now) (R.remaining (source input.old))
         (R.remaining (source input.new)) (last_length input.new) seen.new) }
-    ensures sees { SeesNoneYet (greatest_size wanted.now.table.now) wanted.now.name.now (R.remaining (source input.old))
+    ensures sees { SeesNoneYet (wish_of wanted.now) (R.remaining (source input.old))
         (R.remaining (source input.new)) (last_length input.new) seen.new }
     ensures counts { failed_count (counted_of input.new) ≡ failed_count (counted_of input.old) + failed_calls result }
     ensures stops { IfErr result IsStopOfReads }
@@ -97,7 +86,7 @@ pub(crate) fn find<R: Read, P: Progress>(
             return Ok(None);
         }
         progress.tell(n, seen, None);
-        match first_wanted(alloc, wanted.table, wanted.name, bytes.as_slice())? {
+        match first_wanted(alloc, wanted, bytes.as_slice())? {
             Search::Found { at, head, before } => {
                 remove_front(&mut bytes, at);
                 let seen = settled.with(before);

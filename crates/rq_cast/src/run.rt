@@ -7,36 +7,39 @@ ghost use Rattle.rq_cast.specs.Received.{EndsReceiving};
 
 use crate::input::Input;
 use crate::missing::missing_packets;
-use crate::naming::answered_name;
 use crate::progress::Progress;
-use crate::reading::{Wanted, find};
-use crate::receiver::{Receiver, Seen, receive};
-use rq_streams::{Counted, Stop, write_object};
+use crate::reading::find;
+use crate::receiver::{Receiver, Seen};
+use crate::stream::stream_of;
+use crate::taking::receive;
+use rq_cells::Wanted;
+use rq_streams::{Counted, Stop, finish};
 use std::alloc::Global;
 use std::io::{Read, Write};
 
 /// How a run ended that nothing stopped.
 #[derive(Clone, Copy, Debug, PartialEq, Eq)]
 pub enum Ending {
-    /// The object is written.
+    /// The stream is written.
     Written,
-    /// What was read determines no object, and nothing is written.
+    /// What was read doesn't determine the stream's part, and nothing is written.
     Incomplete {
-        /// How many packets more the object needs at least, of ids that weren't received yet: what
+        /// How many packets more the part needs at least, of ids that weren't received yet: what
         /// [`missing_packets`] answers. `None` where no wanted cell came.
         missing: Option<u64>,
     },
-    /// What was read determines an object whose name isn't that of its cells, and nothing is written.
+    /// What was read determines an object that isn't the stream's only part: its name isn't that of its
+    /// cells, its number isn't that of an only part, or the seal isn't right. Nothing is written.
     AnotherObject,
 }
 
-/// Reads any bytes and writes the object of the cells that stand among them. `seen` becomes what was seen:
+/// Reads any bytes and writes the stream of the cells that stand among them. `seen` becomes what was seen:
 /// in all that was read, or, where the run is stopped, in all but the bytes of the last read at most.
 ///
 /// The first wanted cell says what is received. All cells with its head are taken, at whatever place they
-/// stand. The run ends at the first read with which they determine the object, with the input still open.
-/// The object is written where its name is that of its cells. While it reads, `progress` is told how far
-/// it has come.
+/// stand. The run ends at the first read with which they determine its object, with the input still open.
+/// What the object holds before its seal is written where it is the only part of the stream: its name is that
+/// of its cells, and its seal is right. While it reads, `progress` is told how far it has come.
 ///
 /// Refuses [`Error::Contradiction`](raptorq::error::Error) where
 /// [`Decoder::add_new_packet`](raptorq::Decoder::add_new_packet) refuses the packet of a cell so, and then
@@ -57,7 +60,7 @@ pub fn run_receive<R: Read, W: Write, P: Progress>(
         (W.contents (inner writer.old)) (W.contents (inner writer.new)) }
 
     // The object exactly where the cells determine it, and not before the last read that was made.
-    ensures ends { EndsReceiving wanted.now.table.now wanted.now.name.now result seen.new
+    ensures ends { EndsReceiving wanted.now.table.now wanted.now.key.now wanted.now.name.now result seen.new
         (R.remaining (source input.old)) (R.remaining (source input.new)) (last_length input.new)
         (W.contents (inner writer.old)) (W.contents (inner writer.new)) }
 {
@@ -65,15 +68,15 @@ pub fn run_receive<R: Read, W: Write, P: Progress>(
         return Ok(Ending::Incomplete { missing: None });
     };
     let head = found.head;
-    let mut receiver = Receiver::new(alloc, wanted.table, found)?;
+    let mut receiver = Receiver::new(alloc, wanted.table, wanted.key, found)?;
     let complete = receive(alloc, input, &mut receiver, seen, progress)?;
     if !complete {
         let missing = Some(missing_packets(&receiver.decoder));
         return Ok(Ending::Incomplete { missing });
     }
-    if answered_name(&receiver.decoder) != head.name {
+    let Some(bytes) = stream_of(alloc, &head, &receiver.decoder)? else {
         return Ok(Ending::AnotherObject);
-    }
-    write_object(writer, &receiver.decoder)?;
+    };
+    finish(writer, bytes)?;
     Ok(Ending::Written)
 }

@@ -114,10 +114,10 @@ fn write_blocks<W: Write>(writer: &mut Counted<W>, decoder: &Decoder) -> Result<
     Ok(())
 }
 
-/// Writes the object that a decoder has answered, block after block, and flushes then. Where it has
-/// answered none nothing is written, which is [`Outcome::Incomplete`]. The first failed call ends it
-/// with [`Stop::Fault`], and a beginning of the object may be written.
-pub fn write_object<W: Write>(writer: &mut Counted<W>, decoder: &Decoder) -> Result<Outcome, Stop>
+// Writes the object that a decoder has answered, block after block, and flushes then. Where it has
+// answered none nothing is written, which is [`Outcome::Incomplete`]. The first failed call ends it
+// with [`Stop::Fault`], and a beginning of the object may be written.
+fn write_object<W: Write>(writer: &mut Counted<W>, decoder: &Decoder) -> Result<Outcome, Stop>
     requires { failed_count writer.old < 2 ^ 64 - 1 }
     ensures counts { failed_count writer.new ≡ failed_count writer.old + failed_calls result }
     ensures ends { Ends result (W.contents (inner writer.old)) (W.contents (inner writer.new)) (Ok (result_of (state_of decoder.now))) }

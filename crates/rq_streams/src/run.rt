@@ -105,8 +105,9 @@ pub fn flush<W: Write>(writer: &mut Counted<W>) -> Result<(), Stop>
     }
 }
 
-/// Writes the bytes as all of the output.
-pub(crate) fn finish<W: Write>(writer: &mut Counted<W>, bytes: Vec<u8>) -> Result<Outcome, Stop>
+/// Writes the bytes as all of the output, and flushes then. The first failed call ends it with
+/// [`Stop::Fault`], and a beginning of the bytes may be written.
+pub fn finish<W: Write>(writer: &mut Counted<W>, bytes: Vec<u8>) -> Result<Outcome, Stop>
     requires { failed_count writer.old < 2 ^ 64 - 1 }
     ensures counts { failed_count writer.new ≡ failed_count writer.old + failed_calls result }
     ensures ends { Ends result (W.contents (inner writer.old)) (W.contents (inner writer.new)) (Ok (Some bytes.items)) }

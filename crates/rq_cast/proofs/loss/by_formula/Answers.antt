@@ -1,4 +1,4 @@
-use Rattle.std.proofs.Common.{ℕ, ◌+◌, ◌*◌, ◌≤◌, ◌-◌, ◌<◌, sym, subst, arith}
+use Rattle.std.proofs.Common.{ℕ, ◌*◌, ◌≤◌, sym, subst, arith}
 use Rattle.rq_cast.specs.Loss.{IsLeastEnough}
 use Rattle.rq_cast.proofs.LeastEnough.{least_enough, root_at, root_behind}
 use Rattle.rq_cast.proofs.loss.by_formula.Goals as goal

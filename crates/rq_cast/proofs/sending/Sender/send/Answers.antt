@@ -23,7 +23,7 @@ loop-number-init g c = record {
   sends = sends_none (sending_of c.args.self.now) (g.W.Write.contents (sink c.args.output.now));
   counts = record { refused = omega arith; failed = omega arith };
   few = omega arith;
-  room = subst (IsRoom c.args.self.now.head) (sym c.as_mut_slice-cell.ensures.value) c.in_ok-room.ensures.room;
+  room = subst (IsRoom c.args.self.now.key c.args.self.now.head) (sym c.as_mut_slice-cell.ensures.value) c.in_ok-room.ensures.room;
 }
 
 pub returns-in_err-write_cell-clause-stops : goal.returns-in_err-write_cell-clause-stops

@@ -10,5 +10,5 @@ invariant-loop-number g l = record {
   sends : SendsFirst (sending_of l.self) l.number l.lost [] (g.W.Write.contents (sink l.fn.output)) (g.W.Write.contents (sink l.output));
   counts : CountsLost l.fn.output l.output l.lost 0;
   few : l.lost ≤ l.number;
-  room : IsRoom l.self.head l.cell;
+  room : IsRoom l.self.key l.self.head l.cell;
 }

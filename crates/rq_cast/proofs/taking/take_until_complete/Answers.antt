@@ -8,14 +8,15 @@ use Rattle.rq_cast.specs.declared.receiver.Receiver.{Receiver}
 use Rattle.rq_cast.specs.Receiving.{TakesCells, StopsInCells, SeesNothingMore, StopsReceiving}
 use Rattle.rq_cast.specs.Input.{source, last_length}
 use Rattle.rq_cast.proofs.Receiving.{with_bytes, receiving_first, receiving_next, ends_determined, ends_at_end, refuses_next, none_incomplete, receives_many, sees_behind}
-use Rattle.rq_cast.proofs.receiver.take_until_complete.Goals as goal
-use Rattle.rq_cast.proofs.receiver.take_until_complete.Given.{Over}
-use Rattle.rq_cast.proofs.receiver.take_until_complete.Goals.{In-Err}
+use Rattle.rq_cast.proofs.taking.take_until_complete.Goals as goal
+use Rattle.rq_cast.proofs.taking.take_until_complete.Given.{Over}
+use Rattle.rq_cast.proofs.taking.take_until_complete.Goals.{In-Err}
 
 pub reading-init : goal.reading-init
 reading-init g c = record {
   receiving = λ first had taken.
       receiving_first first had (g.R.Read.remaining (source c.args.input.now)) (last_length c.args.input.now) c.args.receiver.now taken;
+  scans = c.requires.scans;
   counts = refl;
 }
 
@@ -43,6 +44,7 @@ reading-preserved g c =
           reads.behind reads.taken
           (omega (arith, reads.count, reads.few)) c.take_cells.new.self (last_length c.read_more.new.input) brought some
           (subst (λ r. OnOk r (TakesCells (with_bytes c.reading.receiver c.read_more.new.bytes) c.take_cells.new.self)) c.in-Ok.is c.take_cells.ensures.takes);
+      scans = c.take_cells.ensures.scans;
       counts = omega (arith, c.reading.invariant.counts, c.in_ok-n.ensures.counts);
     }
 
@@ -115,4 +117,4 @@ returns-in-Err-clause-sees g c =
     (g.R.Read.remaining (source c.reading.input)) (g.R.Read.remaining (source c.read_more.new.input)) (last_length c.args.input.now)
     (last_length c.reading.input) (last_length c.read_more.new.input) c.reading._reads (c.reading.invariant.receiving first had taken)
     c.read_more.ensures.once
-    (still g at).head (still g at).seen bytes
+    (still g at).part (still g at).seen bytes
