@@ -1,10 +1,11 @@
 -- What is done by the words.
-use Rattle.std.proofs.Common.{◌≡◌, ℕ, List, [], length, Some, None, Result, Err, IfSome, IfErr, inl, inr, sym, subst, ap, ◌∙◌}
+use Rattle.std.proofs.Common.{◌≡◌, ℕ, ◌+◌, List, [], length, Some, None, Result, Err, IfSome, IfErr, inl, inr, sym, subst, ap, ◌∙◌}
 use Rattle.rq_cast.specs.declared.order.Order.{Order}
 use Rattle.rq_cast.specs.declared.output.Output.{Output}
 use Rattle.rq_cast.specs.Output.{counting, sink}
 use Rattle.rq_bytes.specs.declared.error.Error.{Error}
 use Rattle.rq_cast.specs.Preparing.{IsPrepared, RefusesFitting, StopsPreparing}
+use Rattle.rq_cast.proofs.Sealed.{length-sealed}
 use Rattle.rq_cast.specs.Sent.{Sending, cell_count, SendsFirst, StopsBehind}
 use Rattle.rq_streams.specs.declared.counted.Counted.{Counted}
 use Rattle.rq_streams.specs.declared.run.Stop.{Stop}
@@ -37,34 +38,34 @@ done words stands blank r ended old new job is asks ends =
 
 -- an object of a length that is known is refused before it is read
 pub stops_early : {X : Type 0} (order : Order) (known : ℕ) (e : Error) (input : Contents) (r : Result X Stop) → r ≡ Err (Refused e)
-    → RefusesFitting known order.symbol_size e → IfSome input (λ object. length object ≡ known)
+    → RefusesFitting (known + 32) order.symbol_size e → IfSome input (λ object. length object ≡ known)
     → IfErr r (λ stop. IfSome input (λ object. StopsPreparing order object stop))
 stops_early order known e None r is refused long =
     subst (λ (x : Result _ Stop). IfErr x (λ stop. IfSome None (λ object. StopsPreparing order object stop))) (sym is) tt
 stops_early order known e (Some object) r is refused long =
     subst (λ (x : Result _ Stop). IfErr x (λ stop. StopsPreparing order object stop)) (sym is)
-    (inr (inl (subst (λ (n : ℕ). RefusesFitting n order.symbol_size e) (sym long) refused)))
+    (inr (inl (subst (λ (n : ℕ). RefusesFitting n order.symbol_size e) (sym (length-sealed object ∙ ap (λ n. n + 32) long)) refused)))
 
 -- all cells of what was read
 pub sends_all : (order : Order) (object read : Contents) (s : Sending) (cells lost : ℕ) (blank new : Contents) → read ≡ object
-    → IfSome read (λ o. IsPrepared order o s) → cells ≡ cell_count s → SendsFirst s (cell_count s) lost [] blank new
+    → IfSome read (λ o. IsPrepared order None o s) → cells ≡ cell_count s → SendsFirst s (cell_count s) lost [] blank new
     → IfSome object (λ o. SendsAll order o cells lost blank new)
 sends_all order None read s cells lost blank new is prepared count sends = tt
 sends_all order (Some o) read s cells lost blank new is prepared count sends = record {
   sending = s;
-  prepared = subst (λ (r : Contents). IfSome r (λ x. IsPrepared order x s)) is prepared;
+  prepared = subst (λ (r : Contents). IfSome r (λ x. IsPrepared order None x s)) is prepared;
   count = count;
   sends = subst (λ n. SendsFirst s n lost [] blank new) (sym count) sends;
 }
 
 -- and some of them
 pub sends_some : (order : Order) (object read : Contents) (s : Sending) (number lost : ℕ) (last : List ℕ) (stop : Stop) (blank new : Contents) → read ≡ object
-    → IfSome read (λ o. IsPrepared order o s) → SendsFirst s number lost last blank new → StopsBehind s number last stop
+    → IfSome read (λ o. IsPrepared order None o s) → SendsFirst s number lost last blank new → StopsBehind s number last stop
     → IfSome object (λ o. SendsSome order o stop blank new)
 sends_some order None read s number lost last stop blank new is prepared sends stopped = tt
 sends_some order (Some o) read s number lost last stop blank new is prepared sends stopped = record {
   sending = s;
-  prepared = subst (λ (r : Contents). IfSome r (λ x. IsPrepared order x s)) is prepared;
+  prepared = subst (λ (r : Contents). IfSome r (λ x. IsPrepared order None x s)) is prepared;
   number = number;
   lost = lost;
   last = last;

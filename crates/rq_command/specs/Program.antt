@@ -1,5 +1,5 @@
 -- What the program does, from its words to its end.
-use Rattle.std.specs.Prelude.{◌≡◌, ◌⊎◌, ⊤, ℕ, ◌<◌, ◌≤◌, List, [], Option, Result, Ok, Err, map, IfSome}
+use Rattle.std.specs.Prelude.{◌≡◌, ◌⊎◌, ⊤, ℕ, ◌<◌, ◌≤◌, List, [], Option, None, Result, Ok, Err, map, IfSome}
 use Rattle.clap.specs.Values.{kind_of}
 use Rattle.rq_bytes.specs.declared.error.Error.TheVariants.{OutOfMemory}
 use Rattle.rq_standard.specs.declared.row.TableRow.{TableRow}
@@ -28,14 +28,14 @@ use Rattle.rq_command.specs.Placed.{Contents, IsPlaced}
 -- All cells of an object are written, but for those that were lost.
 pub record SendsAll (order : Order) (object : List ℕ) (cells lost : ℕ) (blank new : Contents) : Type 0 where
   pub sending : Sending
-  pub prepared : IsPrepared order object sending
+  pub prepared : IsPrepared order None object sending
   pub count : cells ≡ cell_count sending
   pub sends : SendsFirst sending cells lost [] blank new
 
 -- Some of the first are, and a beginning of the next one where a call failed.
 pub record SendsSome (order : Order) (object : List ℕ) (stop : Stop) (blank new : Contents) : Type 0 where
   pub sending : Sending
-  pub prepared : IsPrepared order object sending
+  pub prepared : IsPrepared order None object sending
   pub number : ℕ
   pub lost : ℕ
   pub last : List ℕ
@@ -60,7 +60,7 @@ pub record Receives {X : Type 0} (name : List ℕ) (file : Option X) (result : R
   pub last : ℕ
   pub written : Contents
   pub ended : Result Ending Stop
-  pub ends : EndsReceiving table name ended seen input after last blank written
+  pub ends : EndsReceiving table None name ended seen input after last blank written
   pub same : (ended ≡ result) ⊎ ((ended ≡ Ok Written) × (result ≡ Err Fault))
   pub placed : IsPlaced file result written old new
 
@@ -78,7 +78,7 @@ EndsReceive name file input blank _ old new = ⊥
 
 abbrev pub EndsInfo : Contents → End → Contents → Contents → Type 0
 EndsInfo input (Surveyed standings) old new =
-    (new ≡ old) × IfSome input (λ bytes. (table : List TableRow) × (wanted_table FURTHER_ROWS ≡ Ok table) × IsSurvey table bytes standings.items)
+    (new ≡ old) × IfSome input (λ bytes. (table : List TableRow) × (wanted_table FURTHER_ROWS ≡ Ok table) × IsSurvey table None bytes standings.items)
 EndsInfo input (Stopped stop) old new = StopsBefore stop × (new ≡ old)
 EndsInfo input _ old new = ⊥
 

@@ -8,18 +8,17 @@ use rq_streams::Stop;
 use std::io;
 use std::io::Write;
 
-// Writes two hexadecimal digits for each byte.
-fn write_hexadecimal<W: Write>(bytes: &[u8], out: &mut W) -> io::Result<()> {
-    for byte in bytes {
+// Writes the name of a stream in 16 hexadecimal digits.
+fn write_name<W: Write>(head: &Head, out: &mut W) -> io::Result<()> {
+    for byte in &head.stream {
         write!(out, "{:02x}", *byte)?;
     }
     Ok(())
 }
 
-// Writes name and configuration of an object in 56 hexadecimal digits.
-fn write_name<W: Write>(head: &Head, out: &mut W) -> io::Result<()> {
-    write_hexadecimal(&head.name, out)?;
-    write_hexadecimal(&head.configuration.serialize(), out)
+// How many bytes a stream has whose only part has this head: a seal ends its object.
+fn length_of(head: &Head) -> u64 {
+    head.configuration.transfer_length().saturating_sub(32)
 }
 
 // So many packets.
@@ -27,9 +26,9 @@ fn counted(packets: u64) -> &'static str {
     if packets == 1 { "packet" } else { "packets" }
 }
 
-/// Writes what stands before the first cell: the object's name and configuration in 56 hexadecimal
-/// digits, how many blocks there are, how many source symbols the largest has, and how many cells are sent;
-/// in three lines, or in one of JSON.
+/// Writes what stands before the first cell: the stream's name in 16 hexadecimal digits, how many blocks there
+/// are, how many source symbols the largest has, and how many cells are sent; in three lines, or in one of
+/// JSON.
 pub fn announce<W: Write>(sender: &Sender, json: bool, out: &mut W) -> io::Result<()> {
     let head = sender.head();
     let blocks = head.configuration.source_blocks();
@@ -48,9 +47,9 @@ pub fn announce<W: Write>(sender: &Sender, json: bool, out: &mut W) -> io::Resul
     writeln!(out, "\nblocks {blocks} of {symbols}\ncells {cells}")
 }
 
-// Writes what its cells determine of an object. Those that are refused contradict each other.
+// Writes what its cells determine of a stream. Those that are refused contradict each other.
 fn write_standing<W: Write>(standing: &Standing, out: &mut W) -> io::Result<()> {
-    let bytes = standing.head.configuration.transfer_length();
+    let bytes = length_of(&standing.head);
     write_name(&standing.head, out)?;
     match standing.ended {
         Ok(Ending::Written) => writeln!(out, " {bytes} bytes, whole"),
@@ -63,9 +62,9 @@ fn write_standing<W: Write>(standing: &Standing, out: &mut W) -> io::Result<()> 
     }
 }
 
-// Writes the same as JSON. Of an object that is forged it isn't said how many packets are missing.
+// Writes the same as JSON. Of a stream that is forged it isn't said how many packets are missing.
 fn write_standing_json<W: Write>(standing: &Standing, out: &mut W) -> io::Result<()> {
-    let bytes = standing.head.configuration.transfer_length();
+    let bytes = length_of(&standing.head);
     write!(out, "{{\"name\":\"")?;
     write_name(&standing.head, out)?;
     write!(out, "\",\"bytes\":{bytes}")?;
@@ -79,8 +78,8 @@ fn write_standing_json<W: Write>(standing: &Standing, out: &mut W) -> io::Result
     }
 }
 
-/// Writes a line for each object: its name and configuration, how many bytes it has, and whether it's whole;
-/// as words, or as JSON.
+/// Writes a line for each stream: its name, how many bytes it has, and whether it's whole; as words, or as
+/// JSON.
 pub fn write_standings<W: Write>(
     standings: &[Standing],
     json: bool,
@@ -99,14 +98,13 @@ pub fn write_standings<W: Write>(
 // Why something is refused, and what to do.
 fn reason_of(refusal: Error) -> &'static str {
     match refusal {
-        Error::TransferLengthZero => "there is nothing to send: the input is empty",
-        Error::TransferTooLong => "more than 942574504275 bytes can't be sent: send them in parts",
+        Error::TransferTooLong => "more than 942574504243 bytes can't be sent: send them in parts",
         Error::TooManyBlocks => {
             "the input is too long for cells of this size: take a greater --cell"
         }
         Error::OutOfMemory => "there is too little memory: send the input in parts",
         Error::Contradiction => {
-            "cells contradict each other, so some are forged: receive by the whole --name"
+            "cells contradict each other, so some are forged: receive other ones"
         }
         _ => "the input is refused",
     }
@@ -130,7 +128,7 @@ fn write_ending<W: Write>(ending: Ending, out: &mut W) -> io::Result<()> {
         }
         Ending::AnotherObject => writeln!(
             out,
-            "rqcast: the cells make another object than they say, so some are forged: receive by the whole --name"
+            "rqcast: the cells make another object than they say, so some are forged: receive other ones"
         ),
     }
 }

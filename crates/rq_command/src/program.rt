@@ -1,5 +1,5 @@
 //! The program from its words to its end, over any devices.
-ghost use Rattle.std.specs.Prelude.{◌≡◌, ◌⊎◌, ℕ, ◌+◌, ◌<◌, length, map, Ok, Err, IfOk, IfErr, IfSome};
+ghost use Rattle.std.specs.Prelude.{◌≡◌, ◌⊎◌, ℕ, ◌+◌, ◌<◌, length, map, None, Ok, Err, IfOk, IfErr, IfSome};
 ghost use Rattle.rq_streams.specs.Ends.{failed_calls};
 ghost use Rattle.rq_cast.specs.Preparing.{IsPrepared, StopsPreparing};
 ghost use Rattle.rq_cast.specs.Sent.{sending_of};
@@ -11,9 +11,10 @@ use crate::devices::{Devices, Teller};
 use crate::ending::End;
 use crate::told::Told;
 use rq_cast::{
-    Ending, Input, Order, Output, Seen, Sender, Wanted, check_length, read_sender, run_receive,
+    Ending, Input, Order, Output, Seen, Sender, check_length, read_sender, run_receive,
     standings_in,
 };
+use rq_cells::{Key, Wanted};
 use rq_rows::full_table;
 use rq_streams::{Counted, Stop, read_all};
 use rq_words::{InfoJob, Job, ReceiveJob, SendJob, job};
@@ -29,7 +30,7 @@ fn prepare<'w, D: Devices<'w>, T: Teller>(
     teller: &mut T,
 ) -> Result<Sender, Stop>
     requires step { 0 < order.now.ids.step }
-    ensures prepared { IfOk result (λ s. IfSome (D.Reader.remaining reader) (λ object. IsPrepared order.now object (sending_of s))) }
+    ensures prepared { IfOk result (λ s. IfSome (D.Reader.remaining reader) (λ object. IsPrepared order.now None object (sending_of s))) }
     ensures stops { IfErr result (λ stop. IfSome (D.Reader.remaining reader) (λ object. StopsPreparing order.now object stop)) }
     ensures counts { Fails (D.failed devices.old) (D.failed devices.new) (failed_calls result) }
     ensures kept { D.placed devices.new ≡ D.placed devices.old }
@@ -38,7 +39,7 @@ fn prepare<'w, D: Devices<'w>, T: Teller>(
         check_length(alloc, length, order.symbol_size)?;
     }
     let mut input = Counted::new(Told::new(reader, teller));
-    let prepared = read_sender(alloc, order, &mut input);
+    let prepared = read_sender(alloc, order, Key::none(), &mut input);
     devices.count(&input);
     prepared
 }
@@ -107,7 +108,7 @@ fn place<'w, D: Devices<'w>>(
     ended
 }
 
-// Receives an object. The file that it becomes is there before the first byte is read.
+// Receives a stream. The file that it becomes is there before the first byte is read.
 fn receive<'w, D: Devices<'w>, T: Teller>(
     alloc: Global,
     job: ReceiveJob<'w>,
@@ -125,7 +126,9 @@ fn receive<'w, D: Devices<'w>, T: Teller>(
         telling,
     } = job;
     let table = full_table(alloc)?;
+    let key = Key::none();
     let wanted = Wanted {
+        key: &key,
         table: &table,
         name: name.as_slice(),
     };
@@ -141,7 +144,7 @@ fn receive<'w, D: Devices<'w>, T: Teller>(
     Ok(End::Received(ended, seen))
 }
 
-// Lists the objects whose cells stand among bytes.
+// Lists the streams whose cells stand among bytes.
 fn info<'w, D: Devices<'w>, T: Teller>(
     alloc: Global,
     job: InfoJob<'w>,
@@ -160,7 +163,7 @@ fn info<'w, D: Devices<'w>, T: Teller>(
     let read = read_all(alloc, &mut input);
     devices.count(&input);
     let bytes = read?;
-    let standings = standings_in(alloc, &table, bytes.as_slice())?;
+    let standings = standings_in(alloc, &table, &Key::none(), bytes.as_slice())?;
     Ok(End::Surveyed(standings))
 }
 

@@ -11,9 +11,9 @@ use Rattle.rq_cast.specs.declared.series.Repair.{Repair}
 use Rattle.rq_cast.specs.declared.series.Repair.TheVariants.{Packets, Share, All}
 use Rattle.rq_words.specs.Numbers.{fitting, scaled_of, count_of, last, without_last, has, before, behind}
 
--- the most bytes of a symbol, where a cell has as many as a text says: 48 of them are no symbol
+-- the most bytes of a symbol, where a cell has as many as a text says: 64 of them are no symbol
 unfoldable pub symbol_size_of : List ℕ → Option ℕ
-symbol_size_of text = option_and_then (λ n. if nat_lt 48 n && nat_le n greatest_cell_size then Some (n - 48) else None) (count_of text)
+symbol_size_of text = option_and_then (λ n. if nat_lt 64 n && nat_le n greatest_cell_size then Some (n - 64) else None) (count_of text)
 
 -- ---- parts of all, in percent
 
@@ -60,9 +60,9 @@ share_of text = if has 47 text then shared (id_of (before 47 text)) (id_of (behi
 
 -- ---- names
 
--- 1 to 28 bytes
+-- 1 to 8 bytes
 abbrev pub sized : List ℕ → Option (List ℕ)
-sized bytes = if nat_lt 0 (length bytes) && nat_le (length bytes) 28 then Some bytes else None
+sized bytes = if nat_lt 0 (length bytes) && nat_le (length bytes) 8 then Some bytes else None
 
 -- memory was refused for the bytes
 abbrev pub is_refused : FromHexError → Bool

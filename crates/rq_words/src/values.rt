@@ -9,17 +9,17 @@ use rq_cast::{Loss, Repair};
 use std::alloc::{AllocError, Global};
 
 // How many bytes a cell has beside its symbol, and at most.
-const BESIDE_SYMBOL: u64 = 48;
+const BESIDE_SYMBOL: u64 = 64;
 
-const LONGEST_CELL: u64 = 65_583;
+const LONGEST_CELL: u64 = 65_599;
 
 // How many hundred-thousandths of all are lost at most: half.
 const GREATEST_LOSS: u32 = 50_000;
 
-// How many bytes a name and a configuration have.
-const LONGEST_NAME: usize = 28;
+// How many bytes name a stream.
+const LONGEST_NAME: usize = 8;
 
-/// The most bytes of a symbol, where a cell has as many as a text says: from 49 to 65583.
+/// The most bytes of a symbol, where a cell has as many as a text says: from 65 to 65599.
 #[tactic(auto, using(std::proofs::lemmas::Bool::Decides::nat_tests), unfolding(crate::specs::Values::symbol_size_of))]
 pub(crate) fn symbol_size(text: &str) -> Option<u16>
     ensures { result ≡ symbol_size_of text.now }
@@ -129,7 +129,7 @@ fn is_refused(error: &FromHexError) -> bool
     matches!(error, FromHexError::OutOfMemory)
 }
 
-/// How name and configuration begin: 1 to 28 bytes, in two hexadecimal digits each.
+/// How a stream begins: 1 to 8 bytes, in two hexadecimal digits each.
 pub(crate) fn name(alloc: Global, text: &str) -> Result<Option<Vec<u8>>, AllocError>
     ensures { IfOk result (λ name. option_map (λ v. v.items) name ≡ name_of text.now) }
 {

@@ -28,7 +28,7 @@ fn symbol_size_of<'a>(matches: &ArgMatches<'a>) -> Result<u16, Misuse<'a>>
         Some(size) => Ok(size),
         None => Err(Misuse::Value {
             option: "--cell <BYTES>",
-            takes: "a number from 49 to 65583",
+            takes: "a number from 65 to 65599",
             text,
         }),
     }
@@ -217,7 +217,7 @@ fn send_job<'a>(alloc: Global, matches: &ArgMatches<'a>) -> Result<SendJob<'a>, 
     })
 }
 
-// How name and configuration begin.
+// How the stream begins.
 #[tactic(auto, unfolding(crate::specs::Asked::name_asked))]
 fn name_of<'a>(
     alloc: Global,
@@ -232,13 +232,13 @@ fn name_of<'a>(
         Some(name) => Ok(Ok(name)),
         None => Ok(Err(Misuse::Value {
             option: "--name <HEX>",
-            takes: "2 to 56 hexadecimal digits, an even number of them",
+            takes: "2 to 16 hexadecimal digits, an even number of them",
             text,
         })),
     }
 }
 
-// Which object is received, and where from and to.
+// Which stream is received, and where from and to.
 fn receive_job<'a>(alloc: Global, matches: &ArgMatches<'a>) -> Result<ReceiveJob<'a>, Error>
     ensures job { IfOk result (IsReceiveOf (rows_of (found_of matches.now))) }
     ensures fails { FailsBy (kinds_of (receive_asked (rows_of (found_of matches.now)))) result }

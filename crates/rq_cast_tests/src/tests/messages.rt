@@ -1,9 +1,10 @@
 //! What is said of a run.
-use crate::tests::stored_cells::{FIRST, OBJECT};
-use raptorq::ObjectTransmissionInformation;
+use crate::tests::sending::sender;
+use crate::tests::stored_cells::FIRST;
 use raptorq::error::Error;
 use raptorq::systematic_constants::SystematicTable;
-use rq_cast::{Ending, Repair, Seen, Sender, standings_in};
+use rq_cast::{Ending, Seen, standings_in};
+use rq_cells::Key;
 use rq_command::{End, announce, write_end, write_standings};
 use rq_streams::Stop;
 
@@ -46,8 +47,8 @@ fn ends_are_said(rt: HostRuntime) {
             1,
         ),
         (
-            End::Stopped(Stop::Refused(Error::TransferLengthZero)),
-            "nothing to send",
+            End::Stopped(Stop::Refused(Error::TransferTooLong)),
+            "can't be sent",
             3,
         ),
     ];
@@ -64,25 +65,23 @@ fn ends_are_said(rt: HostRuntime) {
 }
 
 #[test]
-fn senders_and_objects_are_named(rt: HostRuntime) {
+fn senders_and_streams_are_named(rt: HostRuntime) {
     let alloc = rt.alloc();
     let table = SystematicTable::built_in(alloc).expect(&rt, "a table");
-    let config = ObjectTransmissionInformation::new(3, 2, 1, 1, 1).expect(&rt, "a configuration");
-    let repair = Repair::Packets(0);
-    let sender = Sender::new(alloc, &table, config, &OBJECT, repair, 0, 1).expect(&rt, "a sender");
+    let sender = sender(alloc, 0, 1).expect(&rt, "a sender");
     let mut out: Vec<u8> = Vec::new(alloc);
     announce(&sender, false, &mut out).expect(&rt, "memory");
     announce(&sender, true, &mut out).expect(&rt, "memory");
-    let standings = standings_in(alloc, &table, &FIRST).expect(&rt, "memory");
+    let standings = standings_in(alloc, &table, &Key::none(), &FIRST).expect(&rt, "memory");
     write_standings(standings.as_slice(), false, &mut out).expect(&rt, "memory");
     write_standings(standings.as_slice(), true, &mut out).expect(&rt, "memory");
     let text = "\
-name bbc28135a52ff273b0ee175977e0ddb5000000000300000201000101
+name 895c2d0a5eb30d32
 blocks 1 of 2
 cells 2
-{\"name\":\"bbc28135a52ff273b0ee175977e0ddb5000000000300000201000101\",\"blocks\":1,\"symbols\":2,\"cells\":2}
-bbc28135a52ff273b0ee175977e0ddb5000000000300000201000101 3 bytes, lacks 1 packet
-{\"name\":\"bbc28135a52ff273b0ee175977e0ddb5000000000300000201000101\",\"bytes\":3,\"missing\":1}
+{\"name\":\"895c2d0a5eb30d32\",\"blocks\":1,\"symbols\":2,\"cells\":2}
+895c2d0a5eb30d32 3 bytes, lacks 1 packet
+{\"name\":\"895c2d0a5eb30d32\",\"bytes\":3,\"missing\":1}
 ";
     assert_eq!(rt; out.as_slice(), text.as_bytes());
 }

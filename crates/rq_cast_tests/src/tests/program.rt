@@ -139,16 +139,15 @@ fn words_are_done(rt: HostRuntime) {
     const FILE: Two = (&OBJECT, b"");
     const MISNAMED: Two = (&FIRST_MISNAMED, &SECOND_MISNAMED);
     const OLD: Two = (b"old", b"");
-    let rows: [(&str, Two, u8, Two, usize); 12] = [
-        ("send --cell 50 --repair 0 FILE", FILE, 0, CELLS, 1),
-        ("send --cell=50 -r0 --share 0/2", FILE, 0, (&FIRST, b""), 0),
-        ("send -c50 -r 0 --from 1 -q", FILE, 0, (&SECOND, b""), 0),
+    let rows: [(&str, Two, u8, Two, usize); 11] = [
+        ("send --cell 88 --repair 0 FILE", FILE, 0, CELLS, 1),
+        ("send --cell=88 -r0 --share 0/2", FILE, 0, (&FIRST, b""), 0),
+        ("send -c88 -r 0 --from 1 -q", FILE, 0, (&SECOND, b""), 0),
         ("send --repair 0 --from 2", FILE, 0, NOTHING, 0),
-        ("send", NOTHING, 3, OLD, 0),
         ("receive", CELLS, 0, FILE, 0),
-        ("receive -o FILE --name bbc2 A B", CELLS, 0, FILE, 2),
-        ("receive -o FILE --name bbc3", CELLS, 2, OLD, 0),
-        ("receive -o FILE", (&FIRST, &SECOND[..49]), 2, OLD, 0),
+        ("receive -o FILE --name 895c A B", CELLS, 0, FILE, 2),
+        ("receive -o FILE --name 895d", CELLS, 2, OLD, 0),
+        ("receive -o FILE", (&FIRST, &SECOND[..87]), 2, OLD, 0),
         ("receive -o FILE", MISNAMED, 3, OLD, 0),
         ("receive", MISNAMED, 3, NOTHING, 0),
         ("info A", CELLS, 0, OLD, 1),

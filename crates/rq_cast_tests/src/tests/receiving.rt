@@ -3,7 +3,8 @@ use crate::tests::stored_cells::{
     FIRST, FIRST_MISNAMED, OBJECT, OF_NO_BLOCK, SECOND, SECOND_MISNAMED, joined,
 };
 use raptorq::systematic_constants::SystematicTable;
-use rq_cast::{Ending, Input, Seen, Silent, Wanted, run_receive};
+use rq_cast::{Ending, Input, Seen, Silent, run_receive};
+use rq_cells::{Key, Wanted};
 use rq_streams::{Counted, Stop};
 use std::alloc::Global;
 use std::io;
@@ -29,7 +30,7 @@ impl<'a> Read for Open<'a> {
 /// How a run ends, what it has seen, and what it writes.
 pub type Ended = (Result<Ending, Stop>, Seen, Vec<u8>);
 
-/// Receives over a table what a reader brings of objects whose name and configuration begin so.
+/// Receives over a table what a reader brings of streams that begin so.
 pub fn received<R: Read + Drop>(
     alloc: Global,
     table: &SystematicTable,
@@ -39,7 +40,12 @@ pub fn received<R: Read + Drop>(
     let mut input = Input::new(Counted::new(reader));
     let mut out: Vec<u8> = Vec::new(alloc);
     let mut writer = Counted::new(&mut out);
-    let wanted = Wanted { table, name };
+    let key = Key::none();
+    let wanted = Wanted {
+        key: &key,
+        table,
+        name,
+    };
     let mut seen = Seen::default();
     let ended = run_receive(
         alloc,
@@ -58,9 +64,9 @@ fn cells_among_other_bytes_are_received(rt: HostRuntime) {
     let alloc = rt.alloc();
     let table = SystematicTable::built_in(alloc).expect(&rt, "a table");
     let mut damaged = FIRST;
-    damaged[45] ^= 1;
+    damaged[60] ^= 1;
     let parts = [
-        &FIRST_MISNAMED[..49],
+        &FIRST_MISNAMED[..87],
         b"RQC",
         &FIRST,
         &OF_NO_BLOCK,
@@ -74,12 +80,12 @@ fn cells_among_other_bytes_are_received(rt: HostRuntime) {
         damaged: 1,
         others: 3,
     };
-    for most in [1, 7, 50, 65536] {
+    for most in [1, 7, 88, 65536] {
         let reader = Open {
             rest: bytes.as_slice(),
             most,
         };
-        let (ended, told, out) = received(alloc, &table, &[187, 194], reader);
+        let (ended, told, out) = received(alloc, &table, &[137, 92], reader);
         assert_eq!(rt; (ended, told), (Ok(Ending::Written), seen));
         assert_eq!(rt; out.as_slice(), OBJECT.as_slice());
     }
@@ -91,7 +97,7 @@ fn other_runs_write_nothing(rt: HostRuntime) {
     let table = SystematicTable::built_in(alloc).expect(&rt, "a table");
     let misnamed = joined(alloc, &[&FIRST_MISNAMED, &SECOND_MISNAMED]).expect(&rt, "bytes");
     let mut damaged = FIRST;
-    damaged[45] ^= 1;
+    damaged[60] ^= 1;
     let nothing = Ending::Incomplete { missing: None };
     let one = Ending::Incomplete { missing: Some(1) };
     let cases: [(&[u8], &[u8], Ending, [u64; 3]); 5] = [
@@ -118,7 +124,7 @@ fn runs_that_are_stopped_say_what_they_saw(rt: HostRuntime) {
     let alloc = rt.alloc();
     let table = SystematicTable::built_in(alloc).expect(&rt, "a table");
     let mut damaged = FIRST;
-    damaged[45] ^= 1;
+    damaged[60] ^= 1;
     let bytes = joined(alloc, &[&FIRST_MISNAMED, &damaged, &FIRST]).expect(&rt, "bytes");
     let seen = Seen {
         cells: 1,
@@ -130,7 +136,7 @@ fn runs_that_are_stopped_say_what_they_saw(rt: HostRuntime) {
             rest: bytes.as_slice(),
             most,
         };
-        let (ended, told, out) = received(alloc, &table, &[187], reader);
+        let (ended, told, out) = received(alloc, &table, &[137], reader);
         assert_eq!(rt; (ended, told), (Err(Stop::Fault), seen));
         assert!(rt; out.is_empty());
     }

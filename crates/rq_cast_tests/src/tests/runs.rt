@@ -11,7 +11,7 @@ use std::io::{ErrorKind, Read};
 
 /// A run, and what it makes of its bytes.
 pub struct Run {
-    /// What name and configuration begin with.
+    /// What the stream begins with.
     pub name: &'static [u8],
     /// What each read brings. The last one is needed, or the input ends behind it.
     pub pieces: &'static [&'static [u8]],

@@ -4,7 +4,9 @@ use raptorq::ObjectTransmissionInformation;
 use raptorq::error::Error;
 use raptorq::systematic_constants::SystematicTable;
 use rq_cast::{Output, Pace, Repair, Sender};
+use rq_cells::Key;
 use rq_streams::{Counted, Stop};
+use sha2::{Digest, Sha512};
 use std::alloc::Global;
 use std::io;
 use std::io::{ErrorKind, Write};
@@ -54,15 +56,18 @@ impl Pace for Waits {
     }
 }
 
-// The sender of the object's source symbols whose ids these are, in symbols of two bytes.
+// The sender of the stream's source symbols whose ids these are, in symbols of 24 bytes.
 pub(super) fn sender(alloc: Global, first: u32, step: u32) -> Result<Sender, Error> {
     let table = SystematicTable::built_in(alloc)?;
-    let config = ObjectTransmissionInformation::new(3, 2, 1, 1, 1)?;
+    let config = ObjectTransmissionInformation::new(35, 24, 1, 1, 1)?;
+    let seal = Sha512::digest(&[]);
+    let object = joined(alloc, &[&OBJECT, &seal[..32]])?;
     Sender::new(
         alloc,
+        Key::none(),
         &table,
         config,
-        &OBJECT,
+        object.as_slice(),
         Repair::Packets(0),
         first,
         step.max(1),
@@ -91,14 +96,14 @@ fn lost_cells_are_counted_and_others_written(rt: HostRuntime) {
     // What a call takes at most, which one fails and how; how the run ends, what it wrote, and for how
     // many bytes it waited, those of the cell that failed among them.
     let cases: [(usize, usize, ErrorKind, Result<u64, Stop>, &[u8], usize); 8] = [
-        (50, 0, other, Ok(0), all, 100),
-        (7, 0, other, Ok(0), all, 100),
-        (50, 1, lost, Ok(1), &SECOND, 100),
-        (50, 2, lost, Ok(1), &FIRST, 100),
-        (7, 2, lost, Err(Stop::Fault), &FIRST[..7], 50),
-        (50, 2, other, Err(Stop::Fault), &FIRST, 100),
-        (50, 3, lost, Err(Stop::Fault), all, 100),
-        (0, 0, other, Err(Stop::Fault), &[], 50),
+        (88, 0, other, Ok(0), all, 176),
+        (7, 0, other, Ok(0), all, 176),
+        (88, 1, lost, Ok(1), &SECOND, 176),
+        (88, 2, lost, Ok(1), &FIRST, 176),
+        (7, 2, lost, Err(Stop::Fault), &FIRST[..7], 88),
+        (88, 2, other, Err(Stop::Fault), &FIRST, 176),
+        (88, 3, lost, Err(Stop::Fault), all, 176),
+        (0, 0, other, Err(Stop::Fault), &[], 88),
     ];
     for (most, failing, kind, ending, wanted, waits) in cases {
         let link = Link {
@@ -127,7 +132,7 @@ fn ids_of_a_share_are_sent(rt: HostRuntime) {
         let sender = sender(alloc, first, step).expect(&rt, "sender");
         let link = Link {
             bytes: Vec::new(alloc),
-            most: 50,
+            most: 88,
             failing: 0,
             kind: ErrorKind::Other,
         };
@@ -135,6 +140,6 @@ fn ids_of_a_share_are_sent(rt: HostRuntime) {
         assert_eq!(rt; ended, Ok(0));
         assert_eq!(rt; out.as_slice(), wanted);
         assert_eq!(rt; waited, wanted.len());
-        assert_eq!(rt; sender.cells() * 50, wanted.len() as u64);
+        assert_eq!(rt; sender.cells() * 88, wanted.len() as u64);
     }
 }

@@ -27,7 +27,7 @@ fn orders_are_read(rt: HostRuntime) {
     let rows = [
         (
             "send",
-            1424,
+            1408,
             Repair::Against(Loss { parts: 5000 }),
             0,
             1,
@@ -35,7 +35,7 @@ fn orders_are_read(rt: HostRuntime) {
         ),
         (
             "send -l 0.5",
-            1424,
+            1408,
             Repair::Against(Loss { parts: 500 }),
             0,
             1,
@@ -43,7 +43,7 @@ fn orders_are_read(rt: HostRuntime) {
         ),
         (
             "send --loss 10",
-            1424,
+            1408,
             Repair::Against(Loss { parts: 10000 }),
             0,
             1,
@@ -51,14 +51,14 @@ fn orders_are_read(rt: HostRuntime) {
         ),
         (
             "send --cell 1.3k -r 15%",
-            1252,
+            1236,
             Repair::Share(15000),
             0,
             1,
             None,
         ),
         (
-            "send -c65583 -r 2k",
+            "send -c65599 -r 2k",
             65535,
             Repair::Packets(2000),
             0,
@@ -67,7 +67,7 @@ fn orders_are_read(rt: HostRuntime) {
         ),
         (
             "send -rall --rate 0.5G",
-            1424,
+            1408,
             Repair::All,
             0,
             1,
@@ -75,7 +75,7 @@ fn orders_are_read(rt: HostRuntime) {
         ),
         (
             "send -r7 --share 3/20 --from 100",
-            1424,
+            1408,
             Repair::Packets(7),
             103,
             20,
@@ -104,8 +104,8 @@ fn wrong_words_are_named(rt: HostRuntime) {
         ("send --loud", "'--loud'"),
         ("send a b", "'b'"),
         ("send --cell", "'--cell <BYTES>'"),
-        ("send --cell 48", "'48' for '--cell <BYTES>'"),
-        ("send --cell 65584", "'65584'"),
+        ("send --cell 64", "'64' for '--cell <BYTES>'"),
+        ("send --cell 65600", "'65600'"),
         ("send --cell 1e3", "'1e3'"),
         ("send --loss 50.001", "'50.001' for '--loss <PERCENT>'"),
         (
