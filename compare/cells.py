@@ -5,7 +5,8 @@ from typing import NamedTuple
 
 from building import all_rows, numbers
 
-MARK, HEAD, AROUND = b"RQC\1", 36, 48
+MARK, HEAD, AROUND = b"RQC\2", 52, 64
+LAST = 1 << 31
 PRODUCTS = [bytes(256)]
 
 
@@ -181,32 +182,44 @@ class Configuration(NamedTuple):
 
 
 def configuration_of(head):
-    parts = [head[at : at + count] for at, count in ((20, 5), (26, 2), (28, 1), (29, 2), (31, 1))]
+    parts = [head[at : at + count] for at, count in ((32, 5), (38, 2), (40, 1), (41, 2), (43, 1))]
     return Configuration(*(int.from_bytes(part, "big") for part in parts))
 
 
-def with_check(data, count):
-    return data + sha512(data).digest()[:count]
+def digest_of(data):
+    return sha512(data).digest()[:32]
 
 
-def head_of(name, configuration):
-    return with_check(MARK + name + configuration, 4)
+def check_of(data):
+    return sha512(data).digest()[:8]
+
+
+SEAL = digest_of(b"")
+
+
+def head_of(stream, number, name, configuration):
+    said = MARK + stream + number.to_bytes(4, "big") + name + configuration
+    return said + check_of(said)
 
 
 def cell_of(head, block, esi, symbol):
-    return with_check(head + bytes([block]) + esi.to_bytes(3, "big") + symbol, 8)
+    said = head + bytes([block]) + esi.to_bytes(3, "big")
+    return said + symbol + check_of(said + digest_of(symbol))
 
 
 class Object:
-    """An object with its configuration, of one sub-block a block. Its name is another one where that is said."""
+    """The only part of a stream of these bytes, with its configuration, of one sub-block a block. Its name, number or seal is another one where
+    that is said."""
 
-    def __init__(self, data, configuration, name=None):
+    def __init__(self, data, configuration, name=None, number=LAST, seal=SEAL):
         self.data, self.configuration = data, configuration
-        self.is_right = name is None
-        self.head = head_of(name or sha512(data).digest()[:16], configuration.to_bytes())
+        self.is_right = name is None and number == LAST and seal == SEAL
         size, counts = configuration.size, configuration.counts()
-        padded = data.ljust(sum(counts) * size, b"\0")
+        padded = (data + seal).ljust(sum(counts) * size, b"\0")
         symbols = [padded[at : at + size] for at in range(0, len(padded), size)]
+        digests = b"".join(map(digest_of, symbols))
+        name = name or sha512(number.to_bytes(4, "big") + configuration.to_bytes() + digests).digest()[:16]
+        self.head = head_of(name[:8], number, name, configuration.to_bytes())
         self.blocks = [Block(symbols[sum(counts[:block]) :][:count]) for block, count in enumerate(counts)]
 
     def cell(self, block, esi):
@@ -229,9 +242,10 @@ def places_in(data):
     found, at = [], data.find(MARK)
     while at >= 0:
         head = data[at : at + HEAD]
-        if len(head) == HEAD and with_check(head[:32], 4) == head and head[25] == 0:
+        if len(head) == HEAD and head[:44] + check_of(head[:44]) == head and head[37] == 0:
             end = at + AROUND + configuration_of(head).size
-            is_cell = end <= len(data) and with_check(data[at : end - 8], 8) == data[at:end]
+            symbol, check = data[at + HEAD + 4 : end - 8], data[end - 8 : end]
+            is_cell = end <= len(data) and check_of(data[at : at + HEAD + 4] + digest_of(symbol)) == check
             number = int.from_bytes(data[at + HEAD : at + HEAD + 4], "big")
             found.append(Place(at, head, end, is_cell, number >> 24, number & 2**24 - 1))
         at = data.find(MARK, at + 1)
@@ -248,7 +262,12 @@ class Received(NamedTuple):
 
 
 def is_wanted(head, name):
-    return configuration_of(head).is_taken() and head[4:32].startswith(name)
+    return configuration_of(head).is_taken() and head[4:12].startswith(name)
+
+
+def is_of_stream(head, other):
+    """Whether a head is of the same stream's cells, of the same length."""
+    return head[4:12] == other[4:12] and configuration_of(head).size == configuration_of(other).size
 
 
 def find_first(places, name, ends):
@@ -264,7 +283,7 @@ def missing_of(configuration, ids):
 
 
 def receive(data, name, ends, objects):
-    """What a receiver makes of bytes that are read up to these ends, where all cells are of these objects."""
+    """What a receiver makes of bytes that are read up to these ends, where the cells of a head are of one of these objects, or one cell stands alone."""
     places = places_in(data)
     found = find_first(places, name, ends)
     if not found:
@@ -272,25 +291,28 @@ def receive(data, name, ends, objects):
         damaged = sum(is_one and place.end <= len(data) for is_one, place in zip(wanted, places))
         return Received(len(data), {"cells": 0, "damaged": damaged, "others": len(places) - sum(wanted)}, b"", 2)
     first, front = found
-    told = next(thing for thing in objects if thing.head == first.head)
+    head, configuration = first.head, configuration_of(first.head)
+    made = next((thing for thing in objects if thing.head == head and thing.is_right), None)
     before = [place for place in places if place.at < first.at]
     damaged = sum(is_wanted(place.head, name) and place.end <= front for place in before)
     others = sum(not is_wanted(place.head, name) for place in before)
-    ids, taken = [set() for _ in told.blocks], 0
+    ids, taken = [set() for _ in range(configuration.blocks)], 0
     for end in (end for end in ends if end >= front):
-        cells = [place for place in places if place.is_cell and place.end <= end and place.head == told.head]
+        cells = [place for place in places if place.is_cell and place.end <= end and place.head == head]
         for place in cells[taken:]:
             if place.block < len(ids):
                 ids[place.block].add(place.esi)
         is_new, taken = len(cells) > taken, len(cells)
-        if is_new and not any(missing_of(told.configuration, ids)):
+        if is_new and not any(missing_of(configuration, ids)):
             break
     later = [place for place in places if place.at >= first.at and place.at + HEAD <= end]
-    damaged += sum(place.head == told.head and place.end <= end and not place.is_cell for place in later)
+    own = [place for place in later if is_of_stream(place.head, head)]
+    damaged += sum(place.end <= end and not place.is_cell for place in own)
     known = sum(place.block < len(ids) for place in cells)
-    others += sum(place.head != told.head for place in later) + len(cells) - known
+    rivals = sum(place.end <= end and place.is_cell and place.head != head for place in own)
+    others += len(later) - len(own) + rivals + len(cells) - known
     counts = {"cells": known, "damaged": damaged, "others": others}
-    missing = sum(missing_of(told.configuration, ids))
+    missing = sum(missing_of(configuration, ids))
     if missing:
         return Received(len(data), {**counts, "missing": missing}, b"", 2)
-    return Received(end, counts, told.data, 0) if told.is_right else Received(end, counts, b"", 3)
+    return Received(end, counts, made.data, 0) if made else Received(end, counts, b"", 3)
