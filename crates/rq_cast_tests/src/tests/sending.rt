@@ -1,12 +1,11 @@
 //! What a sender writes.
-use crate::tests::stored_cells::{FIRST, OBJECT, SECOND, joined};
+use crate::tests::stored_cells::{FIRST, SEALED, SECOND, joined};
 use raptorq::ObjectTransmissionInformation;
 use raptorq::error::Error;
 use raptorq::systematic_constants::SystematicTable;
 use rq_cast::{Output, Pace, Repair, Sender};
 use rq_cells::Key;
 use rq_streams::{Counted, Stop};
-use sha2::{Digest, Sha512};
 use std::alloc::Global;
 use std::io;
 use std::io::{ErrorKind, Write};
@@ -60,14 +59,12 @@ impl Pace for Waits {
 pub(super) fn sender(alloc: Global, first: u32, step: u32) -> Result<Sender, Error> {
     let table = SystematicTable::built_in(alloc)?;
     let config = ObjectTransmissionInformation::new(35, 24, 1, 1, 1)?;
-    let seal = Sha512::digest(&[]);
-    let object = joined(alloc, &[&OBJECT, &seal[..32]])?;
     Sender::new(
         alloc,
         Key::none(),
         &table,
         config,
-        object.as_slice(),
+        &SEALED,
         Repair::Packets(0),
         first,
         step.max(1),

@@ -5,6 +5,12 @@ use std::alloc::Global;
 /// The stream.
 pub const OBJECT: [u8; 3] = [7, 8, 9];
 
+/// The object of its only part: these, and a seal.
+pub const SEALED: [u8; 35] = [
+    7, 8, 9, 207, 131, 225, 53, 126, 239, 184, 189, 241, 84, 40, 80, 214, 109, 128, 7, 214, 32,
+    228, 5, 11, 87, 21, 220, 131, 244, 169, 33, 211, 108, 233, 206,
+];
+
 /// The key of one of its cells.
 pub const KEY: [u8; 3] = *b"key";
 
