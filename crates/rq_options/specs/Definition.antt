@@ -32,7 +32,8 @@ subcommand_app name = on_top (λ s. record s { has_version = true }) (new_app na
 
 -- the options that all subcommands have
 abbrev pub with_common : App → App
-with_common a = with_rule (with_rule (with_rule a (with_letter 113 (flag_rule (codes "quiet")))) (flag_rule (codes "progress"))) (flag_rule (codes "json"))
+with_common a = with_rule (with_rule (with_rule (with_rule a (with_letter 107 (value_rule (codes "key")))) (with_letter 113 (flag_rule (codes "quiet"))))
+    (flag_rule (codes "progress"))) (flag_rule (codes "json"))
 
 -- the options that say which packets are sent
 abbrev pub with_repair : App → App

@@ -16,7 +16,7 @@ Examples:
 
 It ends with 0 where all is done, 1 after a fault of the system, 2 where too
 little came, 3 where what came is refused or forged, and 64 where the words
-are wrong.";
+are wrong or the key is empty.";
 
 // An option that takes a value.
 fn value<'a>(alloc: Global, id: &'a str, name: &'a str, help: &'a str) -> Arg<'a>
@@ -88,12 +88,19 @@ fn common<'a>(alloc: Global, command: Command<'a>) -> Result<Command<'a>, AllocE
     ensures app { IfOk result (λ c. app_of c ≡ with_common (app_of command.entry)) }
     ensures local { IfOk result (λ c. (out-Command c).has_globals ≡ (out-Command command.entry).has_globals) }
 {
+    let key = value(
+        alloc,
+        "key",
+        "FILE",
+        "Make and check cells by the key in FILE",
+    );
+    let one = added(command, key.short('k'))?;
     let quiet = flag(alloc, "quiet", "Say nothing but what went wrong");
-    let one = added(command, quiet.short('q'))?;
+    let two = added(one, quiet.short('q'))?;
     let progress = flag(alloc, "progress", "Show how far it is, also off a terminal");
-    let two = added(one, progress)?;
+    let three = added(two, progress)?;
     let json = flag(alloc, "json", "Say all counts as JSON, a line a second");
-    added(two, json)
+    added(three, json)
 }
 
 // The options that say which packets `send` sends.
