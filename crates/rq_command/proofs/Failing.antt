@@ -4,7 +4,7 @@ use Rattle.rq_streams.specs.declared.run.Stop.{Stop}
 use Rattle.rq_streams.specs.declared.run.Stop.TheVariants.{Fault, Refused}
 use Rattle.rq_streams.specs.Ends.{failed_calls}
 use Rattle.rq_cast.specs.declared.run.Ending.{Ending}
-use Rattle.rq_cast.specs.declared.run.Ending.TheVariants.{Written, Incomplete, AnotherObject}
+use Rattle.rq_cast.specs.declared.run.Ending.TheVariants.{Written, Incomplete}
 use Rattle.rq_command.specs.declared.ending.End.{End}
 use Rattle.rq_command.specs.Failed.{Fails}
 use Rattle.rq_command.specs.Placed.{Contents, IsFinished, IsPlaced, is_whole}
@@ -39,14 +39,12 @@ stopped_later r (Refused e) a b more is fails = subst (λ (e : Result End Stop).
 pub not_whole : (ended : Result Ending Stop) (n : ℕ) → is_whole ended ≡ false → n ≤ 1 → FailsReceiving ended (failed_calls ended + n)
 not_whole (Ok Written) n is few = absurd (cc is)
 not_whole (Ok (Incomplete missing)) n is few = omega (arith, few)
-not_whole (Ok AnotherObject) n is few = omega (arith, few)
 not_whole (Err Fault) n is few = omega arith
 not_whole (Err (Refused e)) n is few = omega (arith, few)
 
 pub whole : (ended : Result Ending Stop) → is_whole ended ≡ true → ended ≡ Ok Written
 whole (Ok Written) is = refl
 whole (Ok (Incomplete missing)) is = absurd (cc is)
-whole (Ok AnotherObject) is = absurd (cc is)
 whole (Err stop) is = absurd (cc is)
 
 -- one call at most fails
@@ -61,7 +59,6 @@ pub taken_away : {X D : Type 0} (file : Option X) (ended : Result Ending Stop) (
 taken_away None ended finished written old new is h = h
 taken_away (Some file) (Ok Written) finished written old new is h = absurd (cc is)
 taken_away (Some file) (Ok (Incomplete missing)) finished written old new is h = h
-taken_away (Some file) (Ok AnotherObject) finished written old new is h = h
 taken_away (Some file) (Err stop) finished written old new is h = h
 
 -- what is whole couldn't be put there

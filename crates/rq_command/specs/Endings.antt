@@ -8,7 +8,7 @@ use Rattle.rq_bytes.specs.declared.error.Error.TheVariants as refusal
 use Rattle.rq_streams.specs.declared.run.Stop.{Stop}
 use Rattle.rq_streams.specs.declared.run.Stop.TheVariants.{Fault, Refused}
 use Rattle.rq_cast.specs.declared.run.Ending.{Ending}
-use Rattle.rq_cast.specs.declared.run.Ending.TheVariants.{Written, Incomplete, AnotherObject}
+use Rattle.rq_cast.specs.declared.run.Ending.TheVariants.{Written, Incomplete}
 use Rattle.rq_cast.specs.declared.survey.Standing.{Standing}
 use Rattle.rq_command.specs.declared.ending.End.{End}
 use Rattle.rq_command.specs.declared.ending.End.TheVariants.{Unasked, AtTerminal, Sent, Received, Surveyed, Stopped}
@@ -23,7 +23,6 @@ word_status _ = 64
 abbrev pub ending_status : Ending → ℕ
 ending_status Written = 0
 ending_status (Incomplete missing) = 2
-ending_status AnotherObject = 3
 
 -- memory that is refused is a fault of the system
 abbrev pub refusal_status : Error → ℕ

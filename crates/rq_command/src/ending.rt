@@ -83,7 +83,6 @@ fn ending_status(ending: Ending) -> u8
     match ending {
         Ending::Written => 0,
         Ending::Incomplete { .. } => 2,
-        Ending::AnotherObject => 3,
     }
 }
 

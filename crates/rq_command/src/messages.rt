@@ -47,7 +47,7 @@ pub fn announce<W: Write>(sender: &Sender, json: bool, out: &mut W) -> io::Resul
     writeln!(out, "\nblocks {blocks} of {symbols}\ncells {cells}")
 }
 
-// Writes what its cells determine of a stream. Those that are refused contradict each other.
+// Writes what its cells determine of a stream, and whether it was begun anew, as some are forged.
 fn write_standing<W: Write>(standing: &Standing, out: &mut W) -> io::Result<()> {
     let bytes = length_of(&standing.head);
     write_name(&standing.head, out)?;
@@ -56,26 +56,33 @@ fn write_standing<W: Write>(standing: &Standing, out: &mut W) -> io::Result<()> 
         Ok(Ending::Incomplete { missing }) => {
             let missing = missing.unwrap_or(0);
             let packets = counted(missing);
-            writeln!(out, " {bytes} bytes, lacks {missing} {packets}")
+            let forged = if standing.seen.restarted > 0 {
+                ", some forged"
+            } else {
+                ""
+            };
+            writeln!(out, " {bytes} bytes, lacks {missing} {packets}{forged}")
         }
-        Ok(Ending::AnotherObject) | Err(_) => writeln!(out, " {bytes} bytes, forged"),
+        Err(_) => writeln!(out, " {bytes} bytes, not looked through"),
     }
 }
 
-// Writes the same as JSON. Of a stream that is forged it isn't said how many packets are missing.
+// Writes the same as JSON.
 fn write_standing_json<W: Write>(standing: &Standing, out: &mut W) -> io::Result<()> {
     let bytes = length_of(&standing.head);
     write!(out, "{{\"name\":\"")?;
     write_name(&standing.head, out)?;
     write!(out, "\",\"bytes\":{bytes}")?;
     match standing.ended {
-        Ok(Ending::Written) => writeln!(out, ",\"missing\":0}}"),
+        Ok(Ending::Written) => write!(out, ",\"missing\":0")?,
         Ok(Ending::Incomplete { missing }) => {
             let missing = missing.unwrap_or(0);
-            writeln!(out, ",\"missing\":{missing}}}")
+            write!(out, ",\"missing\":{missing}")?;
         }
-        Ok(Ending::AnotherObject) | Err(_) => writeln!(out, ",\"forged\":true}}"),
+        Err(_) => {}
     }
+    let restarted = standing.seen.restarted;
+    writeln!(out, ",\"restarted\":{restarted}}}")
 }
 
 /// Writes a line for each stream: its name, how many bytes it has, and whether it's whole; as words, or as
@@ -103,9 +110,6 @@ fn reason_of(refusal: Error) -> &'static str {
             "the input is too long for cells of this size: take a greater --cell"
         }
         Error::OutOfMemory => "there is too little memory: send the input in parts",
-        Error::Contradiction => {
-            "cells contradict each other, so some are forged: receive other ones"
-        }
         _ => "the input is refused",
     }
 }
@@ -126,10 +130,6 @@ fn write_ending<W: Write>(ending: Ending, out: &mut W) -> io::Result<()> {
         Ending::Incomplete { missing: None } => {
             writeln!(out, "rqcast: no cell came of what is wanted")
         }
-        Ending::AnotherObject => writeln!(
-            out,
-            "rqcast: the cells make another object than they say, so some are forged: receive other ones"
-        ),
     }
 }
 

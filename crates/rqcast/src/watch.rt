@@ -94,10 +94,12 @@ impl<'a, C: Clock, W: Write> Watch<'a, C, W> {
     // Writes what was seen as a line of JSON, and how many packets are missing where that is known.
     fn write_seen(&mut self, seen: &Seen, missing: Option<u64>) -> io::Result<()> {
         let (cells, damaged) = (("cells", seen.cells), ("damaged", seen.damaged));
-        let others = ("others", seen.others);
+        let (others, restarted) = (("others", seen.others), ("restarted", seen.restarted));
         match missing {
-            Some(missing) => self.write_json(&[cells, damaged, others, ("missing", missing)]),
-            None => self.write_json(&[cells, damaged, others]),
+            Some(missing) => {
+                self.write_json(&[cells, damaged, others, restarted, ("missing", missing)])
+            }
+            None => self.write_json(&[cells, damaged, others, restarted]),
         }
     }
 
@@ -171,8 +173,13 @@ impl<'a, C: Clock, W: Write> Watch<'a, C, W> {
             damaged => write!(self.out, ", {damaged} damaged")?,
         }
         match seen.others {
+            0 => {}
+            others => write!(self.out, ", {others} of other streams")?,
+        }
+        match seen.restarted {
             0 => writeln!(self.out, ""),
-            others => writeln!(self.out, ", {others} of other objects"),
+            1 => writeln!(self.out, ", begun anew once, as some were forged"),
+            times => writeln!(self.out, ", begun anew {times} times, as some were forged"),
         }
     }
 }

@@ -34,13 +34,7 @@ fn ends_are_said(rt: HostRuntime) {
             "no cell came",
             2,
         ),
-        (received(Ok(Ending::AnotherObject)), "another object", 3),
         (received(Err(Stop::Fault)), "", 1),
-        (
-            End::Stopped(Stop::Refused(Error::Contradiction)),
-            "contradict",
-            3,
-        ),
         (
             End::Stopped(Stop::Refused(Error::OutOfMemory)),
             "too little memory",
@@ -81,7 +75,7 @@ blocks 1 of 2
 cells 2
 {\"name\":\"895c2d0a5eb30d32\",\"blocks\":1,\"symbols\":2,\"cells\":2}
 895c2d0a5eb30d32 3 bytes, lacks 1 packet
-{\"name\":\"895c2d0a5eb30d32\",\"bytes\":3,\"missing\":1}
+{\"name\":\"895c2d0a5eb30d32\",\"bytes\":3,\"missing\":1,\"restarted\":0}
 ";
     assert_eq!(rt; out.as_slice(), text.as_bytes());
 }

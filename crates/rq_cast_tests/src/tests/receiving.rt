@@ -76,9 +76,10 @@ fn cells_among_other_bytes_are_received(rt: HostRuntime) {
     ];
     let bytes = joined(alloc, &parts).expect(&rt, "bytes");
     let seen = Seen {
-        cells: 2,
+        cells: 3,
         damaged: 1,
-        others: 3,
+        others: 2,
+        restarted: 0,
     };
     for most in [1, 7, 88, 65536] {
         let reader = Open {
@@ -100,19 +101,21 @@ fn other_runs_write_nothing(rt: HostRuntime) {
     damaged[60] ^= 1;
     let nothing = Ending::Incomplete { missing: None };
     let one = Ending::Incomplete { missing: Some(1) };
-    let cases: [(&[u8], &[u8], Ending, [u64; 3]); 5] = [
-        (b"", b"", nothing, [0, 0, 0]),
-        (b"", &FIRST, one, [1, 0, 0]),
-        (b"", &damaged, nothing, [0, 1, 0]),
-        (&[1], &FIRST, nothing, [0, 0, 1]),
-        (b"", misnamed.as_slice(), Ending::AnotherObject, [2, 0, 0]),
+    let two = Ending::Incomplete { missing: Some(2) };
+    let cases: [(&[u8], &[u8], Ending, [u64; 4]); 5] = [
+        (b"", b"", nothing, [0, 0, 0, 0]),
+        (b"", &FIRST, one, [1, 0, 0, 0]),
+        (b"", &damaged, nothing, [0, 1, 0, 0]),
+        (&[1], &FIRST, nothing, [0, 0, 1, 0]),
+        (b"", misnamed.as_slice(), two, [2, 0, 0, 1]),
     ];
-    for (name, bytes, ending, [cells, damaged, others]) in cases {
+    for (name, bytes, ending, [cells, damaged, others, restarted]) in cases {
         let (ended, told, out) = received(alloc, &table, name, bytes);
         let seen = Seen {
             cells,
             damaged,
             others,
+            restarted,
         };
         assert_eq!(rt; (ended, told), (Ok(ending), seen));
         assert!(rt; out.is_empty());
@@ -130,6 +133,7 @@ fn runs_that_are_stopped_say_what_they_saw(rt: HostRuntime) {
         cells: 1,
         damaged: 1,
         others: 1,
+        restarted: 0,
     };
     for most in [1, 9, 65536] {
         let reader = Open {
