@@ -3,6 +3,7 @@ pub mod Answering
 pub mod Ended
 pub mod Failing
 pub mod FirstPart
+pub mod KnownSymbols
 pub mod LeastEnough
 pub mod Listed
 pub mod Needed

@@ -1,3 +1,4 @@
+pub mod Digests
 pub mod Ids
 pub mod Input
 pub mod Loss

@@ -2,6 +2,7 @@
 //! of the cells among them out.
 #![tactic(auto)]
 
+mod digests;
 mod input;
 mod loss;
 mod missing;
