@@ -1,16 +1,15 @@
 -- Which digests of source symbols are known, and that they are those of the object's symbols.
-use Rattle.std.proofs.Common.{◌≡◌, ◌≢◌, ℕ, zero, suc, ◌+◌, ◌-◌, ◌*◌, ◌/◌, ◌^◌, ◌<◌, ◌≤◌, min, List, [], ◌++◌, length, take, drop, get_or, Bool, true, false, cond, eqb, ltb, Option, Some, None, refl, sym, ap, subst, ◌∙◌, arith, inl, inr, length-append}
+use Rattle.std.proofs.Common.{◌≡◌, ◌≢◌, ℕ, zero, suc, ◌+◌, ◌-◌, ◌*◌, ◌^◌, ◌<◌, ◌≤◌, max, List, [], ◌++◌, length, take, drop, get_or, Bool, true, false, cond, eqb, ltb, Option, Some, None, refl, sym, ap, subst, ◌∙◌, arith, inl, inr, length-append}
 use Rattle.std.specs.Prelude.{IfSome, IsSome, option_map, is_none, ◌&&◌}
-use Rattle.std.specs.Int.{div_ceil}
 use Rattle.std.proofs.Math.Nat.{mul-le-mul_right}
-use Rattle.std.proofs.lemmas.Bool.{cases_lt, cases_eq, lt-ltb, le-ltb, eq-eqb, ne_eqb, eqb-true}
+use Rattle.std.proofs.lemmas.Bool.{cases_lt, cases_eq, lt-ltb, eq-eqb, ne_eqb, eqb-true}
 use Rattle.std.proofs.lemmas.List.{ext_get_or, length-take, length-drop, get_or-take, get_or_append_left, get_or-append_right}
 use Rattle.std.proofs.lemmas.Option.{same_Some}
 use Rattle.rq_standard.specs.Configuration.{Configuration, IsAligned}
-use Rattle.rq_standard.specs.Cutting.{block_symbols, symbols_before, sub_block_parts, larger_bytes, sub_block_size, sub_block_start, place_in_block, symbol_of_block, block_bytes}
+use Rattle.rq_standard.specs.Cutting.{block_symbols, symbols_before, sub_block_count, sub_block_parts, larger_bytes, sub_block_size, sub_block_start, place_in_block, symbol_of_block}
 use Rattle.rq_standard.specs.Packet.{Packet}
 use Rattle.rq_standard.specs.Received.{or_later}
-use Rattle.rq_standard.specs.ReceivedBlock.{ReceivedBlock, IsBlockWith, IsBlockAnswer, with_received}
+use Rattle.rq_standard.specs.ReceivedBlock.{ReceivedBlock, IsBlockWith, with_received}
 use Rattle.rq_standard.specs.DecoderState.{State, append_both, first_blocks, result_of}
 use Rattle.rq_standard.specs.DecoderSteps.{Adds, AddsOpen, AddsToBlock, kept_of}
 use Rattle.rq_standard.proofs.BlockCuts.{symbols_before-first, symbols_before-next, symbols_before-grows, block_byte}
@@ -21,7 +20,6 @@ use Rattle.rq_standard.proofs.StandingSteps.{length-symbol_of_block}
 use Rattle.raptorq.specs.BlockBytes.{bytes_of_block}
 use Rattle.raptorq.proofs.AnsweredParts.{AreLong}
 use Rattle.raptorq.proofs.EncodedBlocks.{bytes_of_block-byte}
-use Rattle.rq_block.specs.declared.sub_blocks.BlockLayout.{BlockLayout}
 use Rattle.rq_cells.specs.Cells.{digest_of}
 use Rattle.rq_cast.specs.declared.digests.KnownDigests.{KnownDigests}
 use Rattle.rq_cast.specs.Digests.{known, is_noted, KnowsSymbol, KnowsAll, KnowsDigests, Notes, last_width, AreWhole, KnowsSymbols}
@@ -38,6 +36,11 @@ narrowest c t = by (ltb t (larger_bytes c))
     by : (b : Bool) → last_width c ≤ cond b ((sub_block_parts c).larger * c.alignment) ((sub_block_parts c).smaller * c.alignment)
     by true = mul-le-mul_right c.alignment few
     by false = omega arith
+
+pub sub_block_count-max : (n : ℕ) → max n 1 ≡ sub_block_count n
+unfolding sub_block_count
+sub_block_count-max zero = omega arith
+sub_block_count-max (suc n) = omega arith
 
 -- Behind a symbol stand the last bytes of those behind it: its own bytes stand before them.
 module _ (c : Configuration) (aligned : IsAligned c) (e d t : ℕ) (below : t < c.symbol_size) where
@@ -194,17 +197,13 @@ module _ (s : State) (long : AreLong s) where
 
   -- of an object that is answered its bytes have the symbols whose digests are known
   pub known_symbols : (object : List ℕ) → result_of s ≡ Some object → (k : KnownDigests) → KnowsDigests s k → (b : ℕ) → b < c.source_blocks
-      → (layout : BlockLayout) → layout.config ≡ c → layout.source_symbols ≡ block_symbols c b → (bytes : List ℕ) → bytes ≡ bytes_of_block c object b
-      → KnowsSymbols layout bytes b k
-  known_symbols object answered k knows b below layout configured counted bytes is e whole few lt are =
-      let whole_there : AreWhole c (block_symbols c b) (length (bytes_of_block c object b)) whole =
-          subst (λ xs. AreWhole c (block_symbols c b) (length xs) whole) is
-          (subst (λ n. AreWhole c n (length bytes) whole) counted (subst (λ x. AreWhole x layout.source_symbols (length bytes) whole) configured are)) in
-      let there = known_of object answered b e whole below whole_there lt k knows (subst (λ n. e < n) counted few)
-          (first_blocks c.source_blocks s.answer) refl in
-      let of_bytes = subst (λ xs. IfSome (known k b e) (λ d. d ≡ digest_of (symbol_of_block c (block_symbols c b) xs e))) (sym is) there in
-      let of_count = subst (λ n. IfSome (known k b e) (λ d. d ≡ digest_of (symbol_of_block c n bytes e))) (sym counted) of_bytes in
-      subst (λ x. IfSome (known k b e) (λ d. d ≡ digest_of (symbol_of_block x layout.source_symbols bytes e))) (sym configured) of_count
+      → (conf : Configuration) (count : ℕ) (bytes : List ℕ) → conf ≡ c → count ≡ block_symbols c b → bytes ≡ bytes_of_block c object b
+      → KnowsSymbols conf count bytes b k
+  known_symbols object answered k knows b below conf count bytes configured counted is =
+      subst (λ x. KnowsSymbols x count bytes b k) (sym configured)
+      (subst (λ n. KnowsSymbols c n bytes b k) (sym counted)
+      (subst (λ xs. KnowsSymbols c (block_symbols c b) xs b k) (sym is)
+      (λ e whole few lt are. known_of object answered b e whole below are lt k knows few (first_blocks c.source_blocks s.answer) refl)))
 
 -- ---- a packet more
 

@@ -7,7 +7,7 @@ ghost use Rattle.rq_standard.specs.DecoderState.{result_of};
 ghost use Rattle.raptorq.specs.Decoder.{state_of};
 ghost use Rattle.rq_cells.specs.Cells.{digest_of};
 ghost use Rattle.rq_cast.specs.Parts.{source_digests};
-ghost use Rattle.rq_cast.specs.Digests.{last_width, AreWhole, KnowsSymbols};
+ghost use Rattle.rq_cast.specs.Digests.{last_width, AreWhole, KnowsSymbols, KnowsDigests};
 
 use crate::parts::bytes_of_block;
 use raptorq::base::{ENCODING_SYMBOL_IDS, PayloadId};
@@ -28,7 +28,7 @@ pub(crate) struct KnownDigests {
 }
 
 impl KnownDigests {
-    ghost use Rattle.rq_cast.specs.Digests.{known, KnowsNone, KnowsDigests, NotesFirst, Notes};
+    ghost use Rattle.rq_cast.specs.Digests.{known, KnowsNone, NotesFirst, Notes};
 
     /// None of them.
     pub fn new(alloc: Global) -> KnownDigests
@@ -141,7 +141,7 @@ fn push_received(
 ) -> Result<(), AllocError>
     requires aligned { IsAligned layout.now.config }
     requires few { layout.now.source_symbols < 2 ^ 24 }
-    requires known { KnowsSymbols layout.now block.now number known.now }
+    requires known { KnowsSymbols layout.now.config layout.now.source_symbols block.now number known.now }
     ensures { OnOk result (digests.new.items ≡ digests.old.items
         ++ map (λ e. digest_of (symbol_of_block layout.now.config layout.now.source_symbols block.now e)) (range_with_len 0 layout.now.source_symbols)) }
 {
