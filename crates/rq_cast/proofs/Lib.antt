@@ -2,6 +2,7 @@ mod CountedCalls
 pub mod Answering
 pub mod Attempts
 pub mod AttemptSteps
+pub mod ChosenHeads
 pub mod Ended
 pub mod Failing
 pub mod KnownSymbols

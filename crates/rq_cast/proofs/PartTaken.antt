@@ -46,6 +46,31 @@ module _ (P : Head → Type 0) (table : List TableRow) (old : Choice) (h : Head)
   pub each_behind : (new : Choice) → EachHead (IsHeadBehind table old h) new → EachHead P new
   each_behind new = each_all (IsHeadBehind table old h) P one_behind new
 
+-- ---- heads that coders take, and the attempt
+
+module _ (table : List TableRow) (old : PartReceiver) where
+  -- a receiver with other heads
+  abbrev pub with_choice : Choice → PartReceiver
+  with_choice choice = record old { choice = choice }
+
+  pub sound_choice : (choice : Choice) → EachHead (IsTakenHead table) choice → choice.head ≡ old.choice.head → IsSound table old
+      → IsSound table (with_choice choice)
+  sound_choice choice heads same sound =
+      record { heads = heads; attempt = subst (λ (h : Head). IsAttempt h old.attempt) (sym same) sound.attempt }
+
+  pub sound_begun : (new : PartReceiver) → EachHead (IsTakenHead table) old.choice → BeginsAnew table old new → IsSound table new
+  sound_begun new heads anew = record {
+    heads = subst (EachHead (IsTakenHead table)) (sym anew.choice) heads;
+    attempt = subst (λ (c : Choice). IsAttempt c.head new.attempt) (sym anew.choice) anew.attempt;
+  }
+
+  pub sound_added : (p : Packet) (new : PartReceiver) → IsSound table old → AddsPacket table old p new → IsSound table new
+  sound_added p new sound (inl on) = record {
+    heads = subst (EachHead (IsTakenHead table)) (sym on.choice) sound.heads;
+    attempt = subst (λ (c : Choice). IsAttempt c.head new.attempt) (sym on.choice) on.attempt.is;
+  }
+  sound_added p new sound (inr (foreign, anew)) = sound_begun new sound.heads anew
+
 -- ---- which heads came
 
 abbrev head_of : Cell → Head
@@ -129,37 +154,66 @@ module _ (table : List TableRow) (first : Head) (came : List Cell) (cell : Cell)
   added (inl on) = goes_on on
   added (inr (foreign, anew)) = given_up foreign anew
 
--- ---- a cell with another head
+-- ---- the next cell
 
--- a receiver with other heads
-abbrev pub with_choice : PartReceiver → Choice → PartReceiver
-with_choice p c = record p { choice = c }
+module _ (table : List TableRow) (first : Head) (came : List Cell) (cell : Cell) (old : PartReceiver) (has : HasTaken table first came old) where
+  abbrev among : Head → Type 0
+  among = Contains (heads_of first (with_cell first came cell))
 
-module _ (table : List TableRow) (first : Head) (came : List Cell) (cell : Cell) (old : PartReceiver) (has : HasTaken table first came old)
-    (other : has_head old.choice.head cell ≡ false) where
-  -- of one sender there is none
-  pub no_other : IsOneSender table first (with_cell first came cell) → ⊥
-  no_other one =
-      let was = has.one_sender (one_sender_first first table came (cell ∷ []) one) in
-      let same : cell.head ≡ old.choice.head = last_head first table came cell one ∙ sym was.0 in
-      true≢false (sym (subst (λ (k : Head). has_head k cell ≡ true) same (own_head cell)) ∙ other)
+  still : EachHead among old.choice
+  still = each_all (Contains (heads_of first came)) among (still_among first came cell) old.choice has.heads
 
-  -- it is counted
-  module _ (choice : Choice) (same : choice.head ≡ old.choice.head) (heads : EachHead (Contains (heads_of first (with_cell first came cell))) choice)
-      (sound : IsSound table (with_choice old choice)) where
+  -- it has the head in use
+  pub taken_own : has_head old.choice.head cell ≡ true → (choice : Choice) → choice.head ≡ old.choice.head → choice.rival ≡ old.choice.rival
+      → (new : PartReceiver) → AddsPacket table (with_choice table old choice) cell.packet new → HasTaken table first (with_cell first came cell) new
+  taken_own own choice head rival new adds =
+      let sound = sound_choice table old choice (each_same (IsTakenHead table) old.choice choice head rival has.sound.heads) head has.sound in
+      added table first came cell (with_choice table old choice) new (subst (λ (h : Head). has_head h cell ≡ true) (sym head) own)
+      (sound_added table (with_choice table old choice) cell.packet new sound adds) (each_same among old.choice choice head rival still)
+      has.begun has.within (subst (λ (h : Head). FollowsRun table (received_packets h (drop has.begun came)) (state_of old.attempt.decoder)) (sym head) has.follows)
+      (λ one. let was = has.one_sender (one_sender_first first table came (cell ∷ []) one) in (head ∙ was.0, was.1, was.2)) adds
+
+  -- it has another one
+  module _ (other : has_head old.choice.head cell ≡ false) where
+    -- of one sender there is none
+    no_other : IsOneSender table first (with_cell first came cell) → ⊥
+    no_other one =
+        let was = has.one_sender (one_sender_first first table came (cell ∷ []) one) in
+        let same : cell.head ≡ old.choice.head = last_head first table came cell one ∙ sym was.0 in
+        true≢false (sym (subst (λ (k : Head). has_head k cell ≡ true) same (own_head cell)) ∙ other)
+
     nothing_more : received_packets old.choice.head (drop has.begun (with_cell first came cell)) ≡ received_packets old.choice.head (drop has.begun came)
     nothing_more =
         received_since old.choice.head has.begun came (cell ∷ []) has.within
         ∙ ap (λ ps. received_packets old.choice.head (drop has.begun came) ++ ps) (received_other old.choice.head cell other)
         ∙ append-nil (received_packets old.choice.head (drop has.begun came))
 
-    pub passed : HasTaken table first (with_cell first came cell) (with_choice old choice)
-    passed = record {
-      sound = sound;
-      heads = heads;
-      begun = has.begun;
-      within = omega (arith, has.within, longer first came cell);
-      follows = subst (λ (k : Head). FollowsRun table (received_packets k (drop has.begun (with_cell first came cell))) (state_of old.attempt.decoder)) (sym same)
-          (subst (λ ps. FollowsRun table ps (state_of old.attempt.decoder)) (sym nothing_more) has.follows);
-      one_sender = λ one. absurd (no_other one);
-    }
+    module _ (choice : Choice) (heads : EachHead (IsHeadBehind table old.choice cell.head) choice) where
+      heads_taken : EachHead (IsTakenHead table) choice
+      heads_taken = each_behind (IsTakenHead table) table old.choice cell.head has.sound.heads (λ taken. taken) choice heads
+
+      heads_among : EachHead among choice
+      heads_among = each_behind among table old.choice cell.head still (λ taken. cell_among first came cell) choice heads
+
+      -- which is counted
+      pub taken_passed : choice.head ≡ old.choice.head → HasTaken table first (with_cell first came cell) (with_choice table old choice)
+      taken_passed same = record {
+        sound = sound_choice table old choice heads_taken same has.sound;
+        heads = heads_among;
+        begun = has.begun;
+        within = omega (arith, has.within, longer first came cell);
+        follows = subst (λ (k : Head). FollowsRun table (received_packets k (drop has.begun (with_cell first came cell))) (state_of old.attempt.decoder)) (sym same)
+            (subst (λ ps. FollowsRun table ps (state_of old.attempt.decoder)) (sym nothing_more) has.follows);
+        one_sender = λ one. absurd (no_other one);
+      }
+
+      -- or is in use now
+      pub taken_anew : choice.head ≡ cell.head → (mid : PartReceiver) → BeginsAnew table (with_choice table old choice) mid
+          → (new : PartReceiver) → AddsPacket table mid cell.packet new → HasTaken table first (with_cell first came cell) new
+      taken_anew same mid anew new adds =
+          let head : mid.choice.head ≡ cell.head = ap (λ (c : Choice). c.head) anew.choice ∙ same in
+          added table first came cell mid new (subst (λ (h : Head). has_head h cell ≡ true) (sym head) (own_head cell))
+          (sound_added table mid cell.packet new (sound_begun table (with_choice table old choice) mid heads_taken anew) adds)
+          (subst (EachHead among) (sym anew.choice) heads_among) (length came) (omega arith)
+          (subst (λ ps. FollowsRun table ps (state_of mid.attempt.decoder)) (sym (received_since_all mid.choice.head came)) anew.follows)
+          (λ one. absurd (no_other one)) adds

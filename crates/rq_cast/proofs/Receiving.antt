@@ -15,7 +15,7 @@ use Rattle.rq_cast.specs.declared.reading.Found.{Found}
 use Rattle.rq_cast.specs.declared.receiver.Receiver.{Receiver}
 use Rattle.rq_cast.specs.declared.receiver.Seen.{Seen}
 use Rattle.rq_cast.specs.Reading.{chunk_length, ReadsOnce}
-use Rattle.rq_cast.specs.PartReceiving.{TakesCells}
+use Rattle.rq_cast.specs.PartReceiving.{HasTaken, TakesCells}
 use Rattle.rq_cast.specs.Receiving.{counted, HasSeen, HasRead, HoldNone, HasReadAll, ReadsAll, IsLast, EndsDetermined, EndsUndetermined, SeesBehind}
 
 -- the cells that a scan found
@@ -32,6 +32,28 @@ pub record SeesScan (old : Seen) (scan : Scan) (restarted : ℕ) (new : Seen) : 
 module _ (table : List TableRow) (key : Key) (found : Found) where
   abbrev s : Source
   s = source_of key found.head
+
+  -- ---- before any cell is taken
+
+  pub read_none : (r : Receiver) → r.scanner ≡ s → r.bytes.items ≡ found.bytes.items → HasTaken table found.head [] r.part
+      → r.seen ≡ record found.seen { restarted = 0 } → found.seen.cells < 2 ^ 64 → found.seen.damaged < 2 ^ 64 → found.seen.others < 2 ^ 64
+      → HasRead table key found found.bytes.items r
+  read_none r scanner bytes taken seen few_cells few_damaged few_others = record {
+    came = [];
+    seen = record {
+      scans = scanner;
+      cells_found = λ rest. ap (λ xs. cells_in s (xs ++ rest)) (sym bytes);
+      cells = let same = ap (λ (x : Seen). x.cells) seen in omega (arith, same, few_cells);
+      damaged_before = 0;
+      damaged_found = λ rest. let same = ap (λ xs. damaged_in s (xs ++ rest)) bytes in omega (arith, same);
+      damaged = let same = ap (λ (x : Seen). x.damaged) seen in omega (arith, same, few_damaged);
+      others_before = 0;
+      others_found = λ rest. let same = ap (λ xs. others_in s (xs ++ rest)) bytes in omega (arith, same);
+      others = let same = ap (λ (x : Seen). x.others) seen in omega (arith, same, few_others);
+      one_sender = λ one. ap (λ (x : Seen). x.restarted) seen;
+    };
+    taken = taken;
+  }
 
   -- ---- the cells that are whole are taken
 

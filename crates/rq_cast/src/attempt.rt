@@ -7,7 +7,6 @@ ghost use Rattle.rq_standard.specs.DecoderState.{result_of};
 ghost use Rattle.rq_base.specs.RefusedInput.{checked_configuration};
 ghost use Rattle.raptorq.specs.Decoder.{state_of};
 ghost use Rattle.rq_cells.specs.Cells.{digest_of};
-ghost use Rattle.rq_cast.specs.PartReceiving.{IsAttempt, IsUnlooked, LooksAt, TakesOrFails};
 
 use crate::digests::KnownDigests;
 use crate::stream::stream_of;
@@ -28,6 +27,8 @@ pub(crate) struct Attempt {
 }
 
 impl Attempt {
+    ghost use Rattle.rq_cast.specs.PartReceiving.{IsAttempt, IsUnlooked, LooksAt, TakesOrFails};
+
     /// An attempt at the part with a head, before any packet. Refuses what
     /// [`Decoder::new`](raptorq::Decoder::new) refuses.
     pub fn new(alloc: Global, table: &SystematicTable, head: &Head) -> Result<Attempt, Error>

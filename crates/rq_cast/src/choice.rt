@@ -1,6 +1,5 @@
 //! Whose cells are received.
-ghost use Rattle.std.specs.Prelude.{◌≡◌, ◌⊎◌, ◌<◌, ⊥, None, MatchOption, IfSome, true, false};
-ghost use Rattle.rq_cast.specs.PartReceiving.{EachHead, IsHeadBehind};
+ghost use Rattle.std.specs.Prelude.{◌≡◌, ◌⊎◌, ◌<◌, None, MatchOption, IfSome, true, false};
 
 use raptorq::systematic_constants::SystematicTable;
 use rq_cells::Head;
@@ -48,6 +47,8 @@ fn next_rival(rival: Option<Rival>, head: &Head) -> Option<Rival>
 }
 
 impl Choice {
+    ghost use Rattle.rq_cast.specs.PartReceiving.{EachHead, IsHeadBehind};
+
     /// The first head, before any cell.
     pub fn new(head: Head) -> Choice
         ensures head { result.head ≡ head }

@@ -5,7 +5,6 @@ ghost use Rattle.rq_standard.specs.TableRows.{greatest_size};
 ghost use Rattle.rq_base.specs.RefusedInput.{checked_configuration};
 ghost use Rattle.rq_cells.specs.Cells.{digest_of};
 ghost use Rattle.rq_cells.specs.Scans.{HasDigest};
-ghost use Rattle.rq_cast.specs.PartReceiving.{IsTakenHead, IsSound, BeginsAnew, AddsPacket, HasTaken, TakesCells};
 
 use crate::attempt::Attempt;
 use crate::choice::Choice;
@@ -27,6 +26,8 @@ pub(crate) struct PartReceiver {
 }
 
 impl PartReceiver {
+    ghost use Rattle.rq_cast.specs.PartReceiving.{IsTakenHead, IsSound, BeginsAnew, AddsPacket, HasTaken, TakesCells};
+
     /// A receiver of the part with a head, before any cell. Refuses what
     /// [`Decoder::new`](raptorq::Decoder::new) refuses.
     pub fn new(alloc: Global, table: &SystematicTable, head: Head) -> Result<PartReceiver, Error>

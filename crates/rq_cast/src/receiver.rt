@@ -3,7 +3,6 @@ ghost use Rattle.std.specs.Prelude.{◌≡◌, OnOk, OnErr, IfOk, IfErr};
 ghost use Rattle.rq_bytes.specs.Refusals.{IsRefusal};
 ghost use Rattle.rq_standard.specs.TableRows.{greatest_size};
 ghost use Rattle.rq_base.specs.RefusedInput.{checked_configuration};
-ghost use Rattle.rq_cast.specs.PartReceiving.{IsSound};
 
 use crate::part_receiver::PartReceiver;
 use crate::reading::{Found, remove_front};
@@ -54,6 +53,7 @@ pub(crate) struct Receiver {
 }
 
 impl Receiver {
+    ghost use Rattle.rq_cast.specs.PartReceiving.{IsSound};
     ghost use Rattle.rq_cast.specs.Receiving.{SeesAll, SeesNothingMore, HasRead, HasReadAll, ReadsAll};
 
     // A receiver of the stream that was found, which has taken nothing yet.
