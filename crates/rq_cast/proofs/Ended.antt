@@ -214,9 +214,11 @@ module _ (table : List TableRow) (key : Key) (name : List ℕ) (before mid : Opt
         wasnt = inr (received e.earlier, none_determined e.earlier was.mid was.taken was.undetermined);
       }
 
-      module _ (v : Vec ℕ Global) (some : now.part.attempt.stream ≡ Some v) where
-        pub determined : Determines table w before after n' now.part.choice.head (object more now e.taken v some) seen
-        determined = record {
+      pub determined : (v : Vec ℕ Global) → now.part.attempt.stream ≡ Some v
+          → (object : List ℕ) × Determines table w before after n' now.part.choice.head object seen × IsStream now.part.choice.head object v.items
+      determined v some = (
+        object more now e.taken v some,
+        record {
           past = front ++ more;
           first = found.head;
           read = all_read more e.read;
@@ -224,10 +226,9 @@ module _ (table : List TableRow) (key : Key) (name : List ℕ) (before mid : Opt
           answers = answers_object more now e.taken v some;
           not_earlier = not_earlier e.not_earlier;
           seen = seen_all more now e.taken.read.came e.taken.read.seen e.taken.none seen sees;
-        }
-
-        pub is_stream : IsStream now.part.choice.head (object more now e.taken v some) v.items
-        is_stream = (stream_is more now e.taken v some).2
+        },
+        (stream_is more now e.taken v some).2,
+      )
 
     -- what was seen before the last read
     pub seen_so_far : SeesBehind table key found found.bytes.items now mid after n' → SeesSoFar table w before after n' seen

@@ -77,7 +77,10 @@ impl Attempt {
         ensures looks { IfOk result (LooksAt head.now self.old self.new) }
         ensures memory { IfErr result (λ e. e ≡ Error.OutOfMemory) }
     {
-        if self.stream.is_some() || !self.decoder.is_complete() {
+        if self.stream.is_some() {
+            return Ok(true);
+        }
+        if !self.decoder.is_complete() {
             return Ok(true);
         }
         self.stream = stream_of(alloc, head, &self.decoder, &self.known)?;

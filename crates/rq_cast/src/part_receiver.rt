@@ -91,7 +91,10 @@ impl PartReceiver {
             self.choice.count();
             return self.add(alloc, table, packet, digest);
         }
-        if self.attempt.stream.is_some() || !self.choice.count_other(table, &head) {
+        if self.attempt.stream.is_some() {
+            return Ok(());
+        }
+        if !self.choice.count_other(table, &head) {
             return Ok(());
         }
         self.begin_anew(alloc, table)?;
