@@ -1,5 +1,5 @@
 -- What a part's receiver has taken, cell by cell.
-use Rattle.std.proofs.Common.{◌≡◌, ℕ, ◌≤◌, List, [], ◌∷◌, ◌++◌, Bool, true, false, Option, Some, None, refl, sym, ap, subst, ◌∙◌, arith, length, drop, map, inl, inr, append-nil, append_assoc, length-append}
+use Rattle.std.proofs.Common.{◌≡◌, ℕ, ◌+◌, ◌≤◌, List, [], ◌∷◌, ◌++◌, Bool, true, false, Option, Some, None, refl, sym, ap, subst, ◌∙◌, arith, length, drop, map, inl, inr, append-nil, append_assoc, length-append}
 use Rattle.std.specs.Prelude.{◌⊎◌, IfSome, MatchOption, Contains}
 use Rattle.std.proofs.lemmas.Bool.{true≢false}
 use Rattle.std.proofs.lemmas.List.{map-append}
@@ -95,6 +95,22 @@ module _ (first : Head) (came : List Cell) (cell : Cell) where
 
   longer : length with_cell ≡ length came + 1
   longer = length-append came (cell ∷ [])
+
+-- ---- before any cell
+
+pub taken_none : (table : List TableRow) (first : Head) (p : PartReceiver) → IsSound table p → p.choice.head ≡ first → p.choice.rival ≡ None
+    → FollowsRun table [] (state_of p.attempt.decoder) → p.restarted ≡ 0 → HasTaken table first [] p
+taken_none table first p sound head alone follows restarted = record {
+  sound = sound;
+  heads = (
+    (0, omega arith, sym head),
+    subst (λ (o : Option Rival). IfSome o (λ r. Contains (first ∷ []) r.head)) (sym alone) tt,
+  );
+  begun = 0;
+  within = omega arith;
+  follows = follows;
+  one_sender = λ one. (head, refl, restarted);
+}
 
 -- ---- a cell with the head in use
 

@@ -27,11 +27,12 @@ pub(crate) struct Attempt {
 }
 
 impl Attempt {
-    ghost use Rattle.rq_cast.specs.PartReceiving.{IsAttempt, IsUnlooked, LooksAt, TakesOrFails};
+    ghost use Rattle.rq_cast.specs.PartReceiving.{IsTakenHead, IsAttempt, IsUnlooked, LooksAt, TakesOrFails};
 
     /// An attempt at the part with a head, before any packet. Refuses what
     /// [`Decoder::new`](raptorq::Decoder::new) refuses.
     pub fn new(alloc: Global, table: &SystematicTable, head: &Head) -> Result<Attempt, Error>
+        ensures taken { OnOk result (IsTakenHead table.now head.now) }
         ensures attempt { IfOk result (IsAttempt head.now) }
         ensures follows { IfOk result (λ a. FollowsRun table.now [] (state_of a.decoder)) }
         ensures refused { IfErr result (λ e. IsRefusal e (checked_configuration (greatest_size table.now) head.now.configuration)) }
