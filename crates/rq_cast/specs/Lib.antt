@@ -4,6 +4,7 @@ pub mod Input
 pub mod Loss
 pub mod Missing
 pub mod Output
+pub mod PartReceiving
 pub mod Parts
 pub mod Preparing
 pub mod Reading

@@ -2,12 +2,15 @@
 //! of the cells among them out.
 #![tactic(auto)]
 
+mod attempt;
+mod choice;
 mod digests;
 mod input;
 mod loss;
 mod missing;
 mod order;
 mod output;
+mod part_receiver;
 mod parts;
 mod preparing;
 mod progress;

@@ -18,7 +18,7 @@ fn streams_are_listed(rt: HostRuntime) {
         ),
         (
             &[&FIRST_MISNAMED, &SECOND_MISNAMED],
-            &[(0, Ending::AnotherObject)],
+            &[(0, Ending::Incomplete { missing: Some(2) })],
         ),
     ];
     for (parts, wanted) in rows {
