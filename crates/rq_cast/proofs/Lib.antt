@@ -1,17 +1,23 @@
 mod CountedCalls
 pub mod Answering
+pub mod Attempts
+pub mod AttemptSteps
+pub mod ChosenHeads
 pub mod Ended
 pub mod Failing
-pub mod FirstPart
+pub mod KnownSymbols
 pub mod LeastEnough
 pub mod Listed
 pub mod Needed
+pub mod PartTaken
 pub mod Prepared
 pub mod Receiving
 pub mod Sealed
+pub mod SentReceived
 pub mod Searched
 pub mod SameHead
 pub mod SentCells
 pub mod SentDigests
+pub mod Shaped
 pub mod SymbolDigests
 pub mod TakenPackets

@@ -8,10 +8,13 @@ use Rattle.std.proofs.lemmas.List.Folds.{Any-from_list_any}
 use Rattle.rq_cells.specs.declared.head.Head.{Head}
 use Rattle.rq_cells.specs.declared.cell.Cell.{Cell}
 use Rattle.rq_cells.proofs.Beginnings.{same_from_test}
-use Rattle.rq_cast.specs.Parts.{has_head}
+use Rattle.rq_cast.specs.Taken.{has_head}
 
 pub same_head : (h : Head) (cell : Cell) → has_head h cell ≡ true → cell.head ≡ h
 same_head h cell is = search rules
+
+pub own_head : (cell : Cell) → has_head cell.head cell ≡ true
+own_head cell = search rules
 
 -- one of some heads is that of a stream
 pub Contains-stream : (heads : List Head) (s : List ℕ) → list_any (λ h. pointwise nat_eq h.stream s) heads ≡ true → Contains (map (λ h. h.stream) heads) s

@@ -22,6 +22,7 @@ sees_more w bytes from n old new heads before are sees =
     let others = count_further (is_unwanted w) bytes from n in
     record {
       no_cells = sees.cells ∙ before.no_cells;
+      no_restarts = sees.restarted ∙ before.no_restarts;
       damaged = omega (arith, sees.damaged, before.damaged, are.damaged, damaged);
       others = omega (arith, sees.others, before.others, are.others, others);
     }

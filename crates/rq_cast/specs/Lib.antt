@@ -1,8 +1,11 @@
+pub mod Digests
 pub mod Ids
 pub mod Input
+pub mod Laws
 pub mod Loss
 pub mod Missing
 pub mod Output
+pub mod PartReceiving
 pub mod Parts
 pub mod Preparing
 pub mod Reading

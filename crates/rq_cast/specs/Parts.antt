@@ -1,15 +1,11 @@
--- Parts of a stream: their names, what ends the last one, and whose packets are taken.
-use Rattle.std.specs.Prelude.{◌≡◌, ℕ, ◌+◌, ◌^◌, List, [], ◌++◌, take, map, filter, count_by, Option, Some, None, Bool, not}
+-- Parts of a stream: their names, and what ends the last one.
+use Rattle.std.specs.Prelude.{◌≡◌, ℕ, ◌^◌, List, [], ◌++◌, take, map, Option, Some, None}
 use Rattle.std.specs.List.{concat, flat_map, range_with_len}
 use Rattle.sha2.specs.Sha512.{sha512}
 use Rattle.rq_standard.specs.Configuration.{Configuration}
 use Rattle.rq_standard.specs.Headline.{block_source}
-use Rattle.rq_standard.specs.Packet.{Packet}
 use Rattle.rq_cells.specs.declared.head.Head.{Head}
-use Rattle.rq_cells.specs.declared.cell.Cell.{Cell}
-use Rattle.rq_cells.specs.contracts.head.HeadPartialEq.TheImpl.{ghosts}
-use Rattle.rq_cells.specs.Cells.{Key, digest_of, part_name}
-use Rattle.rq_cells.specs.Found as F
+use Rattle.rq_cells.specs.Cells.{digest_of, part_name}
 
 -- ---- names
 
@@ -47,53 +43,11 @@ pub record IsStream (h : Head) (object bytes : List ℕ) : Type 0 where
   pub named : name_of_part h.number h.configuration object ≡ h.name
   pub ended : object ≡ sealed bytes
 
--- the bytes of a stream, where an object is its only part
-abbrev pub AreBytesOf : Head → List ℕ → Option (List ℕ) → Type 0
-AreBytesOf h object (Some bytes) = IsStream h object bytes
-AreBytesOf h object None = (bytes : List ℕ) → IsStream h object bytes → ⊥
+-- an answer isn't a stream, as a head says
+abbrev pub IsNoStream : Head → Option (List ℕ) → Type 0
+IsNoStream h answer = (object bytes : List ℕ) → answer ≡ Some object → IsStream h object bytes → ⊥
 
--- ---- whose packets are taken
-
--- a part, by the key of its cells and their head
-pub record Part : Type 0 where
-  pub key : Key
-  pub head : Head
-
-abbrev pub source_of_part : Part → F.Source
-source_of_part p = F.source_of p.key p.head
-
--- a cell has this head
-abbrev pub has_head : Head → Cell → Bool
-has_head h cell = ghosts.eq cell.head h
-
--- a cell of it
-abbrev pub is_of_part : Part → Cell → Bool
-is_of_part p cell = has_head p.head cell
-
--- the packets of those among some cells
-abbrev pub packets_of_part : Part → List Cell → List Packet
-packets_of_part p cells = map (λ cell. cell.packet) (filter (is_of_part p) cells)
-
--- and how many are other ones
-abbrev pub count_of_others : Part → List Cell → ℕ
-count_of_others p cells = count_by (λ cell. not (is_of_part p cell)) cells
-
--- the packets of its cells at all places of bytes
-abbrev pub packets_in : Part → List ℕ → List Packet
-packets_in p bytes = packets_of_part p (F.cells_in (source_of_part p) bytes)
-
--- how many cells of its stream are damaged behind their head
-abbrev pub damaged_in : Part → List ℕ → ℕ
-damaged_in p bytes = F.damaged_in (source_of_part p) bytes
-
--- how many heads are other streams'
-abbrev pub other_heads_in : Part → List ℕ → ℕ
-other_heads_in p bytes = F.others_in (source_of_part p) bytes
-
--- and how many cells of its stream have another head
-abbrev pub other_cells_in : Part → List ℕ → ℕ
-other_cells_in p bytes = count_of_others p (F.cells_in (source_of_part p) bytes)
-
--- both together
-abbrev pub others_in : Part → List ℕ → ℕ
-others_in p bytes = other_heads_in p bytes + other_cells_in p bytes
+-- the bytes of the stream that an answer is, where it is one
+abbrev pub IsStreamIn : Head → Option (List ℕ) → Option (List ℕ) → Type 0
+IsStreamIn h answer (Some bytes) = (object : List ℕ) × (answer ≡ Some object) × IsStream h object bytes
+IsStreamIn h answer None = IsNoStream h answer

@@ -11,6 +11,7 @@ use Rattle.rq_cast.specs.Receiving.{counted}
 -- What was seen at the first n places, as long as no wanted cell is whole: wanted heads whose cell isn't, and heads that aren't wanted.
 pub record SeesBefore (w : Wish) (bytes : List ℕ) (n : ℕ) (seen : Seen) : Type 0 where
   pub no_cells : seen.cells ≡ 0
+  pub no_restarts : seen.restarted ≡ 0
   pub damaged : seen.damaged ≡ counted (damaged_before w bytes n)
   pub others : seen.others ≡ counted (unwanted_before w bytes n)
 

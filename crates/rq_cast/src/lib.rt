@@ -2,11 +2,16 @@
 //! of the cells among them out.
 #![tactic(auto)]
 
+mod attempt;
+mod choice;
+mod digests;
 mod input;
+pub mod laws;
 mod loss;
 mod missing;
 mod order;
 mod output;
+mod part_receiver;
 mod parts;
 mod preparing;
 mod progress;

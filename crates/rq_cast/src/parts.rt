@@ -84,7 +84,7 @@ pub(crate) fn source_digests(
 }
 
 // The bytes of an object in a block, which may end before the block's last symbol does.
-fn bytes_of_block<'a>(
+pub(crate) fn bytes_of_block<'a>(
     config: &ObjectTransmissionInformation,
     object: &'a [u8],
     number: u8,

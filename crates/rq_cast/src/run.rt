@@ -10,7 +10,6 @@ use crate::missing::missing_packets;
 use crate::progress::Progress;
 use crate::reading::find;
 use crate::receiver::{Receiver, Seen};
-use crate::stream::stream_of;
 use crate::taking::receive;
 use rq_cells::Wanted;
 use rq_streams::{Counted, Stop, finish};
@@ -22,28 +21,28 @@ use std::io::{Read, Write};
 pub enum Ending {
     /// The stream is written.
     Written,
-    /// What was read doesn't determine the stream's part, and nothing is written.
+    /// What was read doesn't determine the stream, and nothing is written.
     Incomplete {
         /// How many packets more the part needs at least, of ids that weren't received yet: what
-        /// [`missing_packets`] answers. `None` where no wanted cell came.
+        /// [`missing_packets`] answers of those that count. `None` where no wanted cell came.
         missing: Option<u64>,
     },
-    /// What was read determines an object that isn't the stream's only part: its name isn't that of its
-    /// cells, its number isn't that of an only part, or the seal isn't right. Nothing is written.
-    AnotherObject,
 }
 
 /// Reads any bytes and writes the stream of the cells that stand among them. `seen` becomes what was seen:
 /// in all that was read, or, where the run is stopped, in all but the bytes of the last read at most.
 ///
-/// The first wanted cell says what is received. All cells with its head are taken, at whatever place they
-/// stand. The run ends at the first read with which they determine its object, with the input still open.
-/// What the object holds before its seal is written where it is the only part of the stream: its name is that
-/// of its cells, and its seal is right. While it reads, `progress` is told how far it has come.
+/// The first wanted cell says which stream is received. All its cells are taken, at whatever place they
+/// stand. The run ends at the first read with which those of one head determine an object that is the
+/// stream's only part: its name is that of the head, and its seal is right. Then what the object holds
+/// before its seal is written, with the input still open.
 ///
-/// Refuses [`Error::Contradiction`](raptorq::error::Error) where
-/// [`Decoder::add_new_packet`](raptorq::Decoder::add_new_packet) refuses the packet of a cell so, and then
-/// nothing is written. `Error::OutOfMemory` may come at any read.
+/// Where cells of a head contradict each other, or determine another object, the part is begun anew with
+/// what comes, and so it is with another head of the stream where more cells have that: so forged cells
+/// delay the run, and don't end it. `seen` counts how often. It is never where one sender made all cells
+/// of the stream, and then all of them count. While it reads, `progress` is told how far it has come.
+///
+/// Refuses [`Error::OutOfMemory`](raptorq::error::Error) alone, which may come at any read.
 pub fn run_receive<R: Read, W: Write, P: Progress>(
     alloc: Global,
     wanted: &Wanted<'_>,
@@ -59,7 +58,8 @@ pub fn run_receive<R: Read, W: Write, P: Progress>(
     ensures failures { EndsAtFailure (counted_of input.old) writer.old result (counted_of input.new) writer.new
         (W.contents (inner writer.old)) (W.contents (inner writer.new)) }
 
-    // The object exactly where the cells determine it, and not before the last read that was made.
+    // The stream where the cells determine it, exactly where they do if one sender made them, and not before
+    // the last read that was made.
     ensures ends { EndsReceiving wanted.now.table.now wanted.now.key.now wanted.now.name.now result seen.new
         (R.remaining (source input.old)) (R.remaining (source input.new)) (last_length input.new)
         (W.contents (inner writer.old)) (W.contents (inner writer.new)) }
@@ -67,15 +67,11 @@ pub fn run_receive<R: Read, W: Write, P: Progress>(
     let Some(found) = find(alloc, wanted, input, seen, progress)? else {
         return Ok(Ending::Incomplete { missing: None });
     };
-    let head = found.head;
     let mut receiver = Receiver::new(alloc, wanted.table, wanted.key, found)?;
-    let complete = receive(alloc, input, &mut receiver, seen, progress)?;
-    if !complete {
-        let missing = Some(missing_packets(&receiver.decoder));
+    receive(alloc, wanted.table, input, &mut receiver, seen, progress)?;
+    let Some(bytes) = receiver.part.attempt.stream.take() else {
+        let missing = Some(missing_packets(&receiver.part.attempt.decoder));
         return Ok(Ending::Incomplete { missing });
-    }
-    let Some(bytes) = stream_of(alloc, &head, &receiver.decoder)? else {
-        return Ok(Ending::AnotherObject);
     };
     finish(writer, bytes)?;
     Ok(Ending::Written)

@@ -2,9 +2,11 @@
 use crate::tests::stored_cells::{
     FIRST, FIRST_MISNAMED, OBJECT, OF_NO_BLOCK, SECOND, SECOND_MISNAMED, joined,
 };
+use raptorq::EncodingPacket;
+use raptorq::error::Error;
 use raptorq::systematic_constants::SystematicTable;
 use rq_cast::{Ending, Input, Seen, Silent, run_receive};
-use rq_cells::{Key, Wanted};
+use rq_cells::{Cell, Key, Wanted};
 use rq_streams::{Counted, Stop};
 use std::alloc::Global;
 use std::io;
@@ -101,13 +103,13 @@ fn other_runs_write_nothing(rt: HostRuntime) {
     damaged[60] ^= 1;
     let nothing = Ending::Incomplete { missing: None };
     let one = Ending::Incomplete { missing: Some(1) };
-    let two = Ending::Incomplete { missing: Some(2) };
+    let both = Ending::Incomplete { missing: Some(2) };
     let cases: [(&[u8], &[u8], Ending, [u64; 4]); 5] = [
         (b"", b"", nothing, [0, 0, 0, 0]),
         (b"", &FIRST, one, [1, 0, 0, 0]),
         (b"", &damaged, nothing, [0, 1, 0, 0]),
         (&[1], &FIRST, nothing, [0, 0, 1, 0]),
-        (b"", misnamed.as_slice(), two, [2, 0, 0, 1]),
+        (b"", misnamed.as_slice(), both, [2, 0, 0, 1]),
     ];
     for (name, bytes, ending, [cells, damaged, others, restarted]) in cases {
         let (ended, told, out) = received(alloc, &table, name, bytes);
@@ -119,6 +121,36 @@ fn other_runs_write_nothing(rt: HostRuntime) {
         };
         assert_eq!(rt; (ended, told), (Ok(ending), seen));
         assert!(rt; out.is_empty());
+    }
+}
+
+// The first cell as somebody forges it: under another name, or with another symbol.
+fn forged(alloc: Global, name: u8, symbol: u8) -> Result<Vec<u8>, Error> {
+    let mut cell = Cell::read(alloc, &Key::none(), &FIRST)?.ok_or(Error::PacketTooShort)?;
+    cell.head.name[0] ^= name;
+    let (id, mut payload) = cell.packet.split();
+    payload[0] ^= symbol;
+    cell.packet = EncodingPacket::new(id, payload);
+    cell.serialize(alloc, &Key::none())
+}
+
+#[test]
+fn forged_cells_delay_a_run(rt: HostRuntime) {
+    let alloc = rt.alloc();
+    let table = SystematicTable::built_in(alloc).expect(&rt, "a table");
+    let seen = Seen {
+        cells: 4,
+        damaged: 0,
+        others: 0,
+        restarted: 1,
+    };
+    for (name, symbol) in [(1, 0), (0, 1)] {
+        let first = forged(alloc, name, symbol).expect(&rt, "a cell");
+        let parts: [&[u8]; 4] = [first.as_slice(), &SECOND, &FIRST, &SECOND];
+        let bytes = joined(alloc, &parts).expect(&rt, "bytes");
+        let (ended, told, out) = received(alloc, &table, b"", bytes.as_slice());
+        assert_eq!(rt; (ended, told), (Ok(Ending::Written), seen));
+        assert_eq!(rt; out.as_slice(), OBJECT.as_slice());
     }
 }
 

@@ -9,7 +9,6 @@ fn streams_are_listed(rt: HostRuntime) {
     let alloc = rt.alloc();
     let table = SystematicTable::built_in(alloc).expect(&rt, "a table");
     let one = Ending::Incomplete { missing: Some(1) };
-    let two = Ending::Incomplete { missing: Some(2) };
     let rows: [(&[&[u8]], &[(u8, Ending)]); 4] = [
         (&[b"RQC", &FIRST[..87]], &[]),
         (&[&FIRST, b"RQC", &FIRST], &[(137, one)]),
@@ -17,7 +16,10 @@ fn streams_are_listed(rt: HostRuntime) {
             &[&FIRST, &FIRST_MISNAMED, &SECOND],
             &[(137, Ending::Written), (0, one)],
         ),
-        (&[&FIRST_MISNAMED, &SECOND_MISNAMED], &[(0, two)]),
+        (
+            &[&FIRST_MISNAMED, &SECOND_MISNAMED],
+            &[(0, Ending::Incomplete { missing: Some(2) })],
+        ),
     ];
     for (parts, wanted) in rows {
         let bytes = joined(alloc, parts).expect(&rt, "bytes");
