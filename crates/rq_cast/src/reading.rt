@@ -69,7 +69,7 @@ pub(crate) fn find<R: Read, P: Progress>(
 {
     let mut chunk = [0u8; CHUNK];
     let mut piece = Vec::new(alloc);
-    let mut search = CellSearch::new(alloc, *wanted);
+    let mut search = CellSearch::new(alloc, wanted);
     let mut settled = Seen::default();
     *seen = settled;
     'reading: for _reads in 0..u64::MAX {

@@ -107,13 +107,12 @@ module _ (w : Wish) (bytes : List ℕ) where
 
   rises : (n i : ℕ) → i ≤ n → length (noted_before w bytes i) ≤ length (noted_before w bytes n)
   rises zero i few = let same : i ≡ zero = omega (arith, few) in subst (λ k. length (noted_before w bytes k) ≤ length (noted_before w bytes zero)) (sym same) (omega arith)
-  rises (suc n) i few = by (cases_lt n i)
-    where
-      by : (n < i) ⊎ (i ≤ n) → length (noted_before w bytes i) ≤ length (noted_before w bytes (suc n))
-      by (inl more) =
-          let same : i ≡ suc n = omega (arith, few, more) in
-          subst (λ k. length (noted_before w bytes k) ≤ length (noted_before w bytes (suc n))) (sym same) (omega arith)
-      by (inr less) = omega (arith, rises n i less, length-next n)
+  rises (suc n) i few = elim (cases_lt n i) [
+    | inl more ↦
+        let same : i ≡ suc n = omega (arith, few, more) in
+        subst (λ k. length (noted_before w bytes k) ≤ length (noted_before w bytes (suc n))) (sym same) (omega arith)
+    | inr less ↦ omega (arith, rises n i less, length-next n)
+  ]
 
   -- a head makes it longer
   grows : (i n : ℕ) (note : Note) → there i ≡ Some note → i < n → length (noted_before w bytes i) < length (noted_before w bytes n)
@@ -148,20 +147,20 @@ module _ (w : Wish) (bytes : List ℕ) where
 
   pub entry : (n k : ℕ) (d : Noted) → k < length (noted_before w bytes n) → IsEntry n k (get_or (noted_before w bytes n) k d)
   entry zero k d below = absurd (omega (arith, below))
-  entry (suc n) k d below = by (there n) refl
+  entry (suc n) k d below = by (entry n k d) (there n) refl
     where
       there_at : (xs : List Noted) (e : Noted) → noted_before w bytes (suc n) ≡ xs → get_or xs k d ≡ e → IsEntry (suc n) k e
           → IsEntry (suc n) k (get_or (noted_before w bytes (suc n)) k d)
       there_at xs e same is at = subst (IsEntry (suc n) k) (sym (ap (λ ys. get_or ys k d) same ∙ is)) at
 
-      by_place : (note : Note) → there n ≡ Some note → (k < length (noted_before w bytes n)) ⊎ (length (noted_before w bytes n) ≤ k) → IsEntry (suc n) k (get_or (noted_before w bytes (suc n)) k d)
-      by_place note is at =
+      by_place : ((k < length (noted_before w bytes n)) → IsEntry n k (get_or (noted_before w bytes n) k d)) → (note : Note) → there n ≡ Some note → (k < length (noted_before w bytes n)) ⊎ (length (noted_before w bytes n) ≤ k) → IsEntry (suc n) k (get_or (noted_before w bytes (suc n)) k d)
+      by_place first note is at =
           let e : Noted = record { at = n; note = note } in
           let same : noted_before w bytes (suc n) ≡ noted_before w bytes n ++ (e ∷ []) = ap (λ o. noted_before w bytes n ++ listed n o) is in
           elim at [
             | inl less ↦
                 there_at (noted_before w bytes n ++ (e ∷ [])) (get_or (noted_before w bytes n) k d) same (get_or_append_left (noted_before w bytes n) (e ∷ []) d k less)
-                (widens n k (get_or (noted_before w bytes n) k d) (entry n k d less) (sym (take-append-le k (noted_before w bytes n) (e ∷ []) (omega (arith, less))) ∙ ap (take k) (sym same)))
+                (widens n k (get_or (noted_before w bytes n) k d) (first less) (sym (take-append-le k (noted_before w bytes n) (e ∷ []) (omega (arith, less))) ∙ ap (take k) (sym same)))
             | inr more ↦
                 let last : length (noted_before w bytes n) ≡ k = omega (arith, more, below, ap length same, length-append (noted_before w bytes n) (e ∷ [])) in
                 let front : take k (noted_before w bytes n ++ (e ∷ [])) ≡ noted_before w bytes n = take-append-le k (noted_before w bytes n) (e ∷ []) (omega (arith, last)) ∙ take_all k (noted_before w bytes n) (omega (arith, last)) in
@@ -169,9 +168,9 @@ module _ (w : Wish) (bytes : List ℕ) where
                 (record { below = omega arith; noted = is; front = sym (ap (take k) same ∙ front) })
           ]
 
-      by : (o : Option Note) → there n ≡ o → IsEntry (suc n) k (get_or (noted_before w bytes (suc n)) k d)
-      by None is =
+      by : ((k < length (noted_before w bytes n)) → IsEntry n k (get_or (noted_before w bytes n) k d)) → (o : Option Note) → there n ≡ o → IsEntry (suc n) k (get_or (noted_before w bytes (suc n)) k d)
+      by first None is =
           let same : noted_before w bytes (suc n) ≡ noted_before w bytes n = ap (λ o. noted_before w bytes n ++ listed n o) is ∙ append-nil (noted_before w bytes n) in
           there_at (noted_before w bytes n) (get_or (noted_before w bytes n) k d) same refl
-          (widens n k (get_or (noted_before w bytes n) k d) (entry n k d (omega (arith, below, ap length same))) (ap (take k) (sym same)))
-      by (Some note) is = by_place note is (cases_lt k (length (noted_before w bytes n)))
+          (widens n k (get_or (noted_before w bytes n) k d) (first (omega (arith, below, ap length same))) (ap (take k) (sym same)))
+      by first (Some note) is = by_place first note is (cases_lt k (length (noted_before w bytes n)))

@@ -2,20 +2,23 @@
 use Rattle.std.proofs.Common.{◌≡◌, ℕ, zero, suc, ◌+◌, ◌-◌, ◌<◌, ◌≤◌, List, [], ◌∷◌, ◌++◌, length, take, drop, arith, refl, sym, ap, subst, ◌∙◌, Some, None, Option, true, false, get_or, length-append, append-nil, append_assoc, drop-drop, ◌⊎◌, inl, inr}
 use Rattle.std.specs.List.{cons_option}
 use Rattle.std.specs.Prelude.{option_map, unwrap_or, IfSome}
-use Rattle.std.proofs.lemmas.List.{length-drop, drop-append-le, take_all, take_more}
+use Rattle.std.proofs.lemmas.List.{length-drop, drop-append-le, take_all, take_more, take_rest}
 use Rattle.std.proofs.lemmas.Bool.{cases_lt}
 use Rattle.rq_cells.specs.declared.head.Head.{Head}
 use Rattle.rq_cells.specs.declared.wanted.Note.{Note}
 use Rattle.rq_cells.specs.declared.wanted.Note.TheVariants as N
+use Rattle.rq_cells.specs.declared.wanted.Sight.{Sight}
+use Rattle.rq_cells.specs.declared.wanted.Sight.TheVariants as V
 use Rattle.rq_cells.specs.declared.wanted.Heads.{Heads}
 use Rattle.rq_cells.specs.declared.search.Noted.{Noted}
 use Rattle.rq_cells.specs.declared.search.Walk.{Walk}
 use Rattle.rq_cells.specs.declared.search.Walked.{Walked}
 use Rattle.rq_cells.specs.Cells.{head_size, head_at}
-use Rattle.rq_cells.specs.Wanted.{Wish, wanted_at, note_of, note_at, IsNoted, WasNoted, is_undecided, HasNoWanted, IsSearch}
+use Rattle.rq_cells.specs.Found.{IsNextHead}
+use Rattle.rq_cells.specs.Wanted.{Wish, wanted_at, note_of, note_at, IsNoted, WasNoted, IsSight, is_undecided, HasNoWanted, IsSearch}
 use Rattle.rq_cells.specs.Search.{noted_before, IsLookedAt, Continues, open_place, SearchedTo, IsWalkTo, IsWalk, no_heads, IsFresh, CanNote, heads_with, pending_with, notes_with, Notes, IsAtFirst, IsFound, IsEnd, IsWalked, place_of}
 use Rattle.rq_cells.proofs.Scanning.{same_head_at}
-use Rattle.rq_cells.proofs.WantedCells.{nothing_without_head, searched_more, searched_open, searched_long}
+use Rattle.rq_cells.proofs.WantedCells.{headed_is_long, nothing_without_head, searched_more, searched_open, searched_long}
 use Rattle.rq_cells.proofs.NotedHeads.{no_head, none_between, last_of_same, entry, IsEntry, was_noted}
 
 -- ---- notes
@@ -183,6 +186,55 @@ noted_walk w bytes old new note walk is notes =
     (notes.notes ∙ ap (λ p. notes_with p old.at old.notes.items note) notes.pending)
     (noted_there w bytes old.at old.heads old.pending old.notes.items note is walk)
 
+-- a walk that has gone on to a place
+abbrev pub moved : Walk → ℕ → Walk
+moved walk at = record { at = at; heads = walk.heads; pending = walk.pending; notes = walk.notes }
+
+-- what a look at the bytes from there on says
+module _ (w : Wish) (bytes : List ℕ) (walk : Walk) (at : ℕ) (is : IsWalk w bytes (moved walk at)) (sight : Sight)
+    (seen : IsSight w (take (length bytes - at) (drop at bytes)) sight) where
+  sight_there : (s : Sight) → sight ≡ s → IsSight w (drop at bytes) s
+  sight_there s same = subst (IsSight w (drop at bytes)) same (subst (λ xs. IsSight w xs sight) (take_rest bytes at) seen)
+
+  pub noted_at : (note : Note) (new : Walk) → sight ≡ V.Noted note → Notes (moved walk at) note new → IsWalk w bytes new
+  noted_at note new same notes = noted_walk w bytes (moved walk at) new note is (sight_there (V.Noted note) same) notes
+
+  pub found_at : (h : Head) → at < length bytes → sight ≡ V.Found h → IsAtFirst w bytes (moved walk at) h
+  found_at h below same = record {
+    first = record { within = below; found = sight_there (V.Found h) same; first = is.searched.none };
+    heads = is.searched.all;
+  }
+
+-- a walk stays within the bytes
+pub walk_within : (w : Wish) (bytes : List ℕ) (walk : Walk) → IsWalk w bytes walk → walk.at ≤ length bytes
+walk_within w bytes walk is = elim (cases_lt 0 walk.at) [
+  | inl some ↦ omega (arith, some, is.enough (walk.at - 1) (omega (arith, some)), length-drop (walk.at - 1) bytes)
+  | inr none ↦ omega (arith, none)
+]
+
+-- the next head is known
+pub walk_to_head : (w : Wish) (bytes : List ℕ) (walk : Walk) (at : ℕ) (h : Head) → IsWalk w bytes walk → IsNextHead w.key bytes walk.at (Some (at, h))
+    → IsWalk w bytes (moved walk at) × (at < length bytes)
+walk_to_head w bytes walk at h is next =
+    let long = headed_is_long w.key (drop at bytes) h next.1 in (
+      skipped_to w bytes walk.at at walk.heads walk.pending walk.notes.items next.0 (enough_before w bytes at long) next.2 is,
+      omega (arith, long, length-drop at bytes),
+    )
+
+-- and there is none
+pub walk_to_end : (w : Wish) (bytes : List ℕ) (walk : Walk) (to : ℕ) → to ≡ length bytes - 51 → IsWalk w bytes walk → IsNextHead w.key bytes walk.at None
+    → IsWalk w bytes (moved walk to) × (to ≤ length bytes) × (length bytes - to < head_size)
+walk_to_end w bytes walk to is walk_is none = (
+  skipped_to w bytes walk.at to walk.heads walk.pending walk.notes.items (before (cases_lt 0 walk.at)) (λ i below. omega (arith, below, is, length-drop i bytes))
+      (λ i from below. none i from) walk_is,
+  omega (arith, is),
+  omega (arith, is),
+)
+  where
+    before : (0 < walk.at) ⊎ (walk.at ≤ 0) → walk.at ≤ to
+    before (inl some) = omega (arith, is, some, walk_is.enough (walk.at - 1) (omega (arith, some)), length-drop (walk.at - 1) bytes)
+    before (inr none) = omega (arith, none)
+
 -- nothing is known of bytes
 pub none_looked_at : (w : Wish) (bytes : List ℕ) → IsLookedAt w bytes 0 []
 none_looked_at w bytes = record {
@@ -190,6 +242,10 @@ none_looked_at w bytes = record {
   none = λ i below. absurd (omega (arith, below));
   notes_are = refl;
 }
+
+-- so much is known of all of them
+pub continues_all : (w : Wish) (bytes : List ℕ) (looked : ℕ) (notes : List Noted) → IsLookedAt w bytes looked notes → Continues w bytes looked notes
+continues_all w bytes looked notes known = record { front = bytes; rest = []; is = sym (append-nil bytes); known = known }
 
 pub walked_found : (w : Wish) (bytes : List ℕ) (walk : Walk) (h : Head) (walked : Walked) → IsAtFirst w bytes walk h → IsFound walk h walked → IsWalked w bytes walked
 walked_found w bytes walk h walked first found = record {
@@ -285,9 +341,9 @@ module _ (w : Wish) (bytes : List ℕ) (looked : ℕ) (known : List Noted) (cont
       subst (λ xs. IsEntry w front looked k (get_or xs k d)) (sym continues.known.notes_are)
       (entry w front looked k d (omega (arith, below, ap length continues.known.notes_are)))
 
--- The next of them is at this place.
+-- The next of them is this.
 pub record IsNext (w : Wish) (bytes : List ℕ) (walk : Walk) (e : Noted) : Type 0 where
-  pub walk_is : IsWalkTo w bytes e.at walk.heads walk.pending walk.notes.items
+  pub walk_is : IsWalk w bytes (moved walk e.at)
   pub below : e.at < length bytes
   pub was : WasNoted w (drop e.at bytes) e.note
 
@@ -334,6 +390,16 @@ module _ (w : Wish) (bytes : List ℕ) (looked : ℕ) (known : List Noted) (walk
             ∙ ap (λ xs. xs ++ (e ∷ [])) front_is
             ∙ sym (take_more known k d below);
       }
+
+-- the same of an item of the list
+pub next_is : (w : Wish) (bytes : List ℕ) (looked : ℕ) (known : List Noted) (walk : Walk) (k : ℕ) (e : Noted) → e ≡ get_or known k e → k < length known
+    → IsBehind w bytes looked known walk k → IsNext w bytes walk e
+next_is w bytes looked known walk k e is below b = subst (IsNext w bytes walk) (sym is) (next_known w bytes looked known walk k e below b)
+
+pub behind_is : (w : Wish) (bytes : List ℕ) (looked : ℕ) (known : List Noted) (walk : Walk) (k : ℕ) (e : Noted) → e ≡ get_or known k e → k < length known
+    → IsBehind w bytes looked known walk k → (new : Walk) → IsWalk w bytes new → new.at ≡ e.at + 1 → IsBehind w bytes looked known new (k + 1)
+behind_is w bytes looked known walk k e is below b new walk_is at =
+    behind_next w bytes looked known walk k e below b new walk_is (at ∙ ap (λ (x : Noted). x.at + 1) is)
 
 -- all of them
 pub behind_all : (w : Wish) (bytes : List ℕ) (looked : ℕ) (known : List Noted) (walk : Walk) (k : ℕ) → length known ≤ k

@@ -319,7 +319,14 @@ searched_all w bytes i heads (Some p) is before = record {
   all = subst (λ n. AreHeads w bytes n heads) is before.all;
 }
 
--- or but those behind which too few bytes stand for a head
+-- an open place, or one that becomes the first open one
+first_open : (w : Wish) (bytes : List ℕ) (i : ℕ) (heads : Heads) (p : Option (ℕ × Heads))
+    → HasNoWanted w bytes (unwrap_or (option_or p (Some (i, heads))) (i + 1, heads)).0 (unwrap_or (option_or p (Some (i, heads))) (i + 1, heads)).1 heads
+    → HasNoWanted w bytes (unwrap_or p (i, heads)).0 (unwrap_or p (i, heads)).1 heads
+first_open w bytes i heads None none = none
+first_open w bytes i heads (Some q) none = none
+
+-- all places were looked at but those behind which too few bytes stand for a head
 pub searched_long : (w : Wish) (bytes : List ℕ) (left i : ℕ) (heads : Heads) (pending : Option (ℕ × Heads)) → i + left ≡ length bytes → left < head_size
     → SearchedTo w bytes i heads pending
     → HasNoWanted w bytes (unwrap_or pending (i, heads)).0 (unwrap_or pending (i, heads)).1 heads
@@ -327,21 +334,9 @@ searched_long w bytes zero i heads pending all few before =
     let is : i ≡ length bytes = omega (arith, all) in
     subst (λ n. HasNoWanted w bytes (unwrap_or pending (n, heads)).0 (unwrap_or pending (n, heads)).1 heads) (sym is)
     (searched_all w bytes i heads pending is before)
-searched_long w bytes (suc left) i heads pending all few before = same pending refl
-  where
-    short : length (drop i bytes) < head_size
-    short = omega (arith, all, few, length-drop i bytes)
-
-    more : HasNoWanted w bytes (unwrap_or (option_or pending (Some (i, heads))) (i + 1, heads)).0 (unwrap_or (option_or pending (Some (i, heads))) (i + 1, heads)).1 heads
-    more =
-        searched_long w bytes left (i + 1) heads (option_or pending (Some (i, heads))) (omega (arith, all)) (omega (arith, few))
-        (searched_open w bytes i heads heads true false false (open_where_short w (drop i bytes) short) (omega (arith, all)) (omega arith) (omega arith)
-        pending refl (omega (arith, short)) before)
-
-    same : (p : Option (ℕ × Heads)) → pending ≡ p → HasNoWanted w bytes (unwrap_or pending (i, heads)).0 (unwrap_or pending (i, heads)).1 heads
-    same None is =
-        subst (λ p. HasNoWanted w bytes (unwrap_or p (i, heads)).0 (unwrap_or p (i, heads)).1 heads) (sym is)
-        (subst (λ p. HasNoWanted w bytes (unwrap_or (option_or p (Some (i, heads))) (i + 1, heads)).0 (unwrap_or (option_or p (Some (i, heads))) (i + 1, heads)).1 heads) is more)
-    same (Some q) is =
-        subst (λ p. HasNoWanted w bytes (unwrap_or p (i, heads)).0 (unwrap_or p (i, heads)).1 heads) (sym is)
-        (subst (λ p. HasNoWanted w bytes (unwrap_or (option_or p (Some (i, heads))) (i + 1, heads)).0 (unwrap_or (option_or p (Some (i, heads))) (i + 1, heads)).1 heads) is more)
+searched_long w bytes (suc left) i heads pending all few before =
+    let short : length (drop i bytes) < head_size = omega (arith, all, few, length-drop i bytes) in
+    first_open w bytes i heads pending
+    (searched_long w bytes left (i + 1) heads (option_or pending (Some (i, heads))) (omega (arith, all)) (omega (arith, few))
+    (searched_open w bytes i heads heads true false false (open_where_short w (drop i bytes) short) (omega (arith, all)) (omega arith) (omega arith)
+    pending refl (omega (arith, short)) before))

@@ -163,7 +163,7 @@ fn walk_on(
 {
     'heads: while let Some((at, head)) = next_head(wanted.key, bytes, walk.at) {
         walk.at = at;
-        match sight_of(alloc, wanted, &head, &bytes[at..])? {
+        match sight_of(alloc, wanted, head, &bytes[at..])? {
             Sight::Noted(note) => walk.note(note)?,
             Sight::Found(head) => return Ok(Some(head)),
         }
@@ -249,11 +249,11 @@ impl<'a> Model for CellSearch<'a> {
 
 impl<'a> CellSearch<'a> {
     /// A search among no bytes.
-    pub fn new(alloc: Global, wanted: Wanted<'a>) -> CellSearch<'a>
-        ensures { result ≡ new_search (wish_of wanted) }
+    pub fn new(alloc: Global, wanted: &Wanted<'a>) -> CellSearch<'a>
+        ensures { result ≡ new_search (wish_of wanted.now) }
     {
         CellSearch {
-            wanted,
+            wanted: *wanted,
             bytes: Vec::new(alloc),
             looked: 0,
             notes: Vec::new(alloc),
@@ -280,7 +280,7 @@ impl<'a> CellSearch<'a> {
 
     /// The bytes that are left.
     pub fn into_bytes(self) -> Vec<u8>
-        ensures { result.items ≡ self.bytes }
+        ensures { result.items ≡ self.entry.bytes }
     {
         self.bytes
     }

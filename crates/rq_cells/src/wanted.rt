@@ -82,18 +82,18 @@ pub enum Search {
 pub(crate) fn sight_of(
     alloc: Global,
     wanted: &Wanted<'_>,
-    head: &Head,
+    head: Head,
     bytes: &[u8],
 ) -> Result<Sight, Error>
-    requires { head_at wanted.now.key.now bytes.now ≡ Some head.now }
+    requires { head_at wanted.now.key.now bytes.now ≡ Some head }
     ensures sight { IfOk result (IsSight (wish_of wanted.now) bytes.now) }
     ensures memory { IfErr result (λ e. e ≡ Error.OutOfMemory) }
 {
-    if !wanted.wants(head) {
+    if !wanted.wants(&head) {
         return Ok(Sight::Noted(Note::Other));
     }
     if bytes.len() < head.cell_length() {
-        return Ok(Sight::Noted(Note::Begun(*head)));
+        return Ok(Sight::Noted(Note::Begun(head)));
     }
     Ok(match Cell::read(alloc, wanted.key, bytes)? {
         Some(cell) => Sight::Found(cell.head),
@@ -113,7 +113,7 @@ pub(crate) fn sight_again(
     ensures memory { IfErr result (λ e. e ≡ Error.OutOfMemory) }
 {
     match note {
-        Note::Begun(head) => sight_of(alloc, wanted, head, bytes),
+        Note::Begun(head) => sight_of(alloc, wanted, *head, bytes),
         Note::Damaged | Note::Other => Ok(Sight::Noted(*note)),
     }
 }

@@ -36,7 +36,7 @@ fn find(
         table: &table,
         name: &[],
     };
-    let mut search = CellSearch::new(alloc, wanted);
+    let mut search = CellSearch::new(alloc, &wanted);
     let (mut fed, mut gone, mut damaged) = (0, 0, 0);
     for n in pieces {
         let piece = &bytes[fed..fed + n];
