@@ -1,9 +1,9 @@
 -- What is known of heads, and the list of it.
-use Rattle.std.proofs.Common.{◌≡◌, ℕ, zero, suc, ◌+◌, ◌-◌, ◌<◌, ◌≤◌, List, [], ◌∷◌, ◌++◌, length, take, drop, arith, refl, sym, ap, subst, ◌∙◌, Some, None, Option, Bool, true, false, nat_lt, get_or, length-append, append-nil, if◌then◌else◌, drop-drop, ◌⊎◌, inl, inr}
+use Rattle.std.proofs.Common.{◌≡◌, ℕ, zero, suc, ◌+◌, ◌<◌, ◌≤◌, List, [], ◌∷◌, ◌++◌, length, take, drop, arith, refl, sym, ap, subst, ◌∙◌, Some, None, Option, Bool, true, false, nat_lt, get_or, length-append, append-nil, if◌then◌else◌, ◌⊎◌, inl, inr}
 use Rattle.std.specs.List.{cons_option}
 use Rattle.std.specs.Prelude.{option_map}
 use Rattle.std.proofs.lemmas.List.{take-append-le, take_all, get_or_append_left, get_or_push}
-use Rattle.std.proofs.lemmas.Bool.{lt-ltb, le-ltb, ltb-true, ltb-false, cases_lt}
+use Rattle.std.proofs.lemmas.Bool.{lt-ltb, le-ltb, ltb-false, cases_lt}
 use Rattle.std.proofs.lemmas.Option.{none-some, same_Some}
 use Rattle.rq_cells.specs.declared.head.Head.{Head}
 use Rattle.rq_cells.specs.declared.cell.Cell.{Cell}

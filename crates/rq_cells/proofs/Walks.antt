@@ -1,5 +1,5 @@
 -- A walk over the places of bytes.
-use Rattle.std.proofs.Common.{◌≡◌, ℕ, zero, suc, ◌+◌, ◌-◌, ◌<◌, ◌≤◌, List, [], ◌∷◌, ◌++◌, length, take, drop, arith, refl, sym, ap, subst, ◌∙◌, Some, None, Option, true, false, get_or, length-append, append-nil, append_assoc, drop-drop, ◌⊎◌, inl, inr}
+use Rattle.std.proofs.Common.{◌≡◌, ℕ, zero, suc, ◌+◌, ◌-◌, ◌<◌, ◌≤◌, List, [], ◌∷◌, ◌++◌, length, take, drop, arith, refl, sym, ap, subst, ◌∙◌, Some, None, Option, true, false, get_or, length-append, append-nil, drop-drop, ◌⊎◌, inl, inr}
 use Rattle.std.specs.List.{cons_option}
 use Rattle.std.specs.Prelude.{option_map, unwrap_or, IfSome}
 use Rattle.std.proofs.lemmas.List.{length-drop, drop-append-le, take_all, take_more, take_rest}

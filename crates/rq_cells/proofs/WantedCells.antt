@@ -1,6 +1,6 @@
 -- The first wanted cell among any bytes.
-use Rattle.std.proofs.Common.{◌≡◌, ℕ, zero, suc, ◌+◌, ◌-◌, ◌<◌, ◌≤◌, List, [], ◌∷◌, ◌++◌, length, take, drop, arith, refl, sym, ap, subst, ◌∙◌, Some, None, Option, Bool, true, false, cond, not, ◌&&◌, ◌||◌, nat_le, nat_lt, get_or, length-append, append-nil, zero-add, if◌then◌else◌, drop-cons, drop-drop, ◌⊎◌, inl, inr}
-use Rattle.std.specs.Prelude.{option_and_then, option_map, unwrap_or, is_none, IfSome}
+use Rattle.std.proofs.Common.{◌≡◌, ℕ, zero, suc, ◌+◌, ◌<◌, ◌≤◌, List, [], ◌∷◌, ◌++◌, length, take, drop, arith, refl, sym, ap, subst, ◌∙◌, Some, None, Option, Bool, true, false, cond, not, ◌&&◌, ◌||◌, nat_le, nat_lt, get_or, length-append, append-nil, zero-add, if◌then◌else◌, drop-cons, ◌⊎◌, inl, inr}
+use Rattle.std.specs.Prelude.{option_and_then, option_map, unwrap_or, is_none}
 use Rattle.std.specs.Option.{option_or}
 use Rattle.std.proofs.lemmas.List.{length-drop, drop-append-le}
 use Rattle.std.proofs.lemmas.List.Sums.{sum_by-cons}

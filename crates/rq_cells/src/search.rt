@@ -10,14 +10,14 @@ use std::alloc::Global;
 use std::marker::Model;
 
 /// What is known of the head at a place.
-#[derive(Clone, Copy, Debug, PartialEq, Eq)]
+#[derive(Clone, Copy)]
 pub(crate) struct Noted {
     pub at: usize,
     pub note: Note,
 }
 
 /// How far a walk over the places of bytes has come.
-#[derive(Debug, PartialEq, Eq, Drop)]
+#[derive(Drop)]
 pub(crate) struct Walk {
     /// The next place.
     pub at: usize,
@@ -25,15 +25,17 @@ pub(crate) struct Walk {
     pub heads: Heads,
     /// The first place at which a wanted cell may still become whole, and the heads before that.
     pub pending: Option<(usize, Heads)>,
-    /// What is known of the heads from there on, which is taken for the first place.
+    /// What is known of the heads from there on. Their places count from there.
     pub notes: Vec<Noted>,
 }
 
 /// What a walk over all places found, and what is known of the bytes that are left.
-#[derive(Debug, PartialEq, Eq, Drop)]
+#[derive(Drop)]
 pub(crate) struct Walked {
     pub search: Search,
+    /// At how many of their first places was looked.
     pub looked: usize,
+    /// What is known of the heads there.
     pub notes: Vec<Noted>,
 }
 

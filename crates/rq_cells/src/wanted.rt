@@ -32,7 +32,7 @@ impl Wanted<'_> {
 }
 
 /// What is known of a head behind which no wanted cell is whole.
-#[derive(Clone, Copy, Debug, PartialEq, Eq)]
+#[derive(Clone, Copy)]
 pub(crate) enum Note {
     /// It is wanted, and fewer bytes stand there than its cell has.
     Begun(Head),
@@ -43,7 +43,7 @@ pub(crate) enum Note {
 }
 
 /// What stands where bytes begin with a head.
-#[derive(Clone, Copy, Debug, PartialEq, Eq)]
+#[derive(Clone, Copy)]
 pub(crate) enum Sight {
     /// No wanted cell yet.
     Noted(Note),

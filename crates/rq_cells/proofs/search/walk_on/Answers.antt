@@ -1,8 +1,7 @@
-use Rattle.std.proofs.Common.{◌<◌, length, subst, Some, None}
+use Rattle.std.proofs.Common.{subst, Some}
 use Rattle.rq_cells.specs.Found.{IsNextHead}
 use Rattle.rq_cells.specs.Wanted.{wish_of}
-use Rattle.rq_cells.specs.Search.{IsWalk}
-use Rattle.rq_cells.proofs.Walks.{moved, walk_within, walk_to_head, walk_to_end, noted_at, found_at}
+use Rattle.rq_cells.proofs.Walks.{walk_within, walk_to_head, walk_to_end, noted_at, found_at}
 use Rattle.rq_cells.proofs.search.walk_on.Goals as goal
 
 pub next_head-requires : goal.next_head-requires

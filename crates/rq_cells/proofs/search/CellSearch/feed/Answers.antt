@@ -1,4 +1,4 @@
-use Rattle.std.proofs.Common.{◌≡◌, List, ℕ, ap, sym, subst, ◌∙◌, drop}
+use Rattle.std.proofs.Common.{◌≡◌, sym, subst, ◌∙◌, drop}
 use Rattle.rq_cells.specs.Wanted.{wish_of}
 use Rattle.rq_cells.specs.Search.{IsLookedAt, place_of}
 use Rattle.rq_cells.proofs.Walks.{continues_all}
