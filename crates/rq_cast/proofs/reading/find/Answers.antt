@@ -16,12 +16,12 @@ returns-in-Found-clause-searches g c =
     let piece : c.as_slice.result.now ≡ reads.piece = c.as_slice.ensures.value ∙ reads.behind ∙ ap (λ xs. xs ++ reads.piece) c.clear.ensures.items in
     let search = c.in_ok-head.ensures in
     let found = fed w c.reading.search c.feed.new.self reads.piece c.as_slice.result.now (Found c.in-Found.at c.in-Found.head c.in-Found.before)
-        c.reading.invariant.wish piece (subst (IsSearch c.reading.search.wish (c.reading.search.bytes ++ c.as_slice.result.now)) c.in-Found.is search.search)
-        (search.left ∙ ap (left_behind c.reading.search c.as_slice.result.now) c.in-Found.is) in
+    c.reading.invariant.wish piece (subst (IsSearch c.reading.search.wish (c.reading.search.bytes ++ c.as_slice.result.now)) c.in-Found.is search.search)
+    (search.left ∙ ap (left_behind c.reading.search c.as_slice.result.now) c.in-Found.is) in
     found_first w (g.R.Read.remaining (source c.args.input.now)) (g.R.Read.remaining (source c.reading.input))
     (g.R.Read.remaining (source c.read_more.new.input))
     c.reading._reads c.reading.search.bytes reads.piece c.reading.settled c.reading.seen c.reading.invariant.unfound reads.taken
-    (omega (arith, reads.count, reads.few)) c.in-Found.at c.in-Found.head c.into_bytes.result.items found.0.0 (c.into_bytes.ensures ∙ found.2)
+    (omega (arith, reads.count, reads.few)) c.in-Found.at c.in-Found.head c.into_bytes-bytes.result.items found.0.0 (c.into_bytes-bytes.ensures ∙ found.2)
     c.in-Found.before found.0.1 c.with-seen.result c.with-seen.ensures
     (last_length c.read_more.new.input) (omega (arith, reads.count, c.in_ok-n.ensures.last)) (omega (arith, c.in_ok-n.ensures.last, c.if-n-eq0.false))
 
@@ -32,8 +32,8 @@ reading-preserved g c =
     let piece : c.as_slice.result.now ≡ reads.piece = c.as_slice.ensures.value ∙ reads.behind ∙ ap (λ xs. xs ++ reads.piece) c.clear.ensures.items in
     let search = c.in_ok-head.ensures in
     let none = fed w c.reading.search c.feed.new.self reads.piece c.as_slice.result.now (NotYet c.in-NotYet.from c.in-NotYet.before c.in-NotYet.all)
-        c.reading.invariant.wish piece (subst (IsSearch c.reading.search.wish (c.reading.search.bytes ++ c.as_slice.result.now)) c.in-NotYet.is search.search)
-        (search.left ∙ ap (left_behind c.reading.search c.as_slice.result.now) c.in-NotYet.is) in
+    c.reading.invariant.wish piece (subst (IsSearch c.reading.search.wish (c.reading.search.bytes ++ c.as_slice.result.now)) c.in-NotYet.is search.search)
+    (search.left ∙ ap (left_behind c.reading.search c.as_slice.result.now) c.in-NotYet.is) in
     let some : 0 < length reads.piece = omega (arith, reads.count, c.if-n-eq0.false) in
     record {
       wish = none.1;
@@ -68,8 +68,8 @@ returns-in_err-n-clause-sees g c = none_yet g (goal.at.returns-in_err-n-clause-s
 pub returns-then-n-eq0-clause-sees : goal.returns-then-n-eq0-clause-sees
 returns-then-n-eq0-clause-sees g c = none_yet g (goal.at.returns-then-n-eq0-clause-sees g c).After-read_more
 
-pub returns-in_err-at-clause-sees : goal.returns-in_err-at-clause-sees
-returns-in_err-at-clause-sees g c = none_yet g (goal.at.returns-in_err-at-clause-sees g c).After-read_more
+pub returns-in_err-head-clause-sees : goal.returns-in_err-head-clause-sees
+returns-in_err-head-clause-sees g c = none_yet g (goal.at.returns-in_err-head-clause-sees g c).After-read_more
 
 pub returns-in-Found-clause-sees : goal.returns-in-Found-clause-sees
 returns-in-Found-clause-sees g c = none_yet g (goal.at.returns-in-Found-clause-sees g c).After-read_more
