@@ -6,7 +6,9 @@ use Rattle.std.proofs.lemmas.List.{length-drop, drop-append-le}
 use Rattle.std.proofs.lemmas.Bool.{cases_lt}
 use Rattle.rq_cells.specs.declared.head.Head.{Head}
 use Rattle.rq_cells.specs.declared.wanted.Heads.{Heads}
-use Rattle.rq_cells.specs.Wanted.{Wish, wanted_at, is_wanted_damaged, is_unwanted, AreHeads, IsFirstWanted, HasNoWanted, NoneBefore}
+use Rattle.rq_cells.specs.declared.wanted.Search.{Search}
+use Rattle.rq_cells.specs.Wanted.{Wish, wanted_at, is_wanted_damaged, is_unwanted, AreHeads, IsFirstWanted, HasNoWanted, NoneBefore, IsSearch}
+use Rattle.rq_cells.specs.Search.{Searching, place_of, left_behind}
 use Rattle.rq_cells.proofs.WantedCells.{count_further}
 use Rattle.rq_cast.specs.Reading.{chunk_length, ReadsOnce}
 use Rattle.rq_cast.specs.declared.receiver.Seen.{Seen}
@@ -40,6 +42,16 @@ pub record IsUnfound (w : Wish) (before after : Option (List ℕ)) (reads : ℕ)
   pub none : NoneBefore w past (length past)
   pub seen : (rest : List ℕ) → SeesBefore w (past ++ rest) from settled
   pub all_seen : SeesBefore w past (length past) every
+
+-- what a search that goes on finds, where a wish and a piece are these
+pub fed : (w : Wish) (s new : Searching) (piece given : List ℕ) (search : Search) → s.wish ≡ w → given ≡ piece → IsSearch s.wish (s.bytes ++ given) search
+    → new ≡ left_behind s given search
+    → IsSearch w (s.bytes ++ piece) search × (new.wish ≡ w) × (new.bytes ≡ drop (place_of search) (s.bytes ++ piece))
+fed w s new piece given search wish is found left = (
+  subst (λ (k : Wish × List ℕ). IsSearch k.0 (s.bytes ++ k.1) search) (λ i. (wish i, is i)) found,
+  ap (λ (k : Searching). k.wish) left ∙ wish,
+  ap (λ (k : Searching). k.bytes) left ∙ ap (λ xs. drop (place_of search) (s.bytes ++ xs)) is,
+)
 
 -- no read at all
 pub reads_nothing : (there : Option (List ℕ)) (n : ℕ) → ReadsOnce there there n

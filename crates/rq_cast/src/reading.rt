@@ -10,7 +10,8 @@ ghost use Rattle.rq_cells.specs.Wanted.{wish_of};
 use crate::input::Input;
 use crate::progress::Progress;
 use crate::receiver::Seen;
-use rq_cells::{Head, Search, Wanted, first_wanted};
+pub(crate) use rq_cells::remove_front;
+use rq_cells::{CellSearch, Head, Search, Wanted};
 use rq_streams::Stop;
 use std::alloc::Global;
 use std::io::Read;
@@ -40,16 +41,6 @@ pub(crate) fn read_more<R: Read>(
     Ok(n)
 }
 
-/// Lets the first `n` bytes go. The rest is moved within the buffer.
-pub(crate) fn remove_front(bytes: &mut Vec<u8>, n: usize)
-    requires { n ≤ length bytes.old.items }
-    ensures { bytes.new.items ≡ drop n bytes.old.items }
-{
-    let kept = bytes.len() - n;
-    bytes.copy_within(n.., 0);
-    bytes.truncate(kept);
-}
-
 /// The stream that is received, what was read from its first cell on, and what was seen before that.
 #[derive(Debug, PartialEq, Eq, Drop)]
 pub(crate) struct Found {
@@ -77,23 +68,24 @@ pub(crate) fn find<R: Read, P: Progress>(
     ensures stops { IfErr result IsStopOfReads }
 {
     let mut chunk = [0u8; CHUNK];
-    let mut bytes = Vec::new(alloc);
+    let mut piece = Vec::new(alloc);
+    let mut search = CellSearch::new(alloc, wanted);
     let mut settled = Seen::default();
     *seen = settled;
     'reading: for _reads in 0..u64::MAX {
-        let n = read_more(input, &mut chunk, &mut bytes)?;
+        piece.clear();
+        let n = read_more(input, &mut chunk, &mut piece)?;
         if n == 0 {
             return Ok(None);
         }
         progress.tell(n, seen, None);
-        match first_wanted(alloc, wanted, bytes.as_slice())? {
-            Search::Found { at, head, before } => {
-                remove_front(&mut bytes, at);
+        match search.feed(alloc, piece.as_slice())? {
+            Search::Found { head, before, .. } => {
+                let bytes = search.into_bytes();
                 let seen = settled.with(before);
                 return Ok(Some(Found { head, bytes, seen }));
             }
-            Search::NotYet { from, before, all } => {
-                remove_front(&mut bytes, from);
+            Search::NotYet { before, all, .. } => {
                 *seen = settled.with(all);
                 settled = settled.with(before);
             }

@@ -6,6 +6,7 @@ mod messages;
 mod program;
 mod receiving;
 mod runs;
+mod searching;
 mod sending;
 mod stored_cells;
 mod stored_runs;

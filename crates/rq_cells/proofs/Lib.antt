@@ -6,4 +6,6 @@ pub mod CheckedHeads
 pub mod Scanning
 pub mod FoundCells
 pub mod WantedCells
+pub mod NotedHeads
+pub mod Walks
 pub mod FirstCell

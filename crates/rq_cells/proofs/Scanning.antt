@@ -397,3 +397,9 @@ headless_more s bytes at n heads others headless before = go n (omega arith)
         subst (λ i. StandsBefore s bytes i heads others) next
         (one_place_more s bytes (at + k) heads heads others others None false (omega (arith, long, length-drop (at + k) bytes))
         (nothing_there s (drop (at + k) bytes) long none) (sym (append-nil heads)) (omega arith) (go k (omega (arith, few))))
+
+-- no head begins at those places
+pub none_skipped : (key : Key) (bytes : List ℕ) (at n : ℕ) → HoldNoHead (drop at bytes) n → (i : ℕ) → at ≤ i → i < at + n → head_at key (drop i bytes) ≡ None
+none_skipped key bytes at n headless i from below =
+    let place : at + (i - at) ≡ i = omega (arith, from) in
+    ap (head_at key) (ap (λ j. drop j bytes) (sym place) ∙ sym (drop-drop (i - at) at bytes)) ∙ headless.none key (i - at) (omega (arith, from, below))

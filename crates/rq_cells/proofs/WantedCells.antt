@@ -1,17 +1,18 @@
 -- The first wanted cell among any bytes.
-use Rattle.std.proofs.Common.{◌≡◌, ℕ, zero, suc, ◌+◌, ◌-◌, ◌<◌, ◌≤◌, List, [], ◌∷◌, ◌++◌, length, take, drop, arith, refl, sym, ap, subst, ◌∙◌, Some, None, Option, Bool, true, false, cond, not, ◌&&◌, ◌||◌, nat_le, nat_lt, get_or, length-append, append-nil, zero-add, if◌then◌else◌, drop-cons, drop-drop, ◌⊎◌, inl, inr}
-use Rattle.std.specs.Prelude.{option_and_then, option_map, unwrap_or, is_none, IfSome}
+use Rattle.std.proofs.Common.{◌≡◌, ℕ, zero, suc, ◌+◌, ◌<◌, ◌≤◌, List, [], ◌∷◌, ◌++◌, length, take, drop, arith, refl, sym, ap, subst, ◌∙◌, Some, None, Option, Bool, true, false, cond, not, ◌&&◌, ◌||◌, nat_le, nat_lt, get_or, length-append, append-nil, zero-add, if◌then◌else◌, drop-cons, ◌⊎◌, inl, inr}
+use Rattle.std.specs.Prelude.{option_and_then, option_map, unwrap_or, is_none}
 use Rattle.std.specs.Option.{option_or}
 use Rattle.std.proofs.lemmas.List.{length-drop, drop-append-le}
 use Rattle.std.proofs.lemmas.List.Sums.{sum_by-cons}
+use Rattle.std.proofs.lemmas.Option.{none-some}
 use Rattle.std.proofs.lemmas.Bool.{le-ltb, lt-ltb, le-leb, lt-leb, ltb-false, or_parts, or_left, and_left, and_right, cases_lt}
 use Rattle.rq_cells.specs.declared.head.Head.{Head}
 use Rattle.rq_cells.specs.declared.cell.Cell.{Cell}
-use Rattle.rq_cells.specs.declared.wanted.Candidate.TheVariants as C
 use Rattle.rq_cells.specs.declared.wanted.Heads.{Heads}
-use Rattle.rq_cells.specs.Cells.{head_size, cell_size, head_at, cell_behind, cell_at}
-use Rattle.rq_cells.specs.Found.{places, HoldNoHead}
-use Rattle.rq_cells.specs.Wanted.{Wish, is_wanted, wanted_at, is_begun, is_undecided, is_long_enough, is_wanted_damaged, is_unwanted, HasNone, IsCandidate, NoneBefore, count_before, AreHeads, HasNoWanted}
+use Rattle.rq_cells.specs.Cells.{Key, head_size, cell_size, head_at, cell_behind, cell_at}
+use Rattle.rq_cells.specs.Found.{places}
+use Rattle.rq_cells.specs.Wanted.{Wish, is_wanted, wanted_at, is_begun, is_undecided, is_long_enough, is_wanted_damaged, is_unwanted, HasNone, NoneBefore, count_before, AreHeads, HasNoWanted}
+use Rattle.rq_cells.specs.Search.{SearchedTo}
 use Rattle.rq_cells.proofs.HeadBytes.{parts_in_long, none_in_short}
 use Rattle.rq_cells.proofs.CellBytes.{behind-begins, none_behind_in_short}
 use Rattle.rq_cells.proofs.Scanning.{same_head_at, same_cell_behind, one_at_most}
@@ -41,7 +42,7 @@ module _ (w : Wish) (bytes : List ℕ) where
     decided_by : (b : Bool) → unwrap_or (option_map (is_begun w bytes) (head_at w.key bytes)) false ≡ b → is_undecided w bytes ≡ b
     decided_by b e = (λ i. le-ltb (length bytes) head_size long i || e i)
 
-    pub nothing_without_head : head_at w.key bytes ≡ None → IsCandidate w bytes C.Nothing
+    pub nothing_without_head : head_at w.key bytes ≡ None → HasNone w bytes false false false
     nothing_without_head none = headless false (decided_by false (ap (λ o. unwrap_or (option_map (is_begun w bytes) o) false) none)) none
 
     module _ (h : Head) (headed : head_at w.key bytes ≡ Some h) where
@@ -60,7 +61,7 @@ module _ (w : Wish) (bytes : List ℕ) where
       unwanted_by : (b : Bool) → is_wanted w h ≡ b → is_unwanted w bytes ≡ not b
       unwanted_by b e = ap (λ o. unwrap_or (option_map (λ k. not (is_wanted w k)) o) false) headed ∙ ap not e
 
-      pub other_head : is_wanted w h ≡ false → IsCandidate w bytes C.Other
+      pub other_head : is_wanted w h ≡ false → HasNone w bytes false false true
       other_head e = record {
         undecided_is = begun_by false (and_left (is_wanted w h) (nat_lt (length bytes) (cell_size h.configuration.symbol_size)) e);
         none = by (cell_behind w.key h bytes) refl;
@@ -95,7 +96,7 @@ module _ (w : Wish) (bytes : List ℕ) where
           long_whole : is_long_enough w bytes h ≡ true
           long_whole = λ i. wanted i && le-leb (cell_size h.configuration.symbol_size) (length bytes) whole i
 
-          pub damaged_cell : cell_behind w.key h bytes ≡ None → IsCandidate w bytes C.Damaged
+          pub damaged_cell : cell_behind w.key h bytes ≡ None → HasNone w bytes false true false
           damaged_cell none = record {
             undecided_is = decided_whole;
             none = by_cell None none;
@@ -103,10 +104,18 @@ module _ (w : Wish) (bytes : List ℕ) where
             other = unwanted_by true wanted;
           }
 
-        pub found_cell : (c : Cell) → cell_behind w.key h bytes ≡ Some c → IsCandidate w bytes (C.Found c.head)
+        pub found_cell : (c : Cell) → cell_behind w.key h bytes ≡ Some c → wanted_at w bytes ≡ Some c.head
         found_cell c is =
             by_cell (Some c) is
             ∙ ap (λ b. if b then Some c.head else None) (ap (is_wanted w) (behind-begins w.key h bytes c is).1 ∙ wanted)
+
+-- bytes that begin with a head hold one
+pub headed_is_long : (key : Key) (bytes : List ℕ) (h : Head) → head_at key bytes ≡ Some h → head_size ≤ length bytes
+headed_is_long key bytes h headed = by (cases_lt (length bytes) head_size)
+  where
+    by : (length bytes < head_size) ⊎ (head_size ≤ length bytes) → head_size ≤ length bytes
+    by (inl short) = absurd (none-some h (sym (none_in_short key bytes short) ∙ headed))
+    by (inr long) = long
 
 -- ---- what stays, whatever comes behind the bytes
 
@@ -192,16 +201,6 @@ count_next p bytes rest i below same =
     omega (arith, count_further p (bytes ++ rest) i 1, last)
 
 -- ---- a search so far
-
--- the first i places were looked at: these heads stand there, and this is the first at which a wanted cell may still end, with those before it
-pub record SearchedTo (w : Wish) (bytes : List ℕ) (i : ℕ) (heads : Heads) (pending : Option (ℕ × Heads)) : Type 0 where
-  pub none : NoneBefore w bytes i
-  pub all : AreHeads w bytes i heads
-  pub few : (heads.damaged ≤ i) × (heads.others ≤ i)
-  pub never : (rest : List ℕ) (j : ℕ) → j < unwrap_or (option_map (λ p. p.0) pending) i → wanted_at w (drop j bytes ++ rest) ≡ None
-  pub before : (rest : List ℕ) → AreHeads w (bytes ++ rest) (unwrap_or pending (i, heads)).0 (unwrap_or pending (i, heads)).1
-  pub opened : IfSome pending (λ p. (p.0 < i) × (length bytes - p.0 < 65599) × (is_undecided w (drop p.0 bytes) ≡ true))
-  pub settled : (j : ℕ) → j < unwrap_or (option_map (λ p. p.0) pending) i → is_undecided w (drop j bytes) ≡ false
 
 none_more : (w : Wish) (bytes : List ℕ) (i : ℕ) → NoneBefore w bytes i → wanted_at w (drop i bytes) ≡ None → NoneBefore w bytes (i + 1)
 none_more w bytes i before here j below = by (cases_lt j i)
@@ -292,25 +291,8 @@ module _ (w : Wish) (bytes : List ℕ) (i : ℕ) (heads heads' : Heads) (u d o :
   }
   searched_open (Some p) is_open short before = searched_still p before
 
--- places at which no head begins, behind those before them
-pub headless_searched : (w : Wish) (bytes : List ℕ) (i n : ℕ) (heads : Heads) (pending : Option (ℕ × Heads))
-    → HoldNoHead (drop i bytes) n → SearchedTo w bytes i heads pending → SearchedTo w bytes (i + n) heads pending
-headless_searched w bytes i n heads pending headless before = go n (omega arith)
-  where
-    go : (k : ℕ) → k ≤ n → SearchedTo w bytes (i + k) heads pending
-    go zero few = subst (λ j. SearchedTo w bytes j heads pending) (omega arith) before
-    go (suc k) few =
-        let there : drop k (drop i bytes) ≡ drop (i + k) bytes = drop-drop k i bytes in
-        let long : head_size ≤ length (drop (i + k) bytes) = subst (λ xs. head_size ≤ length xs) there (headless.enough k (omega (arith, few))) in
-        let none : head_at w.key (drop (i + k) bytes) ≡ None = ap (head_at w.key) (sym there) ∙ headless.none w.key k (omega (arith, few)) in
-        let below : i + k < length bytes = omega (arith, long, length-drop (i + k) bytes) in
-        let next : i + k + 1 ≡ i + suc k = omega arith in
-        subst (λ j. SearchedTo w bytes j heads pending) next
-        (searched_more w bytes (i + k) heads heads false false false (nothing_without_head w (drop (i + k) bytes) long none) below
-        (omega arith) (omega arith) pending refl (go k (omega (arith, few))))
-
 -- all places were looked at
-pub searched_all : (w : Wish) (bytes : List ℕ) (i : ℕ) (heads : Heads) (pending : Option (ℕ × Heads)) → i ≡ length bytes
+searched_all : (w : Wish) (bytes : List ℕ) (i : ℕ) (heads : Heads) (pending : Option (ℕ × Heads)) → i ≡ length bytes
     → SearchedTo w bytes i heads pending
     → HasNoWanted w bytes (unwrap_or pending (length bytes, heads)).0 (unwrap_or pending (length bytes, heads)).1 heads
 searched_all w bytes i heads None is before = record {
@@ -336,3 +318,25 @@ searched_all w bytes i heads (Some p) is before = record {
   before = before.before;
   all = subst (λ n. AreHeads w bytes n heads) is before.all;
 }
+
+-- an open place, or one that becomes the first open one
+first_open : (w : Wish) (bytes : List ℕ) (i : ℕ) (heads : Heads) (p : Option (ℕ × Heads))
+    → HasNoWanted w bytes (unwrap_or (option_or p (Some (i, heads))) (i + 1, heads)).0 (unwrap_or (option_or p (Some (i, heads))) (i + 1, heads)).1 heads
+    → HasNoWanted w bytes (unwrap_or p (i, heads)).0 (unwrap_or p (i, heads)).1 heads
+first_open w bytes i heads None none = none
+first_open w bytes i heads (Some q) none = none
+
+-- all places were looked at but those behind which too few bytes stand for a head
+pub searched_long : (w : Wish) (bytes : List ℕ) (left i : ℕ) (heads : Heads) (pending : Option (ℕ × Heads)) → i + left ≡ length bytes → left < head_size
+    → SearchedTo w bytes i heads pending
+    → HasNoWanted w bytes (unwrap_or pending (i, heads)).0 (unwrap_or pending (i, heads)).1 heads
+searched_long w bytes zero i heads pending all few before =
+    let is : i ≡ length bytes = omega (arith, all) in
+    subst (λ n. HasNoWanted w bytes (unwrap_or pending (n, heads)).0 (unwrap_or pending (n, heads)).1 heads) (sym is)
+    (searched_all w bytes i heads pending is before)
+searched_long w bytes (suc left) i heads pending all few before =
+    let short : length (drop i bytes) < head_size = omega (arith, all, few, length-drop i bytes) in
+    first_open w bytes i heads pending
+    (searched_long w bytes left (i + 1) heads (option_or pending (Some (i, heads))) (omega (arith, all)) (omega (arith, few))
+    (searched_open w bytes i heads heads true false false (open_where_short w (drop i bytes) short) (omega (arith, all)) (omega arith) (omega arith)
+    pending refl (omega (arith, short)) before))

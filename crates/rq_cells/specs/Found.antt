@@ -16,6 +16,12 @@ pub record HoldNoHead (bytes : List ℕ) (n : ℕ) : Type 0 where
   pub enough : (i : ℕ) → i < n → head_size ≤ length (drop i bytes)
   pub none : (key : Key) (i : ℕ) → i < n → head_at key (drop i bytes) ≡ None
 
+-- the head at the first place from one on where one begins
+abbrev pub IsNextHead : Key → List ℕ → ℕ → Option (ℕ × Head) → Type 0
+IsNextHead key bytes from None = (i : ℕ) → from ≤ i → head_at key (drop i bytes) ≡ None
+IsNextHead key bytes from (Some (at, h)) =
+    (from ≤ at) × (head_at key (drop at bytes) ≡ Some h) × ((i : ℕ) → from ≤ i → i < at → head_at key (drop i bytes) ≡ None)
+
 -- the cells at all places
 abbrev pub all_cells_in : Key → List ℕ → List Cell
 all_cells_in key bytes = filter_map (cell_at key) (places bytes)

@@ -4,3 +4,4 @@ pub mod Found
 pub mod Laws
 pub mod Scans
 pub mod Wanted
+pub mod Search

@@ -4,8 +4,10 @@ use Rattle.std.specs.List.{starts_with}
 use Rattle.rq_standard.specs.TableRows.{greatest_size}
 use Rattle.rq_base.specs.RefusedInput.{checked_configuration}
 use Rattle.rq_cells.specs.declared.head.Head.{Head}
-use Rattle.rq_cells.specs.declared.wanted.Candidate.{Candidate}
-use Rattle.rq_cells.specs.declared.wanted.Candidate.TheVariants as C
+use Rattle.rq_cells.specs.declared.wanted.Note.{Note}
+use Rattle.rq_cells.specs.declared.wanted.Note.TheVariants as N
+use Rattle.rq_cells.specs.declared.wanted.Sight.{Sight}
+use Rattle.rq_cells.specs.declared.wanted.Sight.TheVariants as V
 use Rattle.rq_cells.specs.declared.wanted.Wanted.{Wanted}
 use Rattle.rq_cells.specs.declared.wanted.Heads.{Heads}
 use Rattle.rq_cells.specs.declared.wanted.Search.{Search}
@@ -58,13 +60,36 @@ pub record HasNone (w : Wish) (bytes : List ℕ) (undecided d o : Bool) : Type 0
   pub damaged : is_wanted_damaged w bytes ≡ d
   pub other : is_unwanted w bytes ≡ o
 
--- what stands where bytes begin
-abbrev pub IsCandidate : Wish → List ℕ → Candidate → Type 0
-IsCandidate w bytes C.Open = HasNone w bytes true false false × (length bytes < greatest_cell_size)
-IsCandidate w bytes C.Nothing = HasNone w bytes false false false
-IsCandidate w bytes C.Damaged = HasNone w bytes false true false
-IsCandidate w bytes C.Other = HasNone w bytes false false true
-IsCandidate w bytes (C.Found h) = wanted_at w bytes ≡ Some h
+-- what is known of a head, by the bytes that begin with it
+abbrev pub note_of : Wish → List ℕ → Head → Note
+note_of w bytes h = if is_wanted w h then (if nat_lt (length bytes) (cell_size h.configuration.symbol_size) then N.Begun h else N.Damaged) else N.Other
+
+-- and of the head that bytes begin with
+abbrev pub note_at : Wish → List ℕ → Option Note
+note_at w bytes = option_map (note_of w bytes) (head_at w.key bytes)
+
+-- no wanted cell is whole where bytes begin with a head of which this is known
+abbrev pub FitsNote : Wish → List ℕ → Note → Type 0
+FitsNote w bytes (N.Begun h) = HasNone w bytes true false false × (length bytes < greatest_cell_size)
+FitsNote w bytes N.Damaged = HasNone w bytes false true false
+FitsNote w bytes N.Other = HasNone w bytes false false true
+
+-- bytes begin with a head of which this is known
+pub record IsNoted (w : Wish) (bytes : List ℕ) (note : Note) : Type 0 where
+  pub long : head_size ≤ length bytes
+  pub noted : note_at w bytes ≡ Some note
+  pub fits : FitsNote w bytes note
+
+-- This was known of the head when the bytes were fewer.
+abbrev pub WasNoted : Wish → List ℕ → Note → Type 0
+WasNoted w bytes (N.Begun h) = head_at w.key bytes ≡ Some h
+WasNoted w bytes N.Damaged = IsNoted w bytes N.Damaged
+WasNoted w bytes N.Other = IsNoted w bytes N.Other
+
+-- what stands where bytes begin with a head
+abbrev pub IsSight : Wish → List ℕ → Sight → Type 0
+IsSight w bytes (V.Noted note) = IsNoted w bytes note
+IsSight w bytes (V.Found h) = wanted_at w bytes ≡ Some h
 
 -- at how many of the first n places of some bytes this is so
 abbrev pub count_before : (List ℕ → Bool) → List ℕ → ℕ → ℕ

@@ -2,7 +2,7 @@
 ghost use Rattle.std.specs.Prelude.{◌≡◌, ◌≤◌, Ok, length};
 ghost use Rattle.rq_bytes.specs.Refusals.{IsAnswer};
 ghost use Rattle.rq_cells.specs.Cells.{head_bytes, head_size, head_spelled, head_at, cell_size};
-ghost use Rattle.rq_cells.specs.Found.{HoldNoHead};
+ghost use Rattle.rq_cells.specs.Found.{HoldNoHead, IsNextHead};
 
 use crate::key::{CHECK_LENGTH, Key};
 use crate::parts::part;
@@ -36,6 +36,22 @@ pub(crate) fn headless_places(bytes: &[u8]) -> usize
 {
     let long = bytes.len().saturating_sub(HEAD_LENGTH - 1);
     memchr(MARK[0], &bytes[..long]).unwrap_or(long)
+}
+
+/// The first head at a place from one on.
+pub(crate) fn next_head(key: &Key, bytes: &[u8], from: usize) -> Option<(usize, Head)>
+    requires { from ≤ length bytes.now }
+    ensures { IsNextHead key.now bytes.now from result }
+{
+    let mut at = from;
+    'places: while at < bytes.len() {
+        at += headless_places(&bytes[at..]);
+        if let Some(head) = Head::read(key, &bytes[at..]) {
+            return Some((at, head));
+        }
+        at += 1;
+    }
+    None
 }
 
 /// Whose a cell is: a part of a stream.

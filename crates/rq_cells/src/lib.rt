@@ -11,6 +11,7 @@ mod long_heads;
 mod name;
 mod parts;
 mod scanner;
+mod search;
 mod wanted;
 
 pub use cell::{Cell, DIGEST_LENGTH, FoundCell, digest_of, write_check};
@@ -18,4 +19,5 @@ pub use head::{HEAD_LENGTH, Head, LAST_PART, NAME_LENGTH, STREAM_LENGTH};
 pub use key::Key;
 pub use name::part_name;
 pub use scanner::{CellScanner, Scan};
-pub use wanted::{Heads, Search, Wanted, first_wanted};
+pub use search::{CellSearch, first_wanted, remove_front};
+pub use wanted::{Heads, Search, Wanted};

@@ -1,9 +1,10 @@
-//! The first cell that a receiver takes.
-ghost use Rattle.std.specs.Prelude.{◌≡◌, IfOk, IfErr, true};
-ghost use Rattle.rq_cells.specs.Wanted.{wish_of, is_wanted, IsCandidate, IsSearch};
+//! Which cells a receiver takes first.
+ghost use Rattle.std.specs.Prelude.{◌≡◌, IfOk, IfErr, true, Some};
+ghost use Rattle.rq_cells.specs.Cells.{head_at};
+ghost use Rattle.rq_cells.specs.Wanted.{wish_of, is_wanted, IsSight, WasNoted};
 
 use crate::cell::Cell;
-use crate::head::{HEAD_LENGTH, Head, headless_places};
+use crate::head::Head;
 use crate::key::Key;
 use rq_bytes::error::Error;
 use rq_tables::systematic_constants::SystematicTable;
@@ -30,17 +31,22 @@ impl Wanted<'_> {
     }
 }
 
-/// What stands at a place of bytes in which no cell was taken yet.
-#[derive(Clone, Copy, Debug, PartialEq, Eq)]
-pub(crate) enum Candidate {
-    /// The bytes don't say it yet: they are too few.
-    Open,
-    /// Neither a wanted cell nor a head.
-    Nothing,
-    /// A wanted cell that is damaged behind its head.
+/// What is known of a head behind which no wanted cell is whole.
+#[derive(Clone, Copy)]
+pub(crate) enum Note {
+    /// It is wanted, and fewer bytes stand there than its cell has.
+    Begun(Head),
+    /// It is wanted, and its cell is damaged behind it.
     Damaged,
-    /// A head that isn't wanted.
+    /// It isn't wanted.
     Other,
+}
+
+/// What stands where bytes begin with a head.
+#[derive(Clone, Copy)]
+pub(crate) enum Sight {
+    /// No wanted cell yet.
+    Noted(Note),
     /// A wanted cell, with this head.
     Found(Head),
 }
@@ -72,59 +78,42 @@ pub enum Search {
     },
 }
 
-// What stands where these bytes begin.
-fn look(alloc: Global, wanted: &Wanted<'_>, bytes: &[u8]) -> Result<Candidate, Error>
-    ensures candidate { IfOk result (IsCandidate (wish_of wanted.now) bytes.now) }
+/// What stands where these bytes begin with a head.
+pub(crate) fn sight_of(
+    alloc: Global,
+    wanted: &Wanted<'_>,
+    head: Head,
+    bytes: &[u8],
+) -> Result<Sight, Error>
+    requires { head_at wanted.now.key.now bytes.now ≡ Some head }
+    ensures sight { IfOk result (IsSight (wish_of wanted.now) bytes.now) }
     ensures memory { IfErr result (λ e. e ≡ Error.OutOfMemory) }
 {
-    if bytes.len() < HEAD_LENGTH {
-        return Ok(Candidate::Open);
-    }
-    let Some(head) = Head::read(wanted.key, bytes) else {
-        return Ok(Candidate::Nothing);
-    };
     if !wanted.wants(&head) {
-        return Ok(Candidate::Other);
+        return Ok(Sight::Noted(Note::Other));
     }
     if bytes.len() < head.cell_length() {
-        return Ok(Candidate::Open);
+        return Ok(Sight::Noted(Note::Begun(head)));
     }
     Ok(match Cell::read(alloc, wanted.key, bytes)? {
-        Some(cell) => Candidate::Found(cell.head),
-        None => Candidate::Damaged,
+        Some(cell) => Sight::Found(cell.head),
+        None => Sight::Noted(Note::Damaged),
     })
 }
 
-/// The first wanted cell in bytes behind which others may come. A cell that is begun and not whole yet
-/// doesn't hold up one behind it. Refuses [`Error::OutOfMemory`] alone.
-pub fn first_wanted(alloc: Global, wanted: &Wanted<'_>, bytes: &[u8]) -> Result<Search, Error>
-    ensures search { IfOk result (IsSearch (wish_of wanted.now) bytes.now) }
+/// What stands where these bytes begin, of whose head this was known when they were fewer.
+pub(crate) fn sight_again(
+    alloc: Global,
+    wanted: &Wanted<'_>,
+    note: &Note,
+    bytes: &[u8],
+) -> Result<Sight, Error>
+    requires { WasNoted (wish_of wanted.now) bytes.now note.now }
+    ensures sight { IfOk result (IsSight (wish_of wanted.now) bytes.now) }
     ensures memory { IfErr result (λ e. e ≡ Error.OutOfMemory) }
 {
-    let mut heads = Heads::default();
-    let mut pending = None;
-    let mut at = 0;
-    'places: while at < bytes.len() {
-        at += headless_places(&bytes[at..]);
-        match look(alloc, wanted, &bytes[at..])? {
-            Candidate::Open => pending = pending.or(Some((at, heads))),
-            Candidate::Nothing => {}
-            Candidate::Damaged => heads.damaged += 1,
-            Candidate::Other => heads.others += 1,
-            Candidate::Found(head) => {
-                return Ok(Search::Found {
-                    at,
-                    head,
-                    before: heads,
-                });
-            }
-        }
-        at += 1;
+    match note {
+        Note::Begun(head) => sight_of(alloc, wanted, *head, bytes),
+        Note::Damaged | Note::Other => Ok(Sight::Noted(*note)),
     }
-    let (from, before) = pending.unwrap_or((bytes.len(), heads));
-    Ok(Search::NotYet {
-        from,
-        before,
-        all: heads,
-    })
 }

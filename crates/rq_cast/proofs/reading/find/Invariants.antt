@@ -6,8 +6,9 @@ use Rattle.rq_cast.proofs.reading.find.Given as goal
 -- no wanted cell is whole in what was read
 abbrev pub invariant-reading : goal.invariant-reading
 invariant-reading g l = record {
+  wish : l.search.wish ≡ wish_of l.fn.wanted;
   unfound : IsUnfound (wish_of l.fn.wanted) (g.R.Read.remaining l.fn.input.reader.inner)
       (g.R.Read.remaining l.input.reader.inner)
-      l._reads l.bytes.items l.settled l.seen;
+      l._reads l.search.bytes l.settled l.seen;
   counts : l.input.reader.failed ≡ l.fn.input.reader.failed;
 }

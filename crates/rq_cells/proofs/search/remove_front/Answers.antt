@@ -2,7 +2,7 @@ use Rattle.std.proofs.Common.{◌≡◌, ◌+◌, ◌-◌, length, take, drop, s
 use Rattle.std.specs.List.{copy_within}
 use Rattle.std.specs.Vec.{vec_len}
 use Rattle.std.proofs.lemmas.List.Edits.{take-paste}
-use Rattle.rq_cast.proofs.reading.remove_front.Goals as goal
+use Rattle.rq_cells.proofs.search.remove_front.Goals as goal
 
 pub returns : goal.returns
 returns c =
