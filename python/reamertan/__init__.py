@@ -22,6 +22,8 @@ from ._answers import Answer, Error
 from ._coders import Decoder, Encoder, SourceBlockDecoder, SourceBlockEncoder, SourceBlockEncodingPlan
 from ._configuration import ObjectTransmissionInformation, processor, version
 
+__version__ = version()
+
 __all__ = [
     "Answer",
     "Decoder",

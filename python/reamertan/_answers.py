@@ -37,7 +37,7 @@ class Error(ValueError):
 
     def __init__(self, number: int, text: str) -> None:
         super().__init__(number, text)
-        self.number = number
+        self.number = Answer(number)
         self.text = text
 
     def __str__(self) -> str:

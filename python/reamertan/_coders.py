@@ -1,16 +1,20 @@
 """Coders of objects and of blocks. Each keeps a pointer of the library, and nothing that the library has."""
 from __future__ import annotations
 
+import inspect
 import itertools
 import os
 import struct
 import threading
 from ctypes import addressof, byref, c_bool, c_uint32, c_uint64, c_void_p
-from typing import Any, Callable, TypeVar
+from typing import TYPE_CHECKING, Any, Callable, Iterable, Iterator, TypeVar
 
 from ._answers import Answer
 from ._configuration import PAYLOAD_ID_BYTES, ObjectTransmissionInformation
-from ._library import calls, exact, fresh, must, number
+from ._library import WRITABLE, calls, exact, fresh, lent, must, number
+
+if TYPE_CHECKING:
+    from _typeshed import ReadableBuffer, WriteableBuffer
 
 ENCODING_SYMBOL_IDS = 1 << 24
 # How many bytes of packets a call makes at a time, unless one packet has more: so few that their memory is used again.
@@ -40,25 +44,37 @@ class Coder:
     thread was using is lost, since that thread isn't there to end its call.
     """
 
-    __slots__ = ("_at", "_forks", "_lock")
+    __slots__ = ("__weakref__", "_at", "_forks", "_lock", "_subject")
+    # What help shows: what `__new__` takes is each kind's own.
+    __signature__ = inspect.Signature()
     _at: c_void_p
     _forks: int
     _lock: Any
+    # What it codes, to be shown.
+    _subject: object
     # The library's calls of its kind.
     _open: Any
     _close: Any
 
     def __new__(cls: type[_Any], *words: Any, **named: Any) -> _Any:
         made = super().__new__(cls)
-        made._lock, made._at, made._forks = threading.RLock(), c_void_p(), _forks
+        made._lock, made._at, made._forks, made._subject = threading.RLock(), c_void_p(), _forks, "nothing"
         return made
 
-    def _begin(self, *words: Any) -> None:
+    def __init_subclass__(cls) -> None:
+        _, *parameters = inspect.signature(cls.__init__).parameters.values()
+        cls.__signature__ = inspect.Signature(parameters if "__init__" in vars(cls) else [])
+
+    def __repr__(self) -> str:
+        return f"<{type(self).__name__} of {self._subject}{'' if self._at else ', closed'}>"
+
+    def _begin(self, subject: object, *words: Any) -> None:
         """Opens the coder, in the place of what it was."""
         other = [c_void_p()]
         try:
             must(self._open(byref(other[0]), *words))
             self._exchange(other)
+            self._subject = subject
         finally:
             self._close(byref(other[0]))
 
@@ -140,6 +156,15 @@ def batches(write: Callable[..., int], size: int, first: int, count: int) -> lis
     return packets
 
 
+def write_into(write: Callable[..., int], size: int, buffer: WriteableBuffer, first: int, count: int) -> int:
+    """Has a call fill the front of a buffer with packets of the ids from `first` on. Answers how many bytes these are."""
+    first = number(first, 32, "the first id")
+    count = number(count, 32, "the number of packets")
+    with lent(buffer, WRITABLE) as (at, length):
+        must(write(first, count, at, min(length, count * size)))
+    return count * size
+
+
 def configured(config: ObjectTransmissionInformation) -> bytes:
     """The 12 bytes of a configuration, whatever a class that is derived from it says."""
     if not isinstance(config, ObjectTransmissionInformation):
@@ -160,17 +185,21 @@ class Encoder(Coder):
     _open, _close = calls.encoder_open, calls.encoder_close
     _config: ObjectTransmissionInformation
 
-    def __init__(self, data: bytes, config: ObjectTransmissionInformation) -> None:
-        """The encoder of an object by this configuration. Neither is needed any more."""
-        data = exact(data)
-        self._begin(configured(config), data, len(data))
+    def __init__(self, data: ReadableBuffer, config: ObjectTransmissionInformation) -> None:
+        """The encoder of an object by this configuration. Neither is needed any more.
+
+        The object is any contiguous buffer, which isn't copied: its bytes mustn't change before this returns.
+        """
+        with lent(data) as words:
+            self._begin(config, configured(config), *words)
         self._config = config
 
     @staticmethod
-    def with_defaults(data: bytes, maximum_transmission_unit: int) -> Encoder:
-        """The encoder of an object in packets of at most so many bytes of payload."""
-        data = exact(data)
-        return Encoder(data, ObjectTransmissionInformation.with_defaults(len(data), maximum_transmission_unit))
+    def with_defaults(data: ReadableBuffer, maximum_transmission_unit: int) -> Encoder:
+        """The encoder of an object in packets of at most so many bytes of payload: by 1400 a packet has up to 1404, by its 4 bytes of id."""
+        with lent(data) as (_, length):
+            config = ObjectTransmissionInformation.with_defaults(length, maximum_transmission_unit)
+        return Encoder(data, config)
 
     def get_config(self) -> ObjectTransmissionInformation:
         """The object's configuration, which a receiver needs."""
@@ -186,6 +215,25 @@ class Encoder(Coder):
             packets += self.packets(block, 0, self._config.source_symbols(block) + repair)
         return packets
 
+    def packet_stream(self, repair_packets_per_block: int | None = None) -> Iterator[bytes]:
+        """Packets of all blocks in turn, id by id: of each source symbol of the largest block, and of so many repair symbols. Where no
+        number is said they don't end: each round has the ids that follow, and behind the last id they begin anew."""
+        end = ENCODING_SYMBOL_IDS
+        if repair_packets_per_block is not None:
+            repair = number(repair_packets_per_block, 32, "the number of repair packets")
+            must(calls.packets_length(configured(self._config), repair, byref(c_uint64())))
+            end = self._config.source_symbols(0) + repair
+        once = self._turns(end)
+        return once if repair_packets_per_block is not None else itertools.chain.from_iterable(self._turns(end) for _ in itertools.repeat(None))
+
+    def _turns(self, end: int) -> Iterator[bytes]:
+        """The packets of all blocks in turn, of the ids below an end."""
+        blocks = range(self._config.source_blocks)
+        at_once = max(1, BATCH // (PAYLOAD_ID_BYTES + self._config.symbol_size))
+        for start in range(0, end, at_once):
+            made = [self.packets(block, start, min(at_once, end - start)) for block in blocks]
+            yield from itertools.chain.from_iterable(zip(*made))
+
     def packet(self, block: int, encoding_symbol_id: int) -> bytes:
         """The packet of a source block and an encoding symbol id, below the block's source symbols that of one of these."""
         return self.packets(block, encoding_symbol_id, 1)[0]
@@ -195,6 +243,13 @@ class Encoder(Coder):
         block = number(block, 8, "a source block")
         size = PAYLOAD_ID_BYTES + self._config.symbol_size
         return batches(lambda *words: self._ask(calls.encoder_write, block, *words), size, first, count)
+
+    def packets_into(self, buffer: WriteableBuffer, block: int, first: int, count: int) -> int:
+        """Writes what `packets` returns into the front of a buffer, one behind another, and returns how many bytes they have. Raises an
+        `Error` where there is no room for all of them."""
+        block = number(block, 8, "a source block")
+        size = PAYLOAD_ID_BYTES + self._config.symbol_size
+        return write_into(lambda *words: self._ask(calls.encoder_write, block, *words), size, buffer, first, count)
 
 
 class SourceBlockEncodingPlan(Coder):
@@ -209,8 +264,8 @@ class SourceBlockEncodingPlan(Coder):
     @staticmethod
     def generate(symbol_count: int) -> SourceBlockEncodingPlan:
         """The plan for blocks of so many source symbols."""
-        made = SourceBlockEncodingPlan()
-        made._begin(number(symbol_count, 16, "the number of source symbols"))
+        made, count = SourceBlockEncodingPlan(), number(symbol_count, 16, "the number of source symbols")
+        made._begin(f"{count} symbols", count)
         return made
 
 
@@ -230,20 +285,26 @@ class SourceBlockEncoder(Coder):
 
     @staticmethod
     def with_encoding_plan(
-        source_block_id: int, config: ObjectTransmissionInformation, data: bytes, plan: SourceBlockEncodingPlan
+        source_block_id: int, config: ObjectTransmissionInformation, data: ReadableBuffer, plan: SourceBlockEncodingPlan
     ) -> SourceBlockEncoder:
-        """The encoder of a block with these bytes, which are all of it: where the object ends before it, zeros follow."""
+        """The encoder of a block with these bytes, which are all of it: where the object ends before it, zeros follow. They are a buffer as
+        `Encoder` takes."""
         if not isinstance(plan, SourceBlockEncodingPlan):
             raise TypeError(f"a SourceBlockEncodingPlan is needed, not {type(plan).__name__}")
-        data, words = exact(data), (configured(config), number(source_block_id, 8, "a source block"))
+        config_bytes, block = configured(config), number(source_block_id, 8, "a source block")
         made = SourceBlockEncoder()
         made._size = PAYLOAD_ID_BYTES + config.symbol_size
-        plan._ask(lambda at: made._begin(at, *words, data, len(data)))
+        with lent(data) as words:
+            plan._ask(lambda at: made._begin(f"block {block} of {config}", at, config_bytes, block, *words))
         return made
 
     def packets(self, first: int, count: int) -> list[bytes]:
         """So many packets of the block, of the encoding symbol ids from `first` on."""
         return batches(lambda *words: self._ask(calls.block_encoder_write, *words), self._size, first, count)
+
+    def packets_into(self, buffer: WriteableBuffer, first: int, count: int) -> int:
+        """Writes packets of the block into the front of a buffer, as `Encoder.packets_into` does."""
+        return write_into(lambda *words: self._ask(calls.block_encoder_write, *words), self._size, buffer, first, count)
 
 
 class Decoder(Coder):
@@ -256,33 +317,35 @@ class Decoder(Coder):
     True
     """
 
-    __slots__ = ("_config", "_handed", "_is_late", "_least", "_unread_at")
+    __slots__ = ("_answer", "_config", "_handed", "_is_late", "_least", "_unread_at")
     _open, _close = calls.decoder_open, calls.decoder_close
     _config: ObjectTransmissionInformation
     _handed: itertools.count[int]
     _is_late: bool
     _least: int
+    # What `decode` answered.
+    _answer: bytes | None
     # Where `decode` has a call write whether a block is complete.
     _unread_at: Any
 
     def __init__(self, config: ObjectTransmissionInformation) -> None:
         """The decoder of an object that was cut by this configuration."""
-        self._begin(configured(config))
+        self._begin(config, configured(config))
         # Fewer packets than there are source symbols determine no object. A count is taken in one step, whoever interrupts.
         self._handed, self._least = itertools.count(1), -(-config.transfer_length // config.symbol_size)
-        self._config, self._is_late, self._unread_at = config, False, byref(c_bool())
+        self._config, self._is_late, self._unread_at, self._answer = config, False, byref(c_bool()), None
 
     @staticmethod
     def with_defaults(transfer_length: int, maximum_transmission_unit: int) -> Decoder:
-        """The decoder of an object of so many bytes, in packets of at most so many bytes of payload."""
+        """The decoder of an object of so many bytes, in packets of at most so many bytes of payload: by 1400 they have up to 1404."""
         return Decoder(ObjectTransmissionInformation.with_defaults(transfer_length, maximum_transmission_unit))
 
     def get_config(self) -> ObjectTransmissionInformation:
         """The object's configuration."""
         return self._config
 
-    def decode(self, packet: bytes) -> bytes | None:
-        """Takes a packet. Answers the object once the packets that were taken determine it, and before that nothing.
+    def decode(self, packet: ReadableBuffer) -> bytes | None:
+        """Takes a packet. Answers the object once the packets that were taken determine it, each time the same bytes, and before that nothing.
 
         Raises an `Error` where the packet is refused: it is none of the object's, or contradicts others (`Answer.CONTRADICTION`).
         """
@@ -302,9 +365,21 @@ class Decoder(Coder):
             if not answer and not (self._is_late and _is_complete(at)):
                 return None
         must(answer)
-        return self.get_result()
+        if self._answer is None:
+            self._answer = self.get_result()
+        return self._answer
 
-    def add_packet(self, packet: bytes) -> bool:
+    def decode_from(self, packets: Iterable[ReadableBuffer]) -> bytes | None:
+        """Takes packets until they determine the object, and answers it; nothing, where they end before. It asks for no packet that isn't
+        needed, and raises an `Error` at the first that is refused, as `decode` does."""
+        return next((answer for answer in map(self.decode, packets) if answer is not None), None)
+
+    def close(self) -> None:
+        """Frees what the decoder holds, as that of each coder does."""
+        super().close()
+        self._answer = None
+
+    def add_packet(self, packet: ReadableBuffer) -> bool:
         """Takes a packet, and tells whether its source block is complete by it: then `block_bytes` has it. `packet[0]` is its number.
 
         Raises an `Error` where `decode` does.
@@ -314,7 +389,7 @@ class Decoder(Coder):
         must(self._ask(_add_packet, packet, len(packet), addressof(completes)))
         return completes.value
 
-    def add_packets(self, packets: bytes) -> None:
+    def add_packets(self, packets: ReadableBuffer) -> None:
         """Takes packets that lie one behind another, in one call. `get_result` has the object once they determine it.
 
         Raises an `Error` where they are no whole number of packets, and then none is taken, or where one is refused: those before it are
@@ -372,10 +447,10 @@ class SourceBlockDecoder(Coder):
         """The decoder of a block of an object that was cut by this configuration."""
         config_bytes, block = configured(config), number(source_block_id, 8, "a source block")
         length = len(config.block_range(block))
-        self._begin(config_bytes, block, length)
+        self._begin(f"block {block} of {config}", config_bytes, block, length)
         self._length = length
 
-    def add_packets(self, packets: bytes) -> None:
+    def add_packets(self, packets: ReadableBuffer) -> None:
         """Takes packets of the block that lie one behind another, or one alone, as `Decoder.add_packets` does."""
         packets = exact(packets)
         must(self._ask(calls.block_decoder_add_packets, packets, len(packets)))

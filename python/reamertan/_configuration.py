@@ -2,10 +2,14 @@
 from __future__ import annotations
 
 from ctypes import byref
+from typing import TYPE_CHECKING
 
 from . import _library
 from ._calls import Parameters, Range
 from ._library import calls, exact, fresh, must, number
+
+if TYPE_CHECKING:
+    from _typeshed import ReadableBuffer
 
 CONFIGURATION_BYTES = 12
 PAYLOAD_ID_BYTES = 4
@@ -42,7 +46,7 @@ class ObjectTransmissionInformation:
         self._bytes, self._numbers = written, numbers
 
     @staticmethod
-    def deserialize(data: bytes) -> ObjectTransmissionInformation:
+    def deserialize(data: ReadableBuffer) -> ObjectTransmissionInformation:
         """The configuration that any 12 bytes spell. Whether a coder takes it is what `check` says."""
         data = exact(data)
         if len(data) != CONFIGURATION_BYTES:
@@ -56,7 +60,7 @@ class ObjectTransmissionInformation:
     def with_defaults(
         transfer_length: int, max_packet_size: int, decoder_memory: int = DEFAULT_DECODER_MEMORY
     ) -> ObjectTransmissionInformation:
-        """The configuration of an object in packets of at most so many bytes of payload (RFC 6330, 4.3).
+        """The configuration of an object in packets of at most so many bytes of payload (RFC 6330, 4.3): by 1400 they have up to 1404.
 
         It is the Rust crate's and PyPI's. Of large objects it has large blocks: `cut` makes smaller ones, which are faster.
         """

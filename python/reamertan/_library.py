@@ -1,18 +1,23 @@
 """The library for C: where it is found, and its calls with what Python asks for around them.
 
 ctypes looks at little: it cuts numbers that are too great for their type, and takes the interpreter's lock away from a call. So all
-that reaches the library goes through `exact` and `number`, or is made here.
+that reaches the library goes through `exact`, `lent` and `number`, or is made here.
 """
 from __future__ import annotations
 
+import contextlib
 import ctypes
 import operator
 import os
-from ctypes import c_ssize_t, c_void_p, py_object
+from ctypes import POINTER, byref, c_char_p, c_ssize_t, c_void_p, py_object
 from types import SimpleNamespace
+from typing import TYPE_CHECKING, Any, Iterator
 
 from ._answers import Answer, Error
 from ._calls import CALLS
+
+if TYPE_CHECKING:
+    from _typeshed import ReadableBuffer, WriteableBuffer
 
 # Libraries of one interface have the same calls, so that a later one may stand in.
 INTERFACE = "0.1"
@@ -80,10 +85,41 @@ def number(value: int, bits: int, what: str) -> int:
     return value
 
 
-def exact(value: bytes) -> bytes:
-    """Bytes, and nothing that could change, or say another length than it has, while a call reads it."""
-    if type(value) is bytes:
-        return value
-    if isinstance(value, bytes):
-        return bytes(memoryview(value))
-    raise TypeError(f"bytes are needed, not {type(value).__name__}")
+class View(ctypes.Structure):
+    """What Python tells of an object's bytes (`Py_buffer`)."""
+
+    _fields_ = [
+        ("at", c_void_p),
+        ("owner", c_void_p),
+        ("length", c_ssize_t),
+        ("item_size", c_ssize_t),
+        ("is_read_only", ctypes.c_int),
+        ("dimensions", ctypes.c_int),
+        ("format", c_void_p),
+        ("shape", c_void_p),
+        ("strides", c_void_p),
+        ("suboffsets", c_void_p),
+        ("internal", c_void_p),
+    ]
+
+
+# Raises where an object has no bytes, or not one behind another.
+_get_view = ctypes.PYFUNCTYPE(ctypes.c_int, py_object, POINTER(View), ctypes.c_int)(("PyObject_GetBuffer", ctypes.pythonapi))
+_release_view = ctypes.PYFUNCTYPE(None, POINTER(View))(("PyBuffer_Release", ctypes.pythonapi))
+WRITABLE = 1
+
+
+@contextlib.contextmanager
+def lent(value: ReadableBuffer | WriteableBuffer, flags: int = 0) -> Iterator[tuple[Any, int]]:
+    """Where the bytes of an object stand and how many there are, as a call takes both. They aren't copied, and stay there."""
+    view = View()
+    _get_view(value, byref(view), flags)
+    try:
+        yield c_char_p(view.at), view.length
+    finally:
+        _release_view(byref(view))
+
+
+def exact(value: ReadableBuffer) -> bytes:
+    """Bytes, and nothing that could change, or say another length than it has, while a call reads it. Of others it has a copy."""
+    return value if type(value) is bytes else memoryview(value).tobytes()

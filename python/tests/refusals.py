@@ -71,7 +71,7 @@ class Refusals(unittest.TestCase):
         self.assertEqual(decoder.missing_packets(0), 10)
         self.refused(reamertan.Answer.UNKNOWN_BLOCK, decoder.add_packets, first + b"\1" + second[1:] + others[0])
         self.assertEqual(decoder.missing_packets(0), 9)
-        self.assertRaises(TypeError, decoder.add_packets, bytearray(first))
+        self.assertRaises(TypeError, decoder.add_packets, first.hex())
 
     def test_contradiction(self):
         """Ten packets that don't determine a block of ten symbols, one of them damaged, are met by those that would determine it."""
@@ -99,7 +99,7 @@ class Refusals(unittest.TestCase):
 
     def test_types(self):
         encoder, decoder = (reamertan.Encoder.with_defaults(bytes(500), 64), reamertan.Decoder.with_defaults(500, 64))
-        for wrong in (None, "x" * 68, bytearray(68), memoryview(bytes(68)), 68, [0] * 68, object()):
+        for wrong in (None, "x" * 68, 68, [0] * 68, object()):
             for call in (decoder.decode, lambda data: reamertan.Encoder.with_defaults(data, 64), reamertan.Decoder):
                 self.assertRaises(TypeError, call, wrong)
         for wrong in (None, "1", 1.5, b"1"):

@@ -1,9 +1,14 @@
 """Objects and configurations cross, whatever is lost."""
+import array
 import copy
 import doctest
+import inspect
+import itertools
+import mmap
 import pickle
 import random
 import unittest
+import weakref
 
 import reamertan
 from reamertan import _coders, _configuration
@@ -120,6 +125,92 @@ class RoundTrips(unittest.TestCase):
         decoder = reamertan.Decoder(config)
         self.assertEqual(received(decoder, encoder.packets(0, 0, 1) + encoder.packets(1, 0, 1)), b"abc")
         self.assertEqual([decoder.block_bytes(block) for block in range(5)], [b"ab", b"c", b"", b"", b""])
+
+
+class Buffers(unittest.TestCase):
+    def setUp(self):
+        self.data = object_of(9990)
+        self.config = reamertan.ObjectTransmissionInformation.cut(9990, 90, 60)
+        self.packets = reamertan.Encoder(self.data, self.config).get_encoded_packets(3)
+
+    def buffers(self, data):
+        """The same bytes in buffers of many kinds."""
+        mapped = mmap.mmap(-1, len(data))
+        mapped[:] = data
+        yield from (bytearray(data), memoryview(data), memoryview(b"x" + data)[1:], memoryview(bytearray(data)), mapped)
+        yield array.array("H", data)
+
+    def test_what_is_read(self):
+        joined = b"".join(self.packets)
+        for data in self.buffers(self.data):
+            self.assertEqual(reamertan.Encoder(data, self.config).get_encoded_packets(3), self.packets)
+            self.assertEqual(reamertan.Encoder.with_defaults(data, 90).get_config().transfer_length, 9990)
+        for packets in self.buffers(joined):
+            decoder = reamertan.Decoder(self.config)
+            decoder.add_packets(packets)
+            self.assertEqual(decoder.get_result(), self.data)
+        decoder = reamertan.Decoder(self.config)
+        self.assertEqual(decoder.decode_from(packet for whole in self.packets for packet in [bytearray(whole)]), self.data)
+        for header in self.buffers(self.config.serialize()):
+            self.assertEqual(reamertan.ObjectTransmissionInformation.deserialize(header), self.config)
+        self.assertRaises(BufferError, reamertan.Encoder, memoryview(self.data)[::2], self.config)
+
+    def test_what_is_written(self):
+        encoder, size = reamertan.Encoder(self.data, self.config), 94
+        plan = reamertan.SourceBlockEncodingPlan.generate(self.config.source_symbols(1))
+        place = self.config.block_range(1)
+        block = reamertan.SourceBlockEncoder.with_encoding_plan(1, self.config, memoryview(bytearray(self.data))[place.start : place.stop].toreadonly(), plan)
+        wanted = b"".join(encoder.packets(1, 40, 30))
+        for buffer in (bytearray(30 * size), bytearray(30 * size + 5), mmap.mmap(-1, 4096), array.array("B", bytes(30 * size))):
+            for call, *words in ((encoder.packets_into, buffer, 1), (block.packets_into, buffer)):
+                self.assertEqual(call(*words, 40, 30), len(wanted))
+                self.assertEqual(memoryview(buffer).cast("B")[: len(wanted)], wanted)
+        self.assertRaises(BufferError, encoder.packets_into, bytes(30 * size), 1, 40, 30)
+        with self.assertRaises(reamertan.Error) as met:
+            encoder.packets_into(bytearray(30 * size - 1), 1, 40, 30)
+        self.assertIs(met.exception.number, reamertan.Answer.WRONG_BUFFER)
+
+    def test_streams(self):
+        encoder, config = reamertan.Encoder(self.data, self.config), self.config
+        ids = [(block, id) for id in range(config.source_symbols(0) + 3) for block in range(config.source_blocks)]
+        self.assertEqual(list(encoder.packet_stream(3)), [encoder.packet(*id) for id in ids])
+        endless = encoder.packet_stream()
+        for _ in range(50):
+            next(endless)
+        self.assertEqual(reamertan.Decoder(config).decode_from(endless), self.data)
+        self.assertIsNone(reamertan.Decoder(config).decode_from(self.packets[3:50]))
+        # Nothing is asked for behind the last packet that is needed.
+        came = iter(self.packets)
+        reamertan.Decoder(config).decode_from(came)
+        self.assertEqual(len(list(came)), 3)
+        one = reamertan.Encoder(b"x", reamertan.ObjectTransmissionInformation(1, 65528, 1, 1, 1)).packet_stream()
+        self.assertEqual(next(itertools.islice(one, 2, None))[:4], bytes([0, 0, 0, 2]))
+        with self.assertRaises(reamertan.Error):
+            encoder.packet_stream(1 << 24)
+
+
+class Objects(unittest.TestCase):
+    def test_answers_once(self):
+        data = object_of(500)
+        encoder = reamertan.Encoder.with_defaults(data, 64)
+        decoder = reamertan.Decoder(encoder.get_config())
+        first = decoder.decode_from(encoder.packet_stream())
+        self.assertIs(decoder.decode(encoder.packet(0, 3)), first)
+
+    def test_what_they_show(self):
+        config = reamertan.ObjectTransmissionInformation(500, 50, 1, 1, 1)
+        plan = reamertan.SourceBlockEncodingPlan.generate(10)
+        coders = [reamertan.Encoder(bytes(500), config), reamertan.Decoder(config), plan]
+        coders += [reamertan.SourceBlockEncoder.with_encoding_plan(0, config, bytes(500), plan), reamertan.SourceBlockDecoder(0, config)]
+        of_block = f"block 0 of {config}"
+        for coder, subject in zip(coders, (config, config, "10 symbols", of_block, of_block)):
+            self.assertEqual(repr(coder), f"<{type(coder).__name__} of {subject}>")
+            self.assertIs(weakref.ref(coder)(), coder)
+            coder.close()
+            self.assertEqual(repr(coder), f"<{type(coder).__name__} of {subject}, closed>")
+        self.assertEqual(list(inspect.signature(reamertan.Encoder).parameters), ["data", "config"])
+        self.assertEqual(list(inspect.signature(reamertan.SourceBlockEncodingPlan).parameters), [])
+        self.assertEqual(reamertan.__version__, reamertan.version())
 
 
 class Configurations(unittest.TestCase):
