@@ -1,5 +1,6 @@
 """A model of cells and of their receivers, from docs/CELLS.md and RFC 6330 alone. It shares no code with the codec but the tables."""
 import functools
+import hmac
 from hashlib import sha512
 from typing import NamedTuple
 
@@ -129,6 +130,22 @@ def is_determined(symbols, ids):
     return eliminate(rows.received(ids) + rows.fixed, rows.length, rows.length, upwards=False) == rows.length
 
 
+def intermediate_of(symbols, received):
+    """The intermediate symbols of a block by what was received of ids that determine it. None where that contradicts itself."""
+    rows, size = rows_of(symbols), len(next(iter(received.values())))
+    values = [bytes(size)] * (rows.extended - symbols) + list(received.values())
+    behind = [int.from_bytes(value, "big") for value in values] + [0] * (rows.s + rows.h)
+    solved = [left << 8 * size | value for left, value in zip(rows.received(received) + rows.fixed, behind)]
+    assert eliminate(solved, rows.length, rows.length + size, upwards=True) == rows.length
+    return None if any(solved[rows.length :]) else [row & (1 << 8 * size) - 1 for row in solved[: rows.length]]
+
+
+def sum_of(symbols, size, intermediate, esi):
+    """The encoding symbol of an id."""
+    places = rows_of(symbols).places_of(esi)
+    return functools.reduce(lambda one, other: one ^ intermediate[other], places, 0).to_bytes(size, "big")
+
+
 class Block:
     """A source block, and its encoding symbols."""
 
@@ -137,19 +154,10 @@ class Block:
 
     @functools.cached_property
     def intermediate(self):
-        rows = rows_of(len(self.symbols))
-        values = [bytes(self.size)] * (rows.extended - len(self.symbols)) + self.symbols
-        behind = [int.from_bytes(value, "big") for value in values] + [0] * (rows.s + rows.h)
-        lefts = rows.received(range(len(self.symbols))) + rows.fixed
-        solved = [left << 8 * self.size | value for left, value in zip(lefts, behind)]
-        assert eliminate(solved, rows.length, rows.length + self.size, upwards=True) == rows.length
-        return [row & (1 << 8 * self.size) - 1 for row in solved[: rows.length]]
+        return intermediate_of(len(self.symbols), dict(enumerate(self.symbols)))
 
     def symbol(self, esi):
-        if esi < len(self.symbols):
-            return self.symbols[esi]
-        places = rows_of(len(self.symbols)).places_of(esi)
-        return functools.reduce(lambda one, other: one ^ self.intermediate[other], places, 0).to_bytes(self.size, "big")
+        return self.symbols[esi] if esi < len(self.symbols) else sum_of(len(self.symbols), self.size, self.intermediate, esi)
 
 
 class Configuration(NamedTuple):
@@ -190,40 +198,49 @@ def digest_of(data):
     return sha512(data).digest()[:32]
 
 
-def check_of(data):
-    return sha512(data).digest()[:8]
+def check_of(data, key):
+    """The check of bytes: by HMAC-SHA-512 (RFC 2104) where there is a key."""
+    return (hmac.digest(key, data, "sha512") if key else sha512(data).digest())[:8]
 
 
 SEAL = digest_of(b"")
 
 
-def head_of(stream, number, name, configuration):
+def name_of(number, configuration, symbols):
+    digests = b"".join(map(digest_of, symbols))
+    return sha512(number.to_bytes(4, "big") + configuration.to_bytes() + digests).digest()[:16]
+
+
+def head_of(stream, number, name, configuration, key):
     said = MARK + stream + number.to_bytes(4, "big") + name + configuration
-    return said + check_of(said)
+    return said + check_of(said, key)
 
 
-def cell_of(head, block, esi, symbol):
+def cell_of(head, block, esi, symbol, key):
     said = head + bytes([block]) + esi.to_bytes(3, "big")
-    return said + symbol + check_of(said + digest_of(symbol))
+    return said + symbol + check_of(said + digest_of(symbol), key)
+
+
+def cut(data, configuration):
+    """The source symbols of an object, of one sub-block a block: zeros fill up the last one."""
+    size = configuration.size
+    padded = data.ljust(sum(configuration.counts()) * size, b"\0")
+    return [padded[at : at + size] for at in range(0, len(padded), size)]
 
 
 class Object:
     """The only part of a stream of these bytes, with its configuration, of one sub-block a block. Its name, number or seal is another one where
     that is said."""
 
-    def __init__(self, data, configuration, name=None, number=LAST, seal=SEAL):
-        self.data, self.configuration = data, configuration
-        self.is_right = name is None and number == LAST and seal == SEAL
-        size, counts = configuration.size, configuration.counts()
-        padded = (data + seal).ljust(sum(counts) * size, b"\0")
-        symbols = [padded[at : at + size] for at in range(0, len(padded), size)]
-        digests = b"".join(map(digest_of, symbols))
-        name = name or sha512(number.to_bytes(4, "big") + configuration.to_bytes() + digests).digest()[:16]
-        self.head = head_of(name[:8], number, name, configuration.to_bytes())
+    def __init__(self, data, configuration, key, name=None, number=LAST, seal=SEAL):
+        self.data, self.configuration, self.key = data, configuration, key
+        counts, symbols = configuration.counts(), cut(data + seal, configuration)
+        name = name or name_of(number, configuration, symbols)
+        self.head = head_of(name[:8], number, name, configuration.to_bytes(), key)
         self.blocks = [Block(symbols[sum(counts[:block]) :][:count]) for block, count in enumerate(counts)]
 
     def cell(self, block, esi):
-        return cell_of(self.head, block, esi, self.blocks[block].symbol(esi))
+        return cell_of(self.head, block, esi, self.blocks[block].symbol(esi), self.key)
 
 
 class Place(NamedTuple):
@@ -235,21 +252,96 @@ class Place(NamedTuple):
     is_cell: bool
     block: int
     esi: int
+    symbol: bytes
 
 
-def places_in(data):
+def places_in(data, key):
     """The places of bytes where a head stands."""
     found, at = [], data.find(MARK)
     while at >= 0:
         head = data[at : at + HEAD]
-        if len(head) == HEAD and head[:44] + check_of(head[:44]) == head and head[37] == 0:
+        if len(head) == HEAD and head[:44] + check_of(head[:44], key) == head and head[37] == 0:
             end = at + AROUND + configuration_of(head).size
             symbol, check = data[at + HEAD + 4 : end - 8], data[end - 8 : end]
-            is_cell = end <= len(data) and check_of(data[at : at + HEAD + 4] + digest_of(symbol)) == check
+            is_cell = end <= len(data) and check_of(data[at : at + HEAD + 4] + digest_of(symbol), key) == check
             number = int.from_bytes(data[at + HEAD : at + HEAD + 4], "big")
-            found.append(Place(at, head, end, is_cell, number >> 24, number & 2**24 - 1))
+            found.append(Place(at, head, end, is_cell, number >> 24, number & 2**24 - 1, symbol))
         at = data.find(MARK, at + 1)
     return found
+
+
+class Part:
+    """What is received of a part: by the head of which most cells came, and of those that came since it began last."""
+
+    def __init__(self, head, objects):
+        self.objects, self.restarted, self.data = objects, 0, None
+        self.cells, self.rival = 0, None
+        self.begin(head)
+
+    def begin(self, head):
+        self.head, self.configuration = head, configuration_of(head)
+        self.made = next((thing for thing in self.objects if thing.head == head), None)
+        self.received = [{} for _ in range(self.configuration.blocks)]
+        self.answers = [None if count else [] for count in self.configuration.counts()]
+
+    def begin_anew(self, head):
+        self.restarted += 1
+        self.begin(head)
+
+    def is_outnumbered(self, head):
+        """Whether more cells of another head came, by this one. Then they change places."""
+        rival, count = self.rival or (head, 0)
+        count += 1 if rival == head else -1
+        self.rival = (rival, count) if count else None
+        if count <= self.cells:
+            return False
+        self.rival, self.cells = (self.head, self.cells), count
+        return True
+
+    def take(self, place):
+        if self.data is not None:
+            return
+        if place.head == self.head:
+            self.cells += 1
+        elif not configuration_of(place.head).is_taken() or not self.is_outnumbered(place.head):
+            return
+        else:
+            self.begin_anew(place.head)
+        if place.block < self.configuration.blocks:
+            self.take_symbol(place.block, place.esi, place.symbol)
+
+    def take_symbol(self, block, esi, symbol):
+        received, count = self.received[block], self.configuration.counts()[block]
+        if self.answers[block] is None:
+            received.setdefault(esi, symbol)
+            if not is_determined(count, received):
+                return
+            self.answers[block] = self.solved(block, count)
+        if self.answers[block] is None:
+            self.begin_anew(self.head)
+        elif None not in self.answers:
+            self.end(b"".join(b"".join(symbols) for symbols in self.answers)[: self.configuration.length])
+
+    def solved(self, block, count):
+        """The source symbols of a block that is determined. None where what was received contradicts itself."""
+        received = self.received[block]
+        if self.made and all(self.made.blocks[block].symbol(esi) == symbol for esi, symbol in received.items()):
+            return self.made.blocks[block].symbols
+        intermediate = intermediate_of(count, received)
+        return intermediate and [sum_of(count, self.configuration.size, intermediate, esi) for esi in range(count)]
+
+    def end(self, data):
+        """Takes an object for the part, where it is the only one, as the head says."""
+        number, name = int.from_bytes(self.head[12:16], "big"), self.head[16:32]
+        if number == LAST and data.endswith(SEAL) and name_of(number, self.configuration, cut(data, self.configuration)) == name:
+            self.data = data[: -len(SEAL)]
+        else:
+            self.begin_anew(self.head)
+
+    def missing(self):
+        """How many packets more its blocks need at least."""
+        needs = zip(self.configuration.counts(), self.received, self.answers)
+        return sum(max(count - len(received), 1) for count, received, answer in needs if answer is None)
 
 
 class Received(NamedTuple):
@@ -276,43 +368,30 @@ def find_first(places, name, ends):
     return next(((place, end) for end in ends for place in whole if place.end <= end), None)
 
 
-def missing_of(configuration, ids):
-    """How many packets more each block needs at least."""
-    counts = configuration.counts()
-    return [0 if is_determined(count, ids[block]) else max(count - len(ids[block]), 1) for block, count in enumerate(counts)]
-
-
-def receive(data, name, ends, objects):
-    """What a receiver makes of bytes that are read up to these ends, where the cells of a head are of one of these objects, or one cell stands alone."""
-    places = places_in(data)
+def receive(data, name, ends, objects, key):
+    """What a receiver makes of bytes that are read up to these ends. Of these objects cells may stand there, which spares the model work."""
+    places = places_in(data, key)
     found = find_first(places, name, ends)
     if not found:
         wanted = [is_wanted(place.head, name) for place in places]
         damaged = sum(is_one and place.end <= len(data) for is_one, place in zip(wanted, places))
-        return Received(len(data), {"cells": 0, "damaged": damaged, "others": len(places) - sum(wanted)}, b"", 2)
+        return Received(len(data), {"cells": 0, "damaged": damaged, "others": len(places) - sum(wanted), "restarted": 0}, b"", 2)
     first, front = found
-    head, configuration = first.head, configuration_of(first.head)
-    made = next((thing for thing in objects if thing.head == head and thing.is_right), None)
     before = [place for place in places if place.at < first.at]
     damaged = sum(is_wanted(place.head, name) and place.end <= front for place in before)
     others = sum(not is_wanted(place.head, name) for place in before)
-    ids, taken = [set() for _ in range(configuration.blocks)], 0
+    part, taken = Part(first.head, objects), 0
+    own = [place for place in places if place.at >= first.at and is_of_stream(place.head, first.head)]
     for end in (end for end in ends if end >= front):
-        cells = [place for place in places if place.is_cell and place.end <= end and place.head == head]
+        cells = [place for place in own if place.is_cell and place.end <= end]
         for place in cells[taken:]:
-            if place.block < len(ids):
-                ids[place.block].add(place.esi)
-        is_new, taken = len(cells) > taken, len(cells)
-        if is_new and not any(missing_of(configuration, ids)):
+            part.take(place)
+        taken = len(cells)
+        if part.data is not None:
             break
-    later = [place for place in places if place.at >= first.at and place.at + HEAD <= end]
-    own = [place for place in later if is_of_stream(place.head, head)]
     damaged += sum(place.end <= end and not place.is_cell for place in own)
-    known = sum(place.block < len(ids) for place in cells)
-    rivals = sum(place.end <= end and place.is_cell and place.head != head for place in own)
-    others += len(later) - len(own) + rivals + len(cells) - known
-    counts = {"cells": known, "damaged": damaged, "others": others}
-    missing = sum(missing_of(configuration, ids))
-    if missing:
-        return Received(len(data), {**counts, "missing": missing}, b"", 2)
-    return Received(end, counts, made.data, 0) if made else Received(end, counts, b"", 3)
+    others += sum(place.at >= first.at and place.at + HEAD <= end for place in places) - sum(place.at + HEAD <= end for place in own)
+    counts = {"cells": taken, "damaged": damaged, "others": others, "restarted": part.restarted}
+    if part.data is None:
+        return Received(len(data), {**counts, "missing": part.missing()}, b"", 2)
+    return Received(end, counts, part.data, 0)

@@ -1,16 +1,15 @@
 -- Which digests of source symbols are known, and that they are those of the object's symbols.
-use Rattle.std.proofs.Common.{◌≡◌, ◌≢◌, ℕ, zero, suc, ◌+◌, ◌-◌, ◌*◌, ◌/◌, ◌^◌, ◌<◌, ◌≤◌, min, List, [], ◌++◌, length, take, drop, get_or, Bool, true, false, cond, eqb, ltb, Option, Some, None, refl, sym, ap, subst, ◌∙◌, arith, inl, inr, length-append}
+use Rattle.std.proofs.Common.{◌≡◌, ◌≢◌, ℕ, zero, suc, ◌+◌, ◌-◌, ◌*◌, ◌^◌, ◌<◌, ◌≤◌, max, List, [], ◌++◌, length, take, drop, get_or, Bool, true, false, cond, eqb, ltb, Option, Some, None, refl, sym, ap, subst, ◌∙◌, arith, inl, inr, length-append}
 use Rattle.std.specs.Prelude.{IfSome, IsSome, option_map, is_none, ◌&&◌}
-use Rattle.std.specs.Int.{div_ceil}
 use Rattle.std.proofs.Math.Nat.{mul-le-mul_right}
-use Rattle.std.proofs.lemmas.Bool.{cases_lt, cases_eq, lt-ltb, le-ltb, eq-eqb, ne_eqb, eqb-true}
+use Rattle.std.proofs.lemmas.Bool.{cases_lt, cases_eq, lt-ltb, eq-eqb, ne_eqb, eqb-true}
 use Rattle.std.proofs.lemmas.List.{ext_get_or, length-take, length-drop, get_or-take, get_or_append_left, get_or-append_right}
 use Rattle.std.proofs.lemmas.Option.{same_Some}
 use Rattle.rq_standard.specs.Configuration.{Configuration, IsAligned}
-use Rattle.rq_standard.specs.Cutting.{block_symbols, symbols_before, sub_block_parts, larger_bytes, sub_block_size, sub_block_start, place_in_block, symbol_of_block, block_bytes}
+use Rattle.rq_standard.specs.Cutting.{block_symbols, symbols_before, sub_block_count, sub_block_parts, larger_bytes, sub_block_size, sub_block_start, place_in_block, symbol_of_block}
 use Rattle.rq_standard.specs.Packet.{Packet}
 use Rattle.rq_standard.specs.Received.{or_later}
-use Rattle.rq_standard.specs.ReceivedBlock.{ReceivedBlock, IsBlockWith, IsBlockAnswer, with_received}
+use Rattle.rq_standard.specs.ReceivedBlock.{ReceivedBlock, IsBlockWith, with_received}
 use Rattle.rq_standard.specs.DecoderState.{State, append_both, first_blocks, result_of}
 use Rattle.rq_standard.specs.DecoderSteps.{Adds, AddsOpen, AddsToBlock, kept_of}
 use Rattle.rq_standard.proofs.BlockCuts.{symbols_before-first, symbols_before-next, symbols_before-grows, block_byte}
@@ -21,7 +20,6 @@ use Rattle.rq_standard.proofs.StandingSteps.{length-symbol_of_block}
 use Rattle.raptorq.specs.BlockBytes.{bytes_of_block}
 use Rattle.raptorq.proofs.AnsweredParts.{AreLong}
 use Rattle.raptorq.proofs.EncodedBlocks.{bytes_of_block-byte}
-use Rattle.rq_block.specs.declared.sub_blocks.BlockLayout.{BlockLayout}
 use Rattle.rq_cells.specs.Cells.{digest_of}
 use Rattle.rq_cast.specs.declared.digests.KnownDigests.{KnownDigests}
 use Rattle.rq_cast.specs.Digests.{known, is_noted, KnowsSymbol, KnowsAll, KnowsDigests, Notes, last_width, AreWhole, KnowsSymbols}
@@ -35,10 +33,14 @@ narrowest c t = by (ltb t (larger_bytes c))
   where
     few : (sub_block_parts c).smaller ≤ (sub_block_parts c).larger
     few = omega arith
-
     by : (b : Bool) → last_width c ≤ cond b ((sub_block_parts c).larger * c.alignment) ((sub_block_parts c).smaller * c.alignment)
     by true = mul-le-mul_right c.alignment few
     by false = omega arith
+
+pub sub_block_count-max : (n : ℕ) → max n 1 ≡ sub_block_count n
+unfolding sub_block_count
+sub_block_count-max zero = omega arith
+sub_block_count-max (suc n) = omega arith
 
 -- Behind a symbol stand the last bytes of those behind it: its own bytes stand before them.
 module _ (c : Configuration) (aligned : IsAligned c) (e d t : ℕ) (below : t < c.symbol_size) where
@@ -70,7 +72,7 @@ module _ (c : Configuration) (aligned : IsAligned c) (e d t : ℕ) (below : t < 
       let first : sub_block_start c o ≡ o = b.part.start o (omega arith) (omega (arith, b.part.positive)) in
       let width : sub_block_size c o ≡ z = b.part.size o (omega arith) (omega (arith, b.part.positive)) in
       let next : sub_block_start c (o + z) ≡ o + z =
-      subst (λ n. sub_block_start c (o + n) ≡ o + n) width (next_start c o aligned (omega (arith, b.low)) first (omega (arith, width, more))) in
+          subst (λ n. sub_block_start c (o + n) ≡ o + n) width (next_start c o aligned (omega (arith, b.low)) first (omega (arith, width, more))) in
       let z' = sub_block_size c (o + z) in
       let room : o + z + z' ≤ c.symbol_size = omega (arith, (at_byte c (o + z) aligned more).part.room, next) in
       let narrow : w * d ≤ z' * d = mul-le-mul_right d (narrowest c (o + z)) in
@@ -89,7 +91,7 @@ are_whole c k n count whole aligned covered fits e t lt below =
     let d = k - e - 1 in
     let is : k ≡ e + 1 + d = omega arith in
     let low : place_in_block c k e t + last_width c * d < k * c.symbol_size =
-    subst (λ m. place_in_block c m e t + last_width c * d < m * c.symbol_size) (sym is) (place_before c aligned e d t below) in
+        subst (λ m. place_in_block c m e t + last_width c * d < m * c.symbol_size) (sym is) (place_before c aligned e d t below) in
     let many : count * last_width c ≤ d * last_width c = mul-le-mul_right (last_width c) (omega arith) in
     omega (arith, low, many, covered)
 
@@ -109,15 +111,15 @@ module _ (s : State) (long : AreLong s) where
   joined_more n front last within so is =
       let size : length last ≡ block_symbols c n * c.symbol_size = subst (λ o. IfSome o (λ xs. length xs ≡ block_symbols c n * c.symbol_size)) is (long n within) in
       let next : symbols_before c (n + 1) * c.symbol_size ≡ symbols_before c n * c.symbol_size + block_symbols c n * c.symbol_size =
-      ap (λ m. m * c.symbol_size) (symbols_before-next c n within) ∙ omega arith in
+          ap (λ m. m * c.symbol_size) (symbols_before-next c n within) ∙ omega arith in
       record {
         size = length-append front last ∙ omega (arith, so.size, size, next);
         byte = λ b i block below here few. elim (cases_lt b n) [
           | inl lt ↦
               let grows : symbols_before c (b + 1) * c.symbol_size ≤ symbols_before c n * c.symbol_size =
-              mul-le-mul_right c.symbol_size (symbols_before-grows c (b + 1) n (omega arith) (omega (arith, within))) in
+                  mul-le-mul_right c.symbol_size (symbols_before-grows c (b + 1) n (omega arith) (omega (arith, within))) in
               let this : symbols_before c (b + 1) * c.symbol_size ≡ symbols_before c b * c.symbol_size + block_symbols c b * c.symbol_size =
-              ap (λ m. m * c.symbol_size) (symbols_before-next c b (omega (arith, within))) ∙ omega arith in
+                  ap (λ m. m * c.symbol_size) (symbols_before-next c b (omega (arith, within))) ∙ omega arith in
               get_or_append_left front last 0 (symbols_before c b * c.symbol_size + i) (omega (arith, so.size, grows, this, few))
               ∙ so.byte b i block lt here few
           | inr past ↦
@@ -184,12 +186,10 @@ module _ (s : State) (long : AreLong s) where
       where
         some : IsSome (s.answer b)
         some = joined_each s.answer c.source_blocks (subst IsSome (sym joined) refl) b below
-
         same : (block d : List ℕ) (o : Option (List ℕ)) → s.answer b ≡ Some block → IfSome o (λ x. x ≡ digest_of (symbol_of_block c count block e))
             → IfSome o (λ x. x ≡ digest_of (symbol_of_block c count bytes e))
         same block d None here is = tt
         same block d (Some x) here is = is ∙ ap digest_of (symbol_is all joined block here)
-
         by : (a : Option (List ℕ)) → s.answer b ≡ a → IfSome (known k b e) (λ d. d ≡ digest_of (symbol_of_block c count bytes e))
         by None here = absurd (cc (subst IsSome here some))
         by (Some block) here = same block [] (known k b e) here
@@ -197,17 +197,13 @@ module _ (s : State) (long : AreLong s) where
 
   -- of an object that is answered its bytes have the symbols whose digests are known
   pub known_symbols : (object : List ℕ) → result_of s ≡ Some object → (k : KnownDigests) → KnowsDigests s k → (b : ℕ) → b < c.source_blocks
-      → (layout : BlockLayout) → layout.config ≡ c → layout.source_symbols ≡ block_symbols c b → (bytes : List ℕ) → bytes ≡ bytes_of_block c object b
-      → KnowsSymbols layout bytes b k
-  known_symbols object answered k knows b below layout configured counted bytes is e whole few lt are =
-      let whole_there : AreWhole c (block_symbols c b) (length (bytes_of_block c object b)) whole =
-      subst (λ xs. AreWhole c (block_symbols c b) (length xs) whole) is
-      (subst (λ n. AreWhole c n (length bytes) whole) counted (subst (λ x. AreWhole x layout.source_symbols (length bytes) whole) configured are)) in
-      let there = known_of object answered b e whole below whole_there lt k knows (subst (λ n. e < n) counted few)
-      (first_blocks c.source_blocks s.answer) refl in
-      let of_bytes = subst (λ xs. IfSome (known k b e) (λ d. d ≡ digest_of (symbol_of_block c (block_symbols c b) xs e))) (sym is) there in
-      let of_count = subst (λ n. IfSome (known k b e) (λ d. d ≡ digest_of (symbol_of_block c n bytes e))) (sym counted) of_bytes in
-      subst (λ x. IfSome (known k b e) (λ d. d ≡ digest_of (symbol_of_block x layout.source_symbols bytes e))) (sym configured) of_count
+      → (conf : Configuration) (count : ℕ) (bytes : List ℕ) → conf ≡ c → count ≡ block_symbols c b → bytes ≡ bytes_of_block c object b
+      → KnowsSymbols conf count bytes b k
+  known_symbols object answered k knows b below conf count bytes configured counted is =
+      subst (λ x. KnowsSymbols x count bytes b k) (sym configured)
+      (subst (λ n. KnowsSymbols c n bytes b k) (sym counted)
+      (subst (λ xs. KnowsSymbols c (block_symbols c b) xs b k) (sym is)
+      (λ e whole few lt are. known_of object answered b e whole below are lt k knows few (first_blocks c.source_blocks s.answer) refl)))
 
 -- ---- a packet more
 
@@ -257,9 +253,9 @@ module _ (s new : State) (p : Packet) (adds : Adds s p new) (old k : KnownDigest
   elsewhere b e below few apart =
       let stays = adds.elsewhere.other b below (λ is. apart (sym is)) in
       let none : known k b e ≡ known old b e =
-      notes b e (omega (arith, few, few_ids b below))
-      ∙ ap (λ x. or_later (known old b e) (cond (is_noted s p.id && (x && eqb p.id.esi e)) (Some digest) None)) (ne_eqb here b apart)
-      ∙ by (is_noted s p.id) in
+          notes b e (omega (arith, few, few_ids b below))
+          ∙ ap (λ x. or_later (known old b e) (cond (is_noted s p.id && (x && eqb p.id.esi e)) (Some digest) None)) (ne_eqb here b apart)
+          ∙ by (is_noted s p.id) in
       subst (λ x. KnowsSymbol conf b e (new.received b) (new.answer b) x) (sym none)
       (subst (λ a. KnowsSymbol conf b e (new.received b) a (known old b e)) (sym stays.1)
       (subst (λ h. KnowsSymbol conf b e h (s.answer b) (known old b e)) (sym stays.0) (knows b e below few)))
@@ -278,8 +274,8 @@ module _ (s new : State) (p : Packet) (adds : Adds s p new) (old k : KnownDigest
     in_answered block answered =
         let stays = subst (λ a. AddsToBlock (s.received here) a p (new.received here) (new.answer here)) answered adds.here in
         let same : known k here e ≡ known old here e =
-        noted ∙ ap (λ a. or_later (known old here e) (cond ((is_none a && ltb p.id.esi (block_symbols conf here)) && eqb p.id.esi e) (Some digest) None)) answered
-        ∙ or_later-none (known old here e) in
+            noted ∙ ap (λ a. or_later (known old here e) (cond ((is_none a && ltb p.id.esi (block_symbols conf here)) && eqb p.id.esi e) (Some digest) None)) answered
+            ∙ or_later-none (known old here e) in
         let was = subst (λ a. KnowsSymbol conf here e (s.received here) a (known old here e)) answered (knows here e below few) in
         subst (λ x. KnowsSymbol conf here e (new.received here) (new.answer here) x) (sym same)
         (subst (λ a. KnowsSymbol conf here e (new.received here) a (known old here e)) (sym stays.1) was)
@@ -292,12 +288,12 @@ module _ (s new : State) (p : Packet) (adds : Adds s p new) (old k : KnownDigest
     in_open unanswered =
         let opened = subst (λ a. AddsToBlock (s.received here) a p (new.received here) (new.answer here)) unanswered adds.here in
         let was : known old here e ≡ option_map digest_of ((s.received here).received e) =
-        subst (λ a. KnowsSymbol conf here e (s.received here) a (known old here e)) unanswered (knows here e below few) in
+            subst (λ a. KnowsSymbol conf here e (s.received here) a (known old here e)) unanswered (knows here e below few) in
         let now : known k here e ≡ option_map digest_of (behind.received e) =
-        noted ∙ ap (λ a. or_later (known old here e) (cond ((is_none a && ltb p.id.esi (block_symbols conf here)) && eqb p.id.esi e) (Some digest) None)) unanswered
-        ∙ ap (or_later (known old here e)) (noted_here p.id.esi e (block_symbols conf here) digest (eqb p.id.esi e) few refl)
-        ∙ ap (λ o. or_later o (cond (eqb p.id.esi e) (Some digest) None)) was
-        ∙ later_digest ((s.received here).received e) (eqb p.id.esi e) p.payload in
+            noted ∙ ap (λ a. or_later (known old here e) (cond ((is_none a && ltb p.id.esi (block_symbols conf here)) && eqb p.id.esi e) (Some digest) None)) unanswered
+            ∙ ap (or_later (known old here e)) (noted_here p.id.esi e (block_symbols conf here) digest (eqb p.id.esi e) few refl)
+            ∙ ap (λ o. or_later o (cond (eqb p.id.esi e) (Some digest) None)) was
+            ∙ later_digest ((s.received here).received e) (eqb p.id.esi e) p.payload in
         subst (λ x. KnowsSymbol conf here e (new.received here) (new.answer here) x) (sym now) (by (new.answer here) refl opened)
       where
         by : (a : Option (List ℕ)) → new.answer here ≡ a → AddsOpen (s.received here) p (new.received here) (new.answer here)

@@ -13,6 +13,7 @@ pub mod PartTaken
 pub mod Prepared
 pub mod Receiving
 pub mod Sealed
+pub mod SentReceived
 pub mod Searched
 pub mod SameHead
 pub mod SentCells

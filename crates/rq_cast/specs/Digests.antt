@@ -1,5 +1,5 @@
 -- Which digests of a part's source symbols are known, and what a decoder's packets do to them.
-use Rattle.std.specs.Prelude.{◌≡◌, ℕ, ◌+◌, ◌*◌, ◌/◌, ◌^◌, ◌<◌, List, length, Bool, Option, Some, None, option_map, IfSome, if◌then◌else◌, ◌==◌, ◌&&◌, is_none, nat_lt}
+use Rattle.std.specs.Prelude.{◌≡◌, ℕ, ◌*◌, ◌^◌, ◌<◌, List, length, Bool, Option, Some, None, option_map, IfSome, if◌then◌else◌, ◌==◌, ◌&&◌, is_none, nat_lt}
 use Rattle.std.specs.Ordering.{nat_cmp}
 use Rattle.std.specs.BTreeMap.{get}
 use Rattle.rq_standard.specs.Configuration.{Configuration}
@@ -8,7 +8,6 @@ use Rattle.rq_standard.specs.Packet.{SymbolId, id_number}
 use Rattle.rq_standard.specs.Received.{or_later}
 use Rattle.rq_standard.specs.ReceivedBlock.{ReceivedBlock}
 use Rattle.rq_standard.specs.DecoderState.{State}
-use Rattle.rq_block.specs.declared.sub_blocks.BlockLayout.{BlockLayout}
 use Rattle.rq_cells.specs.Cells.{digest_of}
 use Rattle.rq_cast.specs.declared.digests.KnownDigests.{KnownDigests}
 
@@ -58,7 +57,7 @@ abbrev pub AreWhole : Configuration → ℕ → ℕ → ℕ → Type 0
 AreWhole c k n whole = (e t : ℕ) → e < whole → t < c.symbol_size → place_in_block c k e t < n
 
 -- The known digests of a block's symbols are theirs, where no zeros fill them up.
-abbrev pub KnowsSymbols : BlockLayout → List ℕ → ℕ → KnownDigests → Type 0
-KnowsSymbols layout block b k =
-    (e whole : ℕ) → e < layout.source_symbols → e < whole → AreWhole layout.config layout.source_symbols (length block) whole
-    → IfSome (known k b e) (λ d. d ≡ digest_of (symbol_of_block layout.config layout.source_symbols block e))
+abbrev pub KnowsSymbols : Configuration → ℕ → List ℕ → ℕ → KnownDigests → Type 0
+KnowsSymbols c count block b k =
+    (e whole : ℕ) → e < count → e < whole → AreWhole c count (length block) whole
+    → IfSome (known k b e) (λ d. d ≡ digest_of (symbol_of_block c count block e))

@@ -1,6 +1,7 @@
 pub mod Digests
 pub mod Ids
 pub mod Input
+pub mod Laws
 pub mod Loss
 pub mod Missing
 pub mod Output

@@ -7,12 +7,14 @@ ghost use Rattle.rq_standard.specs.DecoderState.{result_of};
 ghost use Rattle.raptorq.specs.Decoder.{state_of};
 ghost use Rattle.rq_cells.specs.Cells.{digest_of};
 ghost use Rattle.rq_cast.specs.Parts.{source_digests};
-ghost use Rattle.rq_cast.specs.Digests.{last_width, AreWhole, KnowsSymbols};
+ghost use Rattle.rq_cast.specs.Digests.{last_width, AreWhole, KnowsSymbols, KnowsDigests};
 
 use crate::parts::bytes_of_block;
 use raptorq::base::{ENCODING_SYMBOL_IDS, PayloadId};
 use raptorq::error::Error;
-use raptorq::{BlockLayout, Decoder, ObjectTransmissionInformation, block_symbols};
+use raptorq::{
+    BlockLayout, Decoder, ObjectTransmissionInformation, block_symbols,
+};
 use rq_cells::{DIGEST_LENGTH, digest_of};
 use std::alloc::{AllocError, Global};
 use std::collections::BTreeMap;
@@ -26,7 +28,7 @@ pub(crate) struct KnownDigests {
 }
 
 impl KnownDigests {
-    ghost use Rattle.rq_cast.specs.Digests.{known, KnowsNone, KnowsDigests, NotesFirst, Notes};
+    ghost use Rattle.rq_cast.specs.Digests.{known, KnowsNone, NotesFirst, Notes};
 
     /// None of them.
     pub fn new(alloc: Global) -> KnownDigests
@@ -42,9 +44,7 @@ impl KnownDigests {
         requires { esi < 2 ^ 24 }
         ensures { result ≡ known self.now block esi }
     {
-        self.of
-            .get(&(u32::from(block) * ENCODING_SYMBOL_IDS + esi))
-            .copied()
+        self.of.get(&(u32::from(block) * ENCODING_SYMBOL_IDS + esi)).copied()
     }
 
     // Keeps the digest of a block's symbol, unless it has one of that id.
@@ -79,9 +79,7 @@ impl KnownDigests {
     {
         let block = id.source_block_number();
         let esi = id.encoding_symbol_id();
-        if decoder.block_bytes(block).is_some()
-            || esi >= block_symbols(&decoder.get_config(), block)
-        {
+        if decoder.block_bytes(block).is_some() || esi >= block_symbols(&decoder.get_config(), block) {
             return Ok(());
         }
         self.keep_first(block, esi, digest)
@@ -143,7 +141,7 @@ fn push_received(
 ) -> Result<(), AllocError>
     requires aligned { IsAligned layout.now.config }
     requires few { layout.now.source_symbols < 2 ^ 24 }
-    requires known { KnowsSymbols layout.now block.now number known.now }
+    requires known { KnowsSymbols layout.now.config layout.now.source_symbols block.now number known.now }
     ensures { OnOk result (digests.new.items ≡ digests.old.items
         ++ map (λ e. digest_of (symbol_of_block layout.now.config layout.now.source_symbols block.now e)) (range_with_len 0 layout.now.source_symbols)) }
 {

@@ -6,6 +6,7 @@ mod attempt;
 mod choice;
 mod digests;
 mod input;
+pub mod laws;
 mod loss;
 mod missing;
 mod order;
