@@ -176,6 +176,7 @@ module _ (table : List TableRow) (key : Key) (name : List ℕ) (before mid : Opt
 
     pub undetermined : (missing : ℕ) → TellsMissingPackets now.part.attempt.decoder missing → now.part.attempt.stream ≡ None
         → EndsUndetermined table key found found.bytes.items now mid after → DoesntDetermine table w before after missing seen
+    unfolding none_determined taken answers_head
     undetermined missing told none e = record {
       past = front ++ e.past;
       first = found.head;
@@ -256,11 +257,11 @@ module _ (table : List TableRow) (key : Key) (name : List ℕ) (before after : O
 
 -- ---- what is written of the stream
 
-module _ (bytes : List ℕ) (there then : Option (List ℕ)) where
-  pub written : (o : Outcome) → Ends (Ok o) there then (Ok (Some bytes)) → Appends there then bytes
+module _ (bytes : List ℕ) (there new : Option (List ℕ)) where
+  pub written : (o : Outcome) → Ends (Ok o) there new (Ok (Some bytes)) → Appends there new bytes
   written Written (xs, wanted, more) =
       let same : Some bytes ≡ Some xs = cc wanted in
-      subst (Appends there then) (sym (same_Some bytes xs same)) more
+      subst (Appends there new) (sym (same_Some bytes xs same)) more
   written Incomplete (wanted, kept) = absurd (cc wanted)
 
   module _ (table : List TableRow) (key : Key) (name : List ℕ) (before after : Option (List ℕ)) (n : ℕ) (h : Head) (object : List ℕ) (seen : Seen)
@@ -275,11 +276,11 @@ module _ (bytes : List ℕ) (there then : Option (List ℕ)) where
       seen_there = inr (d.first, d.received, d.seen);
     }
 
-    pub not_written : IsStream h object bytes → (stop : Stop) → Ends (Err stop) there then (Ok (Some bytes))
-        → EndsReceiving table key name (Err stop) seen before after n there then
+    pub not_written : IsStream h object bytes → (stop : Stop) → Ends (Err stop) there new (Ok (Some bytes))
+        → EndsReceiving table key name (Err stop) seen before after n there new
     not_written is (Refused e) (inl memory, kept) = (memory, all_seen, kept)
     not_written is (Refused e) (inr wanted, kept) = absurd (cc wanted)
     not_written is Fault (inl kept) = inl (all_seen, kept)
     not_written is Fault (inr (xs, count, wanted, more)) =
         let same : Some bytes ≡ Some xs = cc wanted in
-        inr (h, object, bytes, d, is, (count, subst (λ ys. Appends there then (take count ys)) (sym (same_Some bytes xs same)) more))
+        inr (h, object, bytes, d, is, (count, subst (λ ys. Appends there new (take count ys)) (sym (same_Some bytes xs same)) more))

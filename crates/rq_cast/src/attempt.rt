@@ -1,5 +1,5 @@
 //! An attempt at a part.
-ghost use Rattle.std.specs.Prelude.{◌≡◌, ◌<◌, [], ◌∷◌, OnOk, IfOk, IfErr, None};
+ghost use Rattle.std.specs.Prelude.{◌≡◌, ◌≢◌, ◌<◌, [], ◌∷◌, OnOk, IfOk, IfErr, None, false};
 ghost use Rattle.rq_bytes.specs.Refusals.{IsRefusal};
 ghost use Rattle.rq_standard.specs.TableRows.{greatest_size};
 ghost use Rattle.rq_standard.specs.Following.{FollowsRun};
@@ -26,6 +26,17 @@ pub(crate) struct Attempt {
     pub stream: Option<Vec<u8>>,
 }
 
+// A refused packet ends an attempt, unless memory is wanting.
+fn end_unless_memory(refusal: Error) -> Result<bool, Error>
+    ensures ends { IfOk result (λ goes_on. (goes_on ≡ false) × (refusal ≢ Error.OutOfMemory)) }
+    ensures memory { IfErr result (λ e. e ≡ Error.OutOfMemory) }
+{
+    match refusal {
+        Error::OutOfMemory => Err(Error::OutOfMemory),
+        _ => Ok(false),
+    }
+}
+
 impl Attempt {
     ghost use Rattle.rq_cast.specs.PartReceiving.{IsTakenHead, IsAttempt, IsUnlooked, LooksAt, TakesOrFails};
 
@@ -39,9 +50,10 @@ impl Attempt {
     {
         head.configuration.check(table)?;
         let decoder = Decoder::new(alloc, table, head.configuration)?;
+        let known = KnownDigests::new(alloc);
         Ok(Attempt {
             decoder,
-            known: KnownDigests::new(alloc),
+            known,
             stream: None,
         })
     }
@@ -67,8 +79,7 @@ impl Attempt {
         self.known.note(&self.decoder, packet.payload_id(), digest)?;
         match self.decoder.add_new_packet(packet) {
             Ok(()) => self.look(alloc, head),
-            Err(Error::OutOfMemory) => Err(Error::OutOfMemory),
-            Err(_) => Ok(false),
+            Err(refusal) => end_unless_memory(refusal),
         }
     }
 

@@ -31,6 +31,7 @@ impl PartReceiver {
     /// A receiver of the part with a head, before any cell. Refuses what
     /// [`Decoder::new`](raptorq::Decoder::new) refuses.
     pub fn new(alloc: Global, table: &SystematicTable, head: Head) -> Result<PartReceiver, Error>
+        ensures accepted { OnOk result (IsTakenHead table.now head) }
         ensures sound { IfOk result (IsSound table.now) }
         ensures taken { IfOk result (HasTaken table.now head []) }
         ensures refused { IfErr result (λ e. IsRefusal e (checked_configuration (greatest_size table.now) head.configuration)) }

@@ -53,7 +53,7 @@ pub(crate) struct Receiver {
 }
 
 impl Receiver {
-    ghost use Rattle.rq_cast.specs.PartReceiving.{IsSound};
+    ghost use Rattle.rq_cast.specs.PartReceiving.{IsTakenHead, IsSound};
     ghost use Rattle.rq_cast.specs.Receiving.{SeesAll, SeesNothingMore, HasRead, HasReadAll, ReadsAll};
 
     // A receiver of the stream that was found, which has taken nothing yet.
@@ -63,6 +63,7 @@ impl Receiver {
         key: &Key,
         found: Found,
     ) -> Result<Receiver, Error>
+        ensures accepted { OnOk result (IsTakenHead table.now found.head) }
         ensures read { IfOk result (HasRead table.now key.now found found.bytes.items) }
         ensures sound { IfOk result (λ r. IsSound table.now r.part) }
         ensures refused { IfErr result (λ e. IsRefusal e (checked_configuration (greatest_size table.now) found.head.configuration)) }

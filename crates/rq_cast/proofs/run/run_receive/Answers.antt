@@ -17,7 +17,7 @@ use Rattle.rq_cast.proofs.Failing.{counted_reads, counted_writes}
 use Rattle.rq_cast.proofs.Ended.{only_memory, sees_none, stopped, seen_so_far, undetermined, determined, written, not_written}
 use Rattle.rq_cast.proofs.run.run_receive.Goals as goal
 use Rattle.rq_cast.proofs.run.run_receive.Given.{Over}
-use Rattle.rq_cast.proofs.run.run_receive.Goals.{In-Some, In_ok-receive, In-Some-2}
+use Rattle.rq_cast.proofs.run.run_receive.Goals.{In-Some, In_ok-receive, In-Some-take}
 
 -- the first wanted cell was found
 found_first : (g : Over) (c : In-Some g) → FindsFirst (wish_of c.args.wanted.now)
@@ -83,9 +83,9 @@ none_of : (o : Option (Vec ℕ Global)) → ((v : Vec ℕ Global) → o ≡ Some
 none_of None not = refl
 none_of (Some v) not = absurd (not v refl)
 
-pub returns-in_default-2-clause-ends : goal.returns-in_default-2-clause-ends
-returns-in_default-2-clause-ends g c =
-    let at = goal.at.returns-in_default-2-clause-ends g c in
+pub returns-in_default-take-clause-ends : goal.returns-in_default-take-clause-ends
+returns-in_default-take-clause-ends g c =
+    let at = goal.at.returns-in_default-take-clause-ends g c in
     let first = found_first g at.In-Some in
     let w = c.args.wanted.now in
     let found = c.in-Some.found in
@@ -93,7 +93,7 @@ returns-in_default-2-clause-ends g c =
     let mid = g.R.Read.remaining (source c.find.new.input) in
     let after = g.R.Read.remaining (source c.receive.new.input) in
     let now = c.receive.new.receiver in
-    let none : now.part.attempt.stream ≡ None = sym c.take.ensures.result ∙ none_of c.take.result c.in_default-2.not-Some in
+    let none : now.part.attempt.stream ≡ None = sym c.take.ensures.value ∙ none_of c.take.result c.in_default-take.not-Some in
     let ended = subst
     (λ (o : Option (Vec ℕ Global)). MatchOption o (EndsUndetermined w.table.now w.key.now found found.bytes.items now mid after)
     (λ _. EndsDetermined w.table.now w.key.now found found.bytes.items now mid after (last_length c.find.new.input) (last_length c.receive.new.input)))
@@ -104,7 +104,7 @@ returns-in_default-2-clause-ends g c =
     )
 
 -- the stream is determined
-module _ (g : Over) (c : In-Some-2 g) where
+module _ (g : Over) (c : In-Some-take g) where
   abbrev w : Wanted
   w = c.args.wanted.now
 
@@ -126,8 +126,8 @@ module _ (g : Over) (c : In-Some-2 g) where
   first : FindsFirst (wish_of w) before mid (last_length c.find.new.input) found.head found.bytes.items found.seen
   first = subst (λ o. Searches (wish_of w) before mid (last_length c.find.new.input) c.find.new.seen o) c.in-Some.is c.in_ok-found.ensures.searches
 
-  some : now.part.attempt.stream ≡ Some c.in-Some-2.bytes
-  some = sym c.take.ensures.result ∙ c.in-Some-2.is
+  some : now.part.attempt.stream ≡ Some c.in-Some-take.bytes
+  some = sym c.take.ensures.value ∙ c.in-Some-take.is
 
   ended : EndsDetermined w.table.now w.key.now found found.bytes.items now mid after (last_length c.find.new.input) (last_length c.receive.new.input)
   ended =
@@ -137,34 +137,34 @@ module _ (g : Over) (c : In-Some-2 g) where
       some (c.in_ok-receive.ensures.receives w.key.now found found.bytes.items c.in_ok-receiver.ensures.read)
 
   found_stream : (object : List ℕ) × Determines w.table.now (wish_over w.table.now w.key.now w.name.now) before after (last_length c.receive.new.input)
-      now.part.choice.head object c.receive.new.seen × IsStream now.part.choice.head object c.in-Some-2.bytes.items
+      now.part.choice.head object c.receive.new.seen × IsStream now.part.choice.head object c.in-Some-take.bytes.items
   found_stream =
       determined w.table.now w.key.now w.name.now before mid found (last_length c.find.new.input) first after (last_length c.receive.new.input) now
-      c.receive.new.seen c.receive.ensures.seen ended c.in-Some-2.bytes some
+      c.receive.new.seen c.receive.ensures.seen ended c.in-Some-take.bytes some
 
 pub returns-clause-ends : goal.returns-clause-ends
 returns-clause-ends g c =
-    let at = (goal.at.returns-clause-ends g c).In-Some-2 in
+    let at = (goal.at.returns-clause-ends g c).In-Some-take in
     let (object, d, is) = found_stream g at in
     let there = g.W.Write.contents (inner c.args.writer.now) in
     let then = g.W.Write.contents (inner c.finish.new.writer) in (
       c.receive.new.receiver.part.choice.head,
       object,
-      c.in-Some-2.bytes.items,
+      c.in-Some-take.bytes.items,
       d,
       is,
-      written c.in-Some-2.bytes.items there then c.in_ok-finish.field-0 c.in_ok-finish.ensures.ends,
+      written c.in-Some-take.bytes.items there then c.in_ok-finish.field-0 c.in_ok-finish.ensures.ends,
     )
 
 pub returns-in_err-finish-clause-ends : goal.returns-in_err-finish-clause-ends
 returns-in_err-finish-clause-ends g c =
-    let at = (goal.at.returns-in_err-finish-clause-ends g c).In-Some-2 in
+    let at = (goal.at.returns-in_err-finish-clause-ends g c).In-Some-take in
     let (object, d, is) = found_stream g at in
     let w = c.args.wanted.now in
     let there = g.W.Write.contents (inner c.args.writer.now) in
     let then = g.W.Write.contents (inner c.finish.new.writer) in
     let q = err_from_is_err_and c.from_residual-in_err-finish.result c.from_residual-in_err-finish.ensures.1 in
-    rw (q.1, q.2) (not_written c.in-Some-2.bytes.items there then w.table.now w.key.now w.name.now
+    rw (q.1, q.2) (not_written c.in-Some-take.bytes.items there then w.table.now w.key.now w.name.now
     (g.R.Read.remaining (source c.args.input.now)) (g.R.Read.remaining (source c.receive.new.input)) (last_length c.receive.new.input)
     c.receive.new.receiver.part.choice.head object c.receive.new.seen d is c.in_err-finish.field-0.0 c.in_err-finish.ensures.ends)
 

@@ -11,6 +11,6 @@ returns-clause-attempt c =
     record {
       few = c.in_ok-check.ensures.few;
       configuration = new.configuration;
-      knows = knows_none table k state new c.new.result c.new.ensures;
+      knows = knows_none table k state new c.new-known.result c.new-known.ensures;
       stream = no_stream_yet table k state new c.args.head.now;
     }

@@ -1,8 +1,10 @@
-use Rattle.std.proofs.Common.{◌≡◌, refl, arith}
+use Rattle.std.proofs.Common.{◌≡◌, refl, arith, rules}
+use Rattle.rq_cells.specs.Found.{source_of}
 use Rattle.rq_cast.proofs.Receiving.{read_none}
 use Rattle.rq_cast.proofs.receiver.Receiver.empty.Goals as goal
 
 pub returns-clause-read : goal.returns-clause-read
 returns-clause-read c =
-    read_none c.args.table.now c.args.key.now c.args.found _ c.new-scanner.ensures refl c.in_ok-part.ensures.taken refl
+    let scanner : c.new-scanner.result ≡ source_of c.args.key.now c.args.found.head = search rules in
+    read_none c.args.table.now c.args.key.now c.args.found _ scanner refl c.in_ok-part.ensures.taken refl
     (omega arith) (omega arith) (omega arith)

@@ -1,4 +1,4 @@
-use Rattle.std.proofs.Common.{◌≡◌, length, subst, ◌∙◌, arith}
+use Rattle.std.proofs.Common.{◌≡◌, refl, subst, arith}
 use Rattle.rq_cells.specs.Scans.{Settles}
 use Rattle.rq_cast.proofs.Receiving.{reads_all}
 use Rattle.rq_cast.proofs.receiver.Receiver.take_cells.Goals as goal
@@ -8,11 +8,10 @@ returns-clause-reads c = λ key found all has.
     let old = c.args.self.now in
     let settles : Settles old.scanner old.bytes.items c.in_ok-scan.scan =
     subst (λ xs. Settles old.scanner xs c.in_ok-scan.scan) c.as_slice.ensures.value c.in_ok-scan.ensures.scan in
-    let seen = record {
+    reads_all c.args.table.now key found all old _ has c.in_ok-scan.scan settles c.in_ok-scan.ensures.same c.remove_front.ensures
+    c.in_ok-take_all.ensures.takes (record {
       cells = omega (arith, c.saturating_add-self.ensures, c.with-self.ensures.cells);
       damaged = c.with-self.ensures.damaged;
       others = c.with-self.ensures.others;
       restarted_is = refl;
-    } in
-    reads_all c.args.table.now key found all old _ has c.in_ok-scan.scan settles c.in_ok-scan.ensures.same c.remove_front.ensures
-    c.in_ok-take_all.ensures.takes seen
+    })
