@@ -1,5 +1,5 @@
 -- A walk over the places of bytes.
-use Rattle.std.proofs.Common.{◌≡◌, ℕ, zero, suc, ◌+◌, ◌-◌, ◌<◌, ◌≤◌, List, [], ◌∷◌, ◌++◌, length, take, drop, arith, refl, sym, ap, subst, ◌∙◌, Some, None, Option, true, false, get_or, length-append, append-nil, drop-drop, ◌⊎◌, inl, inr}
+use Rattle.std.proofs.Common.{◌≡◌, ℕ, zero, suc, ◌+◌, ◌-◌, ◌^◌, ◌<◌, ◌≤◌, List, [], ◌∷◌, ◌++◌, length, take, drop, arith, refl, sym, ap, subst, ◌∙◌, Some, None, Option, true, false, get_or, length-append, append-nil, drop-drop, ◌⊎◌, inl, inr}
 use Rattle.std.specs.List.{cons_option}
 use Rattle.std.specs.Prelude.{option_map, unwrap_or, IfSome}
 use Rattle.std.proofs.lemmas.List.{length-drop, drop-append-le, take_all, take_more, take_rest}
@@ -16,7 +16,7 @@ use Rattle.rq_cells.specs.declared.search.Walked.{Walked}
 use Rattle.rq_cells.specs.Cells.{head_size, head_at}
 use Rattle.rq_cells.specs.Found.{IsNextHead}
 use Rattle.rq_cells.specs.Wanted.{Wish, wanted_at, note_of, note_at, IsNoted, WasNoted, IsSight, is_undecided, HasNoWanted, IsSearch}
-use Rattle.rq_cells.specs.Search.{noted_before, IsLookedAt, Continues, open_place, SearchedTo, IsWalkTo, IsWalk, no_heads, IsFresh, CanNote, heads_with, pending_with, notes_with, Notes, IsAtFirst, IsFound, IsEnd, IsWalked, place_of}
+use Rattle.rq_cells.specs.Search.{noted_before, IsLookedAt, Continues, open_place, SearchedTo, HasWalkedTo, HasWalked, no_heads, IsFresh, CanNote, heads_with, pending_with, notes_with, Notes, IsAtFirst, IsFound, IsEnd, IsWalked, place_of}
 use Rattle.rq_cells.proofs.Scanning.{same_head_at}
 use Rattle.rq_cells.proofs.WantedCells.{headed_is_long, nothing_without_head, searched_more, searched_open, searched_long}
 use Rattle.rq_cells.proofs.NotedHeads.{no_head, none_between, last_of_same, entry, IsEntry, was_noted}
@@ -53,7 +53,7 @@ module _ (w : Wish) (bytes : List ℕ) where
 
   -- where no head begins
   nothing_there : (at : ℕ) (heads : Heads) (pending : Option (ℕ × Heads)) (notes : List Noted) → head_size ≤ length (drop at bytes)
-      → head_at w.key (drop at bytes) ≡ None → IsWalkTo w bytes at heads pending notes → IsWalkTo w bytes (at + 1) heads pending notes
+      → head_at w.key (drop at bytes) ≡ None → HasWalkedTo w bytes at heads pending notes → HasWalkedTo w bytes (at + 1) heads pending notes
   nothing_there at heads pending notes long none walk = record {
     enough = enough_more at walk.enough long;
     searched =
@@ -75,8 +75,8 @@ module _ (w : Wish) (bytes : List ℕ) where
 
   -- behind a head of which this is known
   pub noted_there : (at : ℕ) (heads : Heads) (pending : Option (ℕ × Heads)) (notes : List Noted) (note : Note) → IsNoted w (drop at bytes) note
-      → IsWalkTo w bytes at heads pending notes
-      → IsWalkTo w bytes (at + 1) (heads_with heads note) (pending_with pending at heads note) (notes_with (pending_with pending at heads note) at notes note)
+      → HasWalkedTo w bytes at heads pending notes
+      → HasWalkedTo w bytes (at + 1) (heads_with heads note) (pending_with pending at heads note) (notes_with (pending_with pending at heads note) at notes note)
   noted_there at heads pending notes note is walk = record {
     enough = enough_more at walk.enough is.long;
     searched = searched note is;
@@ -117,10 +117,10 @@ module _ (w : Wish) (bytes : List ℕ) where
   -- and behind places where no head begins
   pub skipped : (n at to : ℕ) (heads : Heads) (pending : Option (ℕ × Heads)) (notes : List Noted) → at + n ≡ to
       → ((i : ℕ) → i < to → head_size ≤ length (drop i bytes)) → ((i : ℕ) → at ≤ i → i < to → head_at w.key (drop i bytes) ≡ None)
-      → IsWalkTo w bytes at heads pending notes → IsWalkTo w bytes to heads pending notes
+      → HasWalkedTo w bytes at heads pending notes → HasWalkedTo w bytes to heads pending notes
   skipped zero at to heads pending notes is enough none walk =
       let same : at ≡ to = omega (arith, is) in
-      subst (λ i. IsWalkTo w bytes i heads pending notes) same walk
+      subst (λ i. HasWalkedTo w bytes i heads pending notes) same walk
   skipped (suc n) at to heads pending notes is enough none walk =
       let less : at < to = omega (arith, is) in
       skipped n (at + 1) to heads pending notes (omega (arith, is)) enough (λ i from below. none i (omega (arith, from)) below)
@@ -132,19 +132,19 @@ module _ (w : Wish) (bytes : List ℕ) where
 
   pub skipped_to : (at to : ℕ) (heads : Heads) (pending : Option (ℕ × Heads)) (notes : List Noted) → at ≤ to
       → ((i : ℕ) → i < to → head_size ≤ length (drop i bytes)) → ((i : ℕ) → at ≤ i → i < to → head_at w.key (drop i bytes) ≡ None)
-      → IsWalkTo w bytes at heads pending notes → IsWalkTo w bytes to heads pending notes
+      → HasWalkedTo w bytes at heads pending notes → HasWalkedTo w bytes to heads pending notes
   skipped_to at to heads pending notes few enough none walk = skipped (to - at) at to heads pending notes (omega (arith, few)) enough none walk
 
 -- ---- the beginning and the end
 
 -- what is said of a walk, by what it holds
 by_fields : (w : Wish) (bytes : List ℕ) (walk : Walk) (at : ℕ) (heads : Heads) (pending : Option (ℕ × Heads)) (notes : List Noted)
-    → walk.at ≡ at → walk.heads ≡ heads → walk.pending ≡ pending → walk.notes.items ≡ notes → IsWalkTo w bytes at heads pending notes → IsWalk w bytes walk
+    → walk.at ≡ at → walk.heads ≡ heads → walk.pending ≡ pending → walk.notes.items ≡ notes → HasWalkedTo w bytes at heads pending notes → HasWalked w bytes walk
 by_fields w bytes walk at heads pending notes at_is heads_is pending_is notes_is is =
-    subst (λ (s : (ℕ × Heads) × (Option (ℕ × Heads) × List Noted)). IsWalkTo w bytes s.0.0 s.0.1 s.1.0 s.1.1)
+    subst (λ (s : (ℕ × Heads) × (Option (ℕ × Heads) × List Noted)). HasWalkedTo w bytes s.0.0 s.0.1 s.1.0 s.1.1)
     (λ i. ((sym at_is i, sym heads_is i), (sym pending_is i, sym notes_is i))) is
 
-pub fresh_walk : (w : Wish) (bytes : List ℕ) (walk : Walk) → IsFresh walk → IsWalk w bytes walk
+pub fresh_walk : (w : Wish) (bytes : List ℕ) (walk : Walk) → IsFresh walk → HasWalked w bytes walk
 fresh_walk w bytes walk fresh =
     by_fields w bytes walk 0 no_heads None [] fresh.at fresh.heads fresh.pending fresh.notes
     (record {
@@ -162,14 +162,14 @@ fresh_walk w bytes walk fresh =
     })
 
 -- the open place is none that is still to come
-pub open_before : (w : Wish) (bytes : List ℕ) (walk : Walk) → IsWalk w bytes walk → IfSome walk.pending (λ p. p.0 ≤ walk.at)
+pub open_before : (w : Wish) (bytes : List ℕ) (walk : Walk) → HasWalked w bytes walk → IfSome walk.pending (λ p. p.0 ≤ walk.at)
 open_before w bytes walk is = by walk.pending is.searched.opened
   where
     by : (p : Option (ℕ × Heads)) → IfSome p (λ q. (q.0 < walk.at) × (length bytes - q.0 < 65599) × (is_undecided w (drop q.0 bytes) ≡ true)) → IfSome p (λ q. q.0 ≤ walk.at)
     by None opened = tt
     by (Some q) opened = omega (arith, opened.0)
 
-pub can_note : (w : Wish) (bytes : List ℕ) (walk : Walk) → IsWalk w bytes walk → walk.at < 9223372036854775808 → CanNote walk
+pub can_note : (w : Wish) (bytes : List ℕ) (walk : Walk) → HasWalked w bytes walk → walk.at < 2 ^ 63 → CanNote walk
 can_note w bytes walk is below = record {
   at = omega (arith, below);
   damaged = is.searched.few.0;
@@ -177,8 +177,8 @@ can_note w bytes walk is below = record {
   behind = open_before w bytes walk is;
 }
 
-pub noted_walk : (w : Wish) (bytes : List ℕ) (old new : Walk) (note : Note) → IsWalk w bytes old → IsNoted w (drop old.at bytes) note → Notes old note new
-    → IsWalk w bytes new
+pub noted_walk : (w : Wish) (bytes : List ℕ) (old new : Walk) (note : Note) → HasWalked w bytes old → IsNoted w (drop old.at bytes) note → Notes old note new
+    → HasWalked w bytes new
 noted_walk w bytes old new note walk is notes =
     let heads = heads_with old.heads note in
     let pending = pending_with old.pending old.at old.heads note in
@@ -191,12 +191,12 @@ abbrev pub moved : Walk → ℕ → Walk
 moved walk at = record { at = at; heads = walk.heads; pending = walk.pending; notes = walk.notes }
 
 -- what a look at the bytes from there on says
-module _ (w : Wish) (bytes : List ℕ) (walk : Walk) (at : ℕ) (is : IsWalk w bytes (moved walk at)) (sight : Sight)
+module _ (w : Wish) (bytes : List ℕ) (walk : Walk) (at : ℕ) (is : HasWalked w bytes (moved walk at)) (sight : Sight)
     (seen : IsSight w (take (length bytes - at) (drop at bytes)) sight) where
   sight_there : (s : Sight) → sight ≡ s → IsSight w (drop at bytes) s
   sight_there s same = subst (IsSight w (drop at bytes)) same (subst (λ xs. IsSight w xs sight) (take_rest bytes at) seen)
 
-  pub noted_at : (note : Note) (new : Walk) → sight ≡ V.Noted note → Notes (moved walk at) note new → IsWalk w bytes new
+  pub noted_at : (note : Note) (new : Walk) → sight ≡ V.Noted note → Notes (moved walk at) note new → HasWalked w bytes new
   noted_at note new same notes = noted_walk w bytes (moved walk at) new note is (sight_there (V.Noted note) same) notes
 
   pub found_at : (h : Head) → at < length bytes → sight ≡ V.Found h → IsAtFirst w bytes (moved walk at) h
@@ -206,15 +206,15 @@ module _ (w : Wish) (bytes : List ℕ) (walk : Walk) (at : ℕ) (is : IsWalk w b
   }
 
 -- a walk stays within the bytes
-pub walk_within : (w : Wish) (bytes : List ℕ) (walk : Walk) → IsWalk w bytes walk → walk.at ≤ length bytes
+pub walk_within : (w : Wish) (bytes : List ℕ) (walk : Walk) → HasWalked w bytes walk → walk.at ≤ length bytes
 walk_within w bytes walk is = elim (cases_lt 0 walk.at) [
   | inl some ↦ omega (arith, some, is.enough (walk.at - 1) (omega (arith, some)), length-drop (walk.at - 1) bytes)
   | inr none ↦ omega (arith, none)
 ]
 
 -- the next head is known
-pub walk_to_head : (w : Wish) (bytes : List ℕ) (walk : Walk) (at : ℕ) (h : Head) → IsWalk w bytes walk → IsNextHead w.key bytes walk.at (Some (at, h))
-    → IsWalk w bytes (moved walk at) × (at < length bytes)
+pub walk_to_head : (w : Wish) (bytes : List ℕ) (walk : Walk) (at : ℕ) (h : Head) → HasWalked w bytes walk → IsNextHead w.key bytes walk.at (Some (at, h))
+    → HasWalked w bytes (moved walk at) × (at < length bytes)
 walk_to_head w bytes walk at h is next =
     let long = headed_is_long w.key (drop at bytes) h next.1 in (
       skipped_to w bytes walk.at at walk.heads walk.pending walk.notes.items next.0 (enough_before w bytes at long) next.2 is,
@@ -222,8 +222,8 @@ walk_to_head w bytes walk at h is next =
     )
 
 -- and there is none
-pub walk_to_end : (w : Wish) (bytes : List ℕ) (walk : Walk) (to : ℕ) → to ≡ length bytes - 51 → IsWalk w bytes walk → IsNextHead w.key bytes walk.at None
-    → IsWalk w bytes (moved walk to) × (to ≤ length bytes) × (length bytes - to < head_size)
+pub walk_to_end : (w : Wish) (bytes : List ℕ) (walk : Walk) (to : ℕ) → to ≡ length bytes - 51 → HasWalked w bytes walk → IsNextHead w.key bytes walk.at None
+    → HasWalked w bytes (moved walk to) × (to ≤ length bytes) × (length bytes - to < head_size)
 walk_to_end w bytes walk to is walk_is none = (
   skipped_to w bytes walk.at to walk.heads walk.pending walk.notes.items (before (cases_lt 0 walk.at)) (λ i below. omega (arith, below, is, length-drop i bytes))
       (λ i from below. none i from) walk_is,
@@ -257,7 +257,7 @@ walked_found w bytes walk h walked first found = record {
 }
 
 -- of the bytes from the open place on this is known
-open_looked_at : (w : Wish) (bytes : List ℕ) (at : ℕ) (heads : Heads) (pending : Option (ℕ × Heads)) (notes : List Noted) → IsWalkTo w bytes at heads pending notes
+open_looked_at : (w : Wish) (bytes : List ℕ) (at : ℕ) (heads : Heads) (pending : Option (ℕ × Heads)) (notes : List Noted) → HasWalkedTo w bytes at heads pending notes
     → (from : ℕ) → open_place pending at ≡ from → IsLookedAt w (drop from bytes) (at - from) notes
 open_looked_at w bytes at heads pending notes walk from is = record {
   enough = λ i below. subst (λ xs. head_size ≤ length xs) (sym (drop-drop i from bytes)) (walk.enough (from + i) (omega (arith, below)));
@@ -265,7 +265,7 @@ open_looked_at w bytes at heads pending notes walk from is = record {
   notes_are = walk.notes_are ∙ ap (λ k. noted_before w (drop k bytes) (at - k)) is;
 }
 
-module _ (w : Wish) (bytes : List ℕ) (walk : Walk) (walked : Walked) (is : IsWalk w bytes walk) (end : IsEnd walk walked) where
+module _ (w : Wish) (bytes : List ℕ) (walk : Walk) (walked : Walked) (is : HasWalked w bytes walk) (end : IsEnd walk walked) where
   abbrev from : ℕ
   from = (unwrap_or walk.pending (walk.at, walk.heads)).0
 
@@ -297,7 +297,7 @@ module _ (w : Wish) (bytes : List ℕ) (walk : Walk) (walked : Walked) (is : IsW
 -- A walk has come behind the first k heads that are known of fewer bytes.
 pub record IsBehind (w : Wish) (bytes : List ℕ) (looked : ℕ) (known : List Noted) (walk : Walk) (k : ℕ) : Type 0 where
   pub continues : Continues w bytes looked known
-  pub walk_is : IsWalk w bytes walk
+  pub walk_is : HasWalked w bytes walk
   pub few : walk.at ≤ looked
   pub so_far : noted_before w continues.front walk.at ≡ take k known
 
@@ -329,8 +329,8 @@ module _ (w : Wish) (bytes : List ℕ) (looked : ℕ) (known : List Noted) (cont
       ap (head_at w.key) (drop_known i below) ∙ same_head_at (drop i front) rest (continues.known.enough i below) w.key ∙ no_head w front i none
 
   -- up to a place before which the same heads are known
-  walk_to : (walk : Walk) (to : ℕ) → IsWalk w bytes walk → walk.at ≤ to → to ≤ looked → noted_before w front walk.at ≡ noted_before w front to
-      → IsWalkTo w bytes to walk.heads walk.pending walk.notes.items
+  walk_to : (walk : Walk) (to : ℕ) → HasWalked w bytes walk → walk.at ≤ to → to ≤ looked → noted_before w front walk.at ≡ noted_before w front to
+      → HasWalkedTo w bytes to walk.heads walk.pending walk.notes.items
   walk_to walk to is from few same =
       skipped_to w bytes walk.at to walk.heads walk.pending walk.notes.items from
       (λ i below. long_still i (omega (arith, below, few)))
@@ -343,7 +343,7 @@ module _ (w : Wish) (bytes : List ℕ) (looked : ℕ) (known : List Noted) (cont
 
 -- The next of them is this.
 pub record IsNext (w : Wish) (bytes : List ℕ) (walk : Walk) (e : Noted) : Type 0 where
-  pub walk_is : IsWalk w bytes (moved walk e.at)
+  pub walk_is : HasWalked w bytes (moved walk e.at)
   pub below : e.at < length bytes
   pub was : WasNoted w (drop e.at bytes) e.note
 
@@ -377,7 +377,7 @@ module _ (w : Wish) (bytes : List ℕ) (looked : ℕ) (known : List Noted) (walk
       }
 
   -- and behind it
-  pub behind_next : (new : Walk) → IsWalk w bytes new → new.at ≡ e.at + 1 → IsBehind w bytes looked known new (k + 1)
+  pub behind_next : (new : Walk) → HasWalked w bytes new → new.at ≡ e.at + 1 → IsBehind w bytes looked known new (k + 1)
   behind_next new is at =
       let next : e.at + 1 ≡ suc e.at = omega arith in
       record {
@@ -397,13 +397,13 @@ pub next_is : (w : Wish) (bytes : List ℕ) (looked : ℕ) (known : List Noted) 
 next_is w bytes looked known walk k e is below b = subst (IsNext w bytes walk) (sym is) (next_known w bytes looked known walk k e below b)
 
 pub behind_is : (w : Wish) (bytes : List ℕ) (looked : ℕ) (known : List Noted) (walk : Walk) (k : ℕ) (e : Noted) → e ≡ get_or known k e → k < length known
-    → IsBehind w bytes looked known walk k → (new : Walk) → IsWalk w bytes new → new.at ≡ e.at + 1 → IsBehind w bytes looked known new (k + 1)
+    → IsBehind w bytes looked known walk k → (new : Walk) → HasWalked w bytes new → new.at ≡ e.at + 1 → IsBehind w bytes looked known new (k + 1)
 behind_is w bytes looked known walk k e is below b new walk_is at =
     behind_next w bytes looked known walk k e below b new walk_is (at ∙ ap (λ (x : Noted). x.at + 1) is)
 
 -- all of them
 pub behind_all : (w : Wish) (bytes : List ℕ) (looked : ℕ) (known : List Noted) (walk : Walk) (k : ℕ) → length known ≤ k
-    → IsBehind w bytes looked known walk k → IsWalkTo w bytes looked walk.heads walk.pending walk.notes.items
+    → IsBehind w bytes looked known walk k → HasWalkedTo w bytes looked walk.heads walk.pending walk.notes.items
 behind_all w bytes looked known walk k all b =
     walk_to w bytes looked known b.continues walk looked b.walk_is b.few (omega arith)
     (b.so_far ∙ take_all k known all ∙ b.continues.known.notes_are)

@@ -71,13 +71,13 @@ pub record SearchedTo (w : Wish) (bytes : List ℕ) (i : ℕ) (heads : Heads) (p
   pub settled : (j : ℕ) → j < open_place pending i → is_undecided w (drop j bytes) ≡ false
 
 -- So it is, bytes enough for a head stand at these places, and this is known of the heads from the open one on.
-pub record IsWalkTo (w : Wish) (bytes : List ℕ) (at : ℕ) (heads : Heads) (pending : Option (ℕ × Heads)) (notes : List Noted) : Type 0 where
+pub record HasWalkedTo (w : Wish) (bytes : List ℕ) (at : ℕ) (heads : Heads) (pending : Option (ℕ × Heads)) (notes : List Noted) : Type 0 where
   pub enough : (i : ℕ) → i < at → head_size ≤ length (drop i bytes)
   pub searched : SearchedTo w bytes at heads pending
   pub notes_are : notes ≡ noted_before w (drop (open_place pending at) bytes) (at - open_place pending at)
 
-abbrev pub IsWalk : Wish → List ℕ → Walk → Type 0
-IsWalk w bytes walk = IsWalkTo w bytes walk.at walk.heads walk.pending walk.notes.items
+abbrev pub HasWalked : Wish → List ℕ → Walk → Type 0
+HasWalked w bytes walk = HasWalkedTo w bytes walk.at walk.heads walk.pending walk.notes.items
 
 abbrev pub no_heads : Heads
 no_heads = record { damaged = 0; others = 0 }
@@ -126,12 +126,12 @@ pub record IsAtFirst (w : Wish) (bytes : List ℕ) (walk : Walk) (h : Head) : Ty
 -- there, or further on
 abbrev pub Finds : Wish → List ℕ → Walk → Option Head → Type 0
 Finds w bytes walk (Some h) = IsAtFirst w bytes walk h
-Finds w bytes walk None = IsWalk w bytes walk
+Finds w bytes walk None = HasWalked w bytes walk
 
 -- there, or where too few bytes stand for a head
 abbrev pub FindsAll : Wish → List ℕ → Walk → Option Head → Type 0
 FindsAll w bytes walk (Some h) = IsAtFirst w bytes walk h
-FindsAll w bytes walk None = IsWalk w bytes walk × (walk.at ≤ length bytes) × (length bytes - walk.at < head_size)
+FindsAll w bytes walk None = HasWalked w bytes walk × (walk.at ≤ length bytes) × (length bytes - walk.at < head_size)
 
 -- what is left behind a walk to a wanted cell with this head
 pub record IsFound (walk : Walk) (h : Head) (walked : Walked) : Type 0 where

@@ -1,7 +1,7 @@
 //! The first wanted cell among bytes, also where they come in pieces.
-ghost use Rattle.std.specs.Prelude.{◌≡◌, ◌+◌, ◌^◌, ◌<◌, ◌≤◌, ◌++◌, [], length, drop, IfOk, IfErr, IfSome, OnOk};
+ghost use Rattle.std.specs.Prelude.{◌≡◌, ◌^◌, ◌<◌, ◌≤◌, ◌++◌, length, drop, IfOk, IfErr, IfSome, OnOk};
 ghost use Rattle.rq_cells.specs.Wanted.{wish_of, IsSearch};
-ghost use Rattle.rq_cells.specs.Search.{Continues, IsWalk, IsFresh, Notes, Finds, FindsAll, IsFound, IsEnd, IsWalked, CanNote, place_of, new_search, left_behind};
+ghost use Rattle.rq_cells.specs.Search.{Continues, HasWalked, IsFresh, Notes, Finds, FindsAll, IsFound, IsEnd, IsWalked, CanNote, place_of, new_search, left_behind};
 
 use crate::head::{HEAD_LENGTH, Head, next_head};
 use crate::wanted::{Heads, Note, Search, Sight, Wanted, sight_again, sight_of};
@@ -159,7 +159,7 @@ fn walk_on(
     bytes: &[u8],
     walk: &mut Walk,
 ) -> Result<Option<Head>, Error>
-    requires { IsWalk (wish_of wanted.now) bytes.now walk.old }
+    requires { HasWalked (wish_of wanted.now) bytes.now walk.old }
     ensures finds { IfOk result (FindsAll (wish_of wanted.now) bytes.now walk.new) }
     ensures memory { IfErr result (λ e. e ≡ Error.OutOfMemory) }
 {

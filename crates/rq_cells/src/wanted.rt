@@ -1,5 +1,5 @@
 //! Which cells a receiver takes first.
-ghost use Rattle.std.specs.Prelude.{◌≡◌, IfOk, IfErr, true, Some};
+ghost use Rattle.std.specs.Prelude.{◌≡◌, IfOk, IfErr, Some};
 ghost use Rattle.rq_cells.specs.Cells.{head_at};
 ghost use Rattle.rq_cells.specs.Wanted.{wish_of, is_wanted, IsSight, WasNoted};
 

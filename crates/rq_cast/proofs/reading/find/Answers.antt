@@ -1,4 +1,4 @@
-use Rattle.std.proofs.Common.{◌≡◌, ◌<◌, ◌++◌, ap, subst, ◌∙◌, arith, length, drop}
+use Rattle.std.proofs.Common.{◌≡◌, ◌<◌, ◌++◌, ap, subst, ◌∙◌, arith, length}
 use Rattle.rq_cast.specs.Input.{source, last_length}
 use Rattle.rq_cells.specs.declared.wanted.Search.TheVariants.{Found, NotYet}
 use Rattle.rq_cells.specs.Wanted.{wish_of, IsSearch}
