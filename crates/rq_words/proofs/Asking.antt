@@ -1,5 +1,5 @@
 -- Words that ask for nothing.
-use Rattle.std.proofs.Common.{◌≡◌, ◌⊎◌, ℕ, List, [], ◌∷◌, Option, Some, None, Result, Ok, Err, inl, inr, sym, ap, ap₂, subst, ◌∙◌}
+use Rattle.std.proofs.Common.{◌≡◌, ◌⊎◌, ℕ, List, [], ◌∷◌, Option, Some, Ok, Err, inl, inr, sym, ap, ap₂, subst, ◌∙◌}
 use Rattle.clap.specs.Words.{HasKind, IsAmong, Kinds, Row}
 use Rattle.clap.specs.Kinds.{or_else}
 use Rattle.clap.specs.declared.error.Error.{Error}
@@ -11,7 +11,7 @@ use Rattle.rq_options.specs.Definition.{faults_of}
 use Rattle.rq_options.specs.Options.{verb_in, verb_used}
 use Rattle.rq_words.specs.declared.jobs.Job.{Job}
 use Rattle.rq_words.specs.declared.jobs.Job.TheVariants.{Send, Receive, Info}
-use Rattle.rq_words.specs.Asked.{Asked, AsksFor, IsRefused, Uses, both, kinds_of, misuses_behind, misuses_of, refusals_of}
+use Rattle.rq_words.specs.Asked.{Asked, AsksFor, IsRefused, Uses, both, kinds_of, misuses_of, refusals_of}
 
 -- ---- one option and another
 

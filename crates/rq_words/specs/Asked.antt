@@ -129,15 +129,18 @@ receive_asked rows = both (name_asked rows) (telling_asked rows)
 
 pub record IsSendOf (rows : List Row) (job : SendJob) : Type 0 where
   pub asked_for : send_asked rows ≡ Ok (job.order, job.telling)
+  pub key : option_map (λ s. s.now) job.key ≡ first_of (codes "key") rows
   pub files : map (λ s. s.now) job.files.items ≡ texts_of rows (codes "file")
 
 pub record IsReceiveOf (rows : List Row) (job : ReceiveJob) : Type 0 where
   pub asked_for : receive_asked rows ≡ Ok (job.name.items, job.telling)
+  pub key : option_map (λ s. s.now) job.key ≡ first_of (codes "key") rows
   pub output : option_map (λ s. s.now) job.output ≡ first_of (codes "output") rows
   pub files : map (λ s. s.now) job.files.items ≡ texts_of rows (codes "cells")
 
 pub record IsInfoOf (rows : List Row) (job : InfoJob) : Type 0 where
   pub asked_for : telling_asked rows ≡ Ok job.telling
+  pub key : option_map (λ s. s.now) job.key ≡ first_of (codes "key") rows
   pub files : map (λ s. s.now) job.files.items ≡ texts_of rows (codes "cells")
 
 -- The parser finds no fault in the words, and among them a subcommand with these rows.

@@ -21,6 +21,8 @@ pub enum Telling {
 pub struct SendJob<'a> {
     /// Which cells are sent, and how fast.
     pub order: Order,
+    /// The file whose bytes are the key that its cells are made by, where there is one.
+    pub key: Option<&'a str>,
     /// The file that is sent, or none for standard input.
     pub files: Vec<&'a str>,
     /// What is told.
@@ -30,8 +32,10 @@ pub struct SendJob<'a> {
 /// Which object is received.
 #[derive(Debug, PartialEq, Eq, Drop)]
 pub struct ReceiveJob<'a> {
-    /// How its name and configuration begin: any do where there are no bytes.
+    /// How the stream's name begins: any does where there are no bytes.
     pub name: Vec<u8>,
+    /// The file whose bytes are the key that its cells are made by, where there is one.
+    pub key: Option<&'a str>,
     /// The file that it becomes, or none for standard output.
     pub output: Option<&'a str>,
     /// The files among whose bytes its cells stand, one behind another, or none for standard input.
@@ -43,6 +47,8 @@ pub struct ReceiveJob<'a> {
 /// Which bytes are looked through.
 #[derive(Debug, PartialEq, Eq, Drop)]
 pub struct InfoJob<'a> {
+    /// The file whose bytes are the key that cells are made by, where there is one.
+    pub key: Option<&'a str>,
     /// The files, one behind another, or none for standard input.
     pub files: Vec<&'a str>,
     /// What is told.

@@ -24,14 +24,11 @@ fn symbol_size_of<'a>(matches: &ArgMatches<'a>) -> Result<u16, Misuse<'a>>
     ensures { asked result ≡ symbol_size_asked (rows_of (found_of matches.now)) }
 {
     let text = text_or(matches, "cell", "");
-    match values::symbol_size(text) {
-        Some(size) => Ok(size),
-        None => Err(Misuse::Value {
-            option: "--cell <BYTES>",
-            takes: "a number from 65 to 65599",
-            text,
-        }),
-    }
+    values::symbol_size(text).ok_or(Misuse::Value {
+        option: "--cell <BYTES>",
+        takes: "a number from 65 to 65599",
+        text,
+    })
 }
 
 // How many repair packets there are.
@@ -54,28 +51,24 @@ fn repair_of<'a>(matches: &ArgMatches<'a>) -> Result<Repair, Misuse<'a>>
 fn repaired(text: &str) -> Result<Repair, Misuse<'_>>
     ensures { asked result ≡ valued (repair_of text.now) }
 {
-    match values::repair(text) {
-        Some(repair) => Ok(repair),
-        None => Err(Misuse::Value {
-            option: "--repair <N|N%|all>",
-            takes: "a number, a percentage as 15%, or all",
-            text,
-        }),
-    }
+    values::repair(text).ok_or(Misuse::Value {
+        option: "--repair <N|N%|all>",
+        takes: "a number, a percentage as 15%, or all",
+        text,
+    })
 }
 
 // As many as a loss asks for.
 fn against(text: &str) -> Result<Repair, Misuse<'_>>
     ensures { asked result ≡ valued (option_map (λ loss. Repair.Against loss) (loss_of text.now)) }
 {
-    match values::loss(text) {
-        Some(loss) => Ok(Repair::Against(loss)),
-        None => Err(Misuse::Value {
+    values::loss(text)
+        .map(Repair::Against)
+        .ok_or(Misuse::Value {
             option: "--loss <PERCENT>",
             takes: "a percentage up to 50, as 5 or 0.5",
             text,
-        }),
-    }
+        })
 }
 
 // How many bits a second are sent at most, where that is said.
@@ -86,14 +79,11 @@ fn rate_of<'a>(matches: &ArgMatches<'a>) -> Result<Option<u64>, Misuse<'a>>
     let Some(text) = text_of(matches, "rate") else {
         return Ok(None);
     };
-    match values::rate(text) {
-        Some(rate) => Ok(Some(rate)),
-        None => Err(Misuse::Value {
-            option: "--rate <BITS>",
-            takes: "bits a second, as 400M or 0.5G, not 0",
-            text,
-        }),
-    }
+    values::rate(text).map(Some).ok_or(Misuse::Value {
+        option: "--rate <BITS>",
+        takes: "bits a second, as 400M or 0.5G, not 0",
+        text,
+    })
 }
 
 // Which sender this is, and of how many.
@@ -106,14 +96,11 @@ fn share_of<'a>(matches: &ArgMatches<'a>) -> Result<(u32, u32), Misuse<'a>>
     let Some(text) = text_of(matches, "share") else {
         return Ok((0, 1));
     };
-    match values::share(text) {
-        Some(share) => Ok(share),
-        None => Err(Misuse::Value {
-            option: "--share <I/N>",
-            takes: "a number, a stroke and a greater one, as 3/20",
-            text,
-        }),
-    }
+    values::share(text).ok_or(Misuse::Value {
+        option: "--share <I/N>",
+        takes: "a number, a stroke and a greater one, as 3/20",
+        text,
+    })
 }
 
 // The first id.
@@ -123,14 +110,11 @@ fn from_of<'a>(matches: &ArgMatches<'a>) -> Result<u32, Misuse<'a>>
     ensures few { IfOk result (λ id. id < 16777216) }
 {
     let text = text_or(matches, "from", "0");
-    match values::id(text) {
-        Some(id) => Ok(id),
-        None => Err(Misuse::Value {
-            option: "--from <ID>",
-            takes: "a number below 16777216",
-            text,
-        }),
-    }
+    values::id(text).ok_or(Misuse::Value {
+        option: "--from <ID>",
+        takes: "a number below 16777216",
+        text,
+    })
 }
 
 // Which ids are sent, and how fast: of n senders each sends every nth one.
@@ -212,6 +196,7 @@ fn send_job<'a>(alloc: Global, matches: &ArgMatches<'a>) -> Result<SendJob<'a>, 
     let files = texts_of(alloc, matches, "file")?;
     Ok(SendJob {
         order,
+        key: text_of(matches, "key"),
         files,
         telling,
     })
@@ -228,14 +213,11 @@ fn name_of<'a>(
     let Some(text) = text_of(matches, "name") else {
         return Ok(Ok(Vec::new(alloc)));
     };
-    match values::name(alloc, text)? {
-        Some(name) => Ok(Ok(name)),
-        None => Ok(Err(Misuse::Value {
-            option: "--name <HEX>",
-            takes: "2 to 16 hexadecimal digits, an even number of them",
-            text,
-        })),
-    }
+    Ok(values::name(alloc, text)?.ok_or(Misuse::Value {
+        option: "--name <HEX>",
+        takes: "2 to 16 hexadecimal digits, an even number of them",
+        text,
+    }))
 }
 
 // Which stream is received, and where from and to.
@@ -254,6 +236,7 @@ fn receive_job<'a>(alloc: Global, matches: &ArgMatches<'a>) -> Result<ReceiveJob
     let files = texts_of(alloc, matches, "cells")?;
     Ok(ReceiveJob {
         name,
+        key: text_of(matches, "key"),
         output: text_of(matches, "output"),
         files,
         telling,
@@ -270,7 +253,11 @@ fn info_job<'a>(alloc: Global, matches: &ArgMatches<'a>) -> Result<InfoJob<'a>, 
         Err(misuse) => return Err(misuse.error(alloc, Verb::Info)),
     };
     let files = texts_of(alloc, matches, "cells")?;
-    Ok(InfoJob { files, telling })
+    Ok(InfoJob {
+        key: text_of(matches, "key"),
+        files,
+        telling,
+    })
 }
 
 /// What the words after the program's name ask for, of those that `rqcast --help` names.

@@ -2,7 +2,7 @@ use Rattle.std.proofs.Common.{None, Some, map, ◌∙◌}
 use Rattle.std.proofs.lemmas.Result.{err_from_is_err_and}
 use Rattle.clap.specs.Words.{found_of, kind_of, rows_of}
 use Rattle.rq_options.specs.declared.matches.Verb.TheVariants as verb
-use Rattle.rq_words.proofs.Asking.{refused_at_once, refused_then, uses}
+use Rattle.rq_words.proofs.Asking.{refused_at_once, refused_then}
 use Rattle.rq_words.proofs.words.job.Goals as goal
 
 pub returns-in_err-matches-clause-refused : goal.returns-in_err-matches-clause-refused

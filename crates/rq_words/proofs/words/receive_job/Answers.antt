@@ -1,4 +1,3 @@
-use Rattle.std.proofs.Common.{Ok, sym}
 use Rattle.clap.specs.Words.{found_of, rows_of}
 use Rattle.rq_options.proofs.Parsed.{fails_refused}
 use Rattle.rq_options.specs.Options.{misuse_kind}
