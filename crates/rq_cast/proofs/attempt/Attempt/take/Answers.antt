@@ -8,7 +8,7 @@ use Rattle.raptorq.specs.Decoder.{state_of}
 use Rattle.rq_cells.specs.Cells.{digest_of}
 use Rattle.rq_cast.specs.Digests.{Notes}
 use Rattle.rq_cast.specs.Taken.{is_known}
-use Rattle.rq_cast.specs.PartReceiving.{LooksAt, TakesOrFails}
+use Rattle.rq_cast.specs.PartReceiving.{TakesOrFails}
 use Rattle.rq_cast.proofs.AttemptSteps.{refused, unlooked, looked}
 use Rattle.rq_cast.proofs.attempt.Attempt.take.Goals as goal
 use Rattle.rq_cast.proofs.attempt.Attempt.take.Goals.{After-add_new_packet}
