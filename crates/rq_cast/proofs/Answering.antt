@@ -1,5 +1,5 @@
 -- What is answered of the cells that a part's receiver has taken.
-use Rattle.std.proofs.Common.{◌≡◌, ℕ, List, Option, refl, subst, drop}
+use Rattle.std.proofs.Common.{◌≡◌, ℕ, List, refl, subst, drop}
 use Rattle.rq_standard.specs.declared.row.TableRow.{TableRow}
 use Rattle.rq_standard.specs.Configuration.{Configuration}
 use Rattle.rq_standard.specs.Packet.{Packet}

@@ -1,5 +1,5 @@
 -- What an attempt at a part makes of one packet more.
-use Rattle.std.proofs.Common.{◌≡◌, ◌≢◌, ℕ, ◌+◌, ◌^◌, ◌<◌, List, [], ◌∷◌, ◌++◌, Bool, true, false, Option, Some, None, Ok, Err, refl, sym, ap, subst, ◌∙◌, arith, append-nil}
+use Rattle.std.proofs.Common.{◌≡◌, ◌≢◌, ℕ, ◌^◌, ◌<◌, List, [], ◌∷◌, ◌++◌, Bool, true, false, Some, Ok, Err, sym, ap, subst, ◌∙◌, arith, append-nil}
 use Rattle.std.specs.Prelude.{option_map, vec_items, is_some}
 use Rattle.std.proofs.lemmas.Bool.{ltb-true}
 use Rattle.rq_bytes.specs.declared.error.Error.{Error}
@@ -23,7 +23,7 @@ use Rattle.rq_cells.specs.declared.head.Head.{Head}
 use Rattle.rq_cells.specs.Cells.{digest_of}
 use Rattle.rq_cast.specs.declared.attempt.Attempt.{Attempt}
 use Rattle.rq_cast.specs.declared.digests.KnownDigests.{KnownDigests}
-use Rattle.rq_cast.specs.Parts.{IsStream, IsNoStream}
+use Rattle.rq_cast.specs.Parts.{IsNoStream}
 use Rattle.rq_cast.specs.Digests.{Notes}
 use Rattle.rq_cast.specs.Taken.{is_known, known_packets}
 use Rattle.rq_cast.specs.PartReceiving.{IsAttempt, IsUnlooked, LooksAt, GoesOn, IsForeign, TakesOrFails}

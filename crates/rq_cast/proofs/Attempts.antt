@@ -1,5 +1,5 @@
 -- An attempt at a part takes its packets.
-use Rattle.std.proofs.Common.{◌≡◌, ◌≢◌, ℕ, zero, suc, ◌<◌, ◌≤◌, List, [], ◌∷◌, ◌++◌, Bool, true, false, if◌then◌else◌, Option, Some, None, Ok, Err, refl, sym, ap, subst, ◌∙◌, arith, length, take, inl, inr}
+use Rattle.std.proofs.Common.{◌≡◌, ◌≢◌, ℕ, zero, suc, ◌<◌, ◌≤◌, List, [], ◌∷◌, ◌++◌, Bool, true, false, if◌then◌else◌, Option, Some, None, refl, sym, ap, subst, ◌∙◌, arith, length, take, inl, inr}
 use Rattle.std.specs.Prelude.{IfSome, IsSome, option_map, is_some, ◌==◌}
 use Rattle.std.proofs.Math.Seq.{take-nil}
 use Rattle.std.proofs.lemmas.Bool.{cases_eq}
@@ -14,7 +14,6 @@ use Rattle.rq_standard.specs.ReceivedBlock.{ReceivedBlock}
 use Rattle.rq_standard.specs.DecoderState.{State, append_both, first_blocks, new_received, new_answer, IsNewState, result_of}
 use Rattle.rq_standard.specs.DecoderSteps.{Adds, AddsToBlock}
 use Rattle.rq_standard.specs.Following.{FollowsRun}
-use Rattle.rq_standard.proofs.FollowingSteps.{taken_is_followed}
 use Rattle.rq_standard.proofs.ObjectAnswers.{joined_each}
 use Rattle.rq_standard.proofs.OptionValues.{is_some-mapped}
 use Rattle.raptorq.specs.TakesPacket.{StopsBy}
@@ -22,7 +21,7 @@ use Rattle.raptorq.proofs.Lists.{next_honest}
 use Rattle.raptorq.proofs.Stops.{honest_is_taken}
 use Rattle.rq_cells.specs.declared.head.Head.{Head}
 use Rattle.rq_cast.specs.declared.digests.KnownDigests.{KnownDigests}
-use Rattle.rq_cast.specs.Parts.{IsStream, IsNoStream, IsStreamIn}
+use Rattle.rq_cast.specs.Parts.{IsNoStream, IsStreamIn}
 use Rattle.rq_cast.specs.Digests.{known, KnowsNone, KnowsSymbol, KnowsAll, KnowsDigests}
 use Rattle.rq_cast.specs.Taken.{is_known, known_packets}
 use Rattle.rq_cast.proofs.Sealed.{sealed_is_long}

@@ -1,6 +1,6 @@
 -- How a run ends.
-use Rattle.std.proofs.Common.{◌≡◌, ◌⊎◌, inl, inr, ℕ, ◌+◌, List, [], ◌++◌, take, drop, refl, sym, ap, subst, ◌∙◌, Option, Some, None, Bool, true, false, if◌then◌else◌, Result, Ok, Err, append-nil, append_assoc, arith, length, length-append, Vec, Global}
-use Rattle.std.specs.Prelude.{is_ok, nat_eq, MatchOption, option_map, option_and_then, vec_items}
+use Rattle.std.proofs.Common.{◌≡◌, inl, inr, ℕ, List, [], ◌++◌, take, drop, refl, sym, ap, subst, ◌∙◌, Option, Some, None, Bool, true, false, if◌then◌else◌, Result, Ok, Err, append-nil, append_assoc, arith, length, length-append, Vec, Global}
+use Rattle.std.specs.Prelude.{is_ok, nat_eq, option_map, option_and_then, vec_items}
 use Rattle.std.specs.Io.KnownBytes.{Consumes, Appends}
 use Rattle.std.specs.List.{starts_with}
 use Rattle.std.proofs.KnownBytes.{Consumes-trans, Keeps-refl}
@@ -23,18 +23,18 @@ use Rattle.rq_cells.specs.declared.head.Head.{Head}
 use Rattle.rq_cells.specs.declared.cell.Cell.{Cell}
 use Rattle.rq_cells.specs.Cells.{Key, cell_at}
 use Rattle.rq_cells.specs.Found.{Source, source_of, cells_in, damaged_in, others_in}
-use Rattle.rq_cells.specs.Wanted.{Wish, is_wanted, wanted_at, NoneBefore}
+use Rattle.rq_cells.specs.Wanted.{Wish, is_wanted, wanted_at}
 use Rattle.rq_cast.specs.declared.reading.Found.{Found}
 use Rattle.rq_cast.specs.declared.receiver.Receiver.{Receiver}
 use Rattle.rq_cast.specs.declared.receiver.Seen.{Seen}
-use Rattle.rq_cast.specs.Parts.{IsStream, IsStreamIn, IsNoStream}
+use Rattle.rq_cast.specs.Parts.{IsStream, IsStreamIn}
 use Rattle.rq_cast.specs.Taken.{IsOneSender}
-use Rattle.rq_cast.specs.Missing.{TellsMissingPackets, NeedsPackets}
+use Rattle.rq_cast.specs.Missing.{TellsMissingPackets}
 use Rattle.rq_cast.specs.Reading.{IsStopOfReads}
 use Rattle.rq_cast.specs.Searching.{SeesNoneYet, FindsFirst}
 use Rattle.rq_cast.specs.PartReceiving.{HasTaken}
-use Rattle.rq_cast.specs.Receiving.{SeesAll, HasSeen, HoldNone, HasReadAll, IsLast, EndsDetermined, EndsUndetermined, Receives, SeesBehind}
-use Rattle.rq_cast.specs.Received.{wish_over, IsReceived, cells_from, RestsOn, IsSeen, SeesSoFar, AnswersHead, DeterminesNone, WasntBefore, Determines, DoesntDetermine, EndsReceiving}
+use Rattle.rq_cast.specs.Receiving.{SeesAll, HasSeen, HoldNone, HasReadAll, IsLast, EndsDetermined, EndsUndetermined, SeesBehind}
+use Rattle.rq_cast.specs.Received.{wish_over, IsReceived, cells_from, IsSeen, SeesSoFar, AnswersHead, DeterminesNone, WasntBefore, Determines, DoesntDetermine, EndsReceiving}
 use Rattle.rq_cast.proofs.Answering.{packets, answered_by, needs_by}
 
 -- ---- coders take what was found

@@ -33,6 +33,7 @@ narrowest c t = by (ltb t (larger_bytes c))
   where
     few : (sub_block_parts c).smaller ≤ (sub_block_parts c).larger
     few = omega arith
+
     by : (b : Bool) → last_width c ≤ cond b ((sub_block_parts c).larger * c.alignment) ((sub_block_parts c).smaller * c.alignment)
     by true = mul-le-mul_right c.alignment few
     by false = omega arith
@@ -72,7 +73,7 @@ module _ (c : Configuration) (aligned : IsAligned c) (e d t : ℕ) (below : t < 
       let first : sub_block_start c o ≡ o = b.part.start o (omega arith) (omega (arith, b.part.positive)) in
       let width : sub_block_size c o ≡ z = b.part.size o (omega arith) (omega (arith, b.part.positive)) in
       let next : sub_block_start c (o + z) ≡ o + z =
-          subst (λ n. sub_block_start c (o + n) ≡ o + n) width (next_start c o aligned (omega (arith, b.low)) first (omega (arith, width, more))) in
+      subst (λ n. sub_block_start c (o + n) ≡ o + n) width (next_start c o aligned (omega (arith, b.low)) first (omega (arith, width, more))) in
       let z' = sub_block_size c (o + z) in
       let room : o + z + z' ≤ c.symbol_size = omega (arith, (at_byte c (o + z) aligned more).part.room, next) in
       let narrow : w * d ≤ z' * d = mul-le-mul_right d (narrowest c (o + z)) in
@@ -91,7 +92,7 @@ are_whole c k n count whole aligned covered fits e t lt below =
     let d = k - e - 1 in
     let is : k ≡ e + 1 + d = omega arith in
     let low : place_in_block c k e t + last_width c * d < k * c.symbol_size =
-        subst (λ m. place_in_block c m e t + last_width c * d < m * c.symbol_size) (sym is) (place_before c aligned e d t below) in
+    subst (λ m. place_in_block c m e t + last_width c * d < m * c.symbol_size) (sym is) (place_before c aligned e d t below) in
     let many : count * last_width c ≤ d * last_width c = mul-le-mul_right (last_width c) (omega arith) in
     omega (arith, low, many, covered)
 
@@ -111,15 +112,15 @@ module _ (s : State) (long : AreLong s) where
   joined_more n front last within so is =
       let size : length last ≡ block_symbols c n * c.symbol_size = subst (λ o. IfSome o (λ xs. length xs ≡ block_symbols c n * c.symbol_size)) is (long n within) in
       let next : symbols_before c (n + 1) * c.symbol_size ≡ symbols_before c n * c.symbol_size + block_symbols c n * c.symbol_size =
-          ap (λ m. m * c.symbol_size) (symbols_before-next c n within) ∙ omega arith in
+      ap (λ m. m * c.symbol_size) (symbols_before-next c n within) ∙ omega arith in
       record {
         size = length-append front last ∙ omega (arith, so.size, size, next);
         byte = λ b i block below here few. elim (cases_lt b n) [
           | inl lt ↦
               let grows : symbols_before c (b + 1) * c.symbol_size ≤ symbols_before c n * c.symbol_size =
-                  mul-le-mul_right c.symbol_size (symbols_before-grows c (b + 1) n (omega arith) (omega (arith, within))) in
+              mul-le-mul_right c.symbol_size (symbols_before-grows c (b + 1) n (omega arith) (omega (arith, within))) in
               let this : symbols_before c (b + 1) * c.symbol_size ≡ symbols_before c b * c.symbol_size + block_symbols c b * c.symbol_size =
-                  ap (λ m. m * c.symbol_size) (symbols_before-next c b (omega (arith, within))) ∙ omega arith in
+              ap (λ m. m * c.symbol_size) (symbols_before-next c b (omega (arith, within))) ∙ omega arith in
               get_or_append_left front last 0 (symbols_before c b * c.symbol_size + i) (omega (arith, so.size, grows, this, few))
               ∙ so.byte b i block lt here few
           | inr past ↦
@@ -186,10 +187,12 @@ module _ (s : State) (long : AreLong s) where
       where
         some : IsSome (s.answer b)
         some = joined_each s.answer c.source_blocks (subst IsSome (sym joined) refl) b below
+
         same : (block d : List ℕ) (o : Option (List ℕ)) → s.answer b ≡ Some block → IfSome o (λ x. x ≡ digest_of (symbol_of_block c count block e))
             → IfSome o (λ x. x ≡ digest_of (symbol_of_block c count bytes e))
         same block d None here is = tt
         same block d (Some x) here is = is ∙ ap digest_of (symbol_is all joined block here)
+
         by : (a : Option (List ℕ)) → s.answer b ≡ a → IfSome (known k b e) (λ d. d ≡ digest_of (symbol_of_block c count bytes e))
         by None here = absurd (cc (subst IsSome here some))
         by (Some block) here = same block [] (known k b e) here
@@ -253,9 +256,9 @@ module _ (s new : State) (p : Packet) (adds : Adds s p new) (old k : KnownDigest
   elsewhere b e below few apart =
       let stays = adds.elsewhere.other b below (λ is. apart (sym is)) in
       let none : known k b e ≡ known old b e =
-          notes b e (omega (arith, few, few_ids b below))
-          ∙ ap (λ x. or_later (known old b e) (cond (is_noted s p.id && (x && eqb p.id.esi e)) (Some digest) None)) (ne_eqb here b apart)
-          ∙ by (is_noted s p.id) in
+      notes b e (omega (arith, few, few_ids b below))
+      ∙ ap (λ x. or_later (known old b e) (cond (is_noted s p.id && (x && eqb p.id.esi e)) (Some digest) None)) (ne_eqb here b apart)
+      ∙ by (is_noted s p.id) in
       subst (λ x. KnowsSymbol conf b e (new.received b) (new.answer b) x) (sym none)
       (subst (λ a. KnowsSymbol conf b e (new.received b) a (known old b e)) (sym stays.1)
       (subst (λ h. KnowsSymbol conf b e h (s.answer b) (known old b e)) (sym stays.0) (knows b e below few)))
@@ -274,8 +277,8 @@ module _ (s new : State) (p : Packet) (adds : Adds s p new) (old k : KnownDigest
     in_answered block answered =
         let stays = subst (λ a. AddsToBlock (s.received here) a p (new.received here) (new.answer here)) answered adds.here in
         let same : known k here e ≡ known old here e =
-            noted ∙ ap (λ a. or_later (known old here e) (cond ((is_none a && ltb p.id.esi (block_symbols conf here)) && eqb p.id.esi e) (Some digest) None)) answered
-            ∙ or_later-none (known old here e) in
+        noted ∙ ap (λ a. or_later (known old here e) (cond ((is_none a && ltb p.id.esi (block_symbols conf here)) && eqb p.id.esi e) (Some digest) None)) answered
+        ∙ or_later-none (known old here e) in
         let was = subst (λ a. KnowsSymbol conf here e (s.received here) a (known old here e)) answered (knows here e below few) in
         subst (λ x. KnowsSymbol conf here e (new.received here) (new.answer here) x) (sym same)
         (subst (λ a. KnowsSymbol conf here e (new.received here) a (known old here e)) (sym stays.1) was)
@@ -288,12 +291,12 @@ module _ (s new : State) (p : Packet) (adds : Adds s p new) (old k : KnownDigest
     in_open unanswered =
         let opened = subst (λ a. AddsToBlock (s.received here) a p (new.received here) (new.answer here)) unanswered adds.here in
         let was : known old here e ≡ option_map digest_of ((s.received here).received e) =
-            subst (λ a. KnowsSymbol conf here e (s.received here) a (known old here e)) unanswered (knows here e below few) in
+        subst (λ a. KnowsSymbol conf here e (s.received here) a (known old here e)) unanswered (knows here e below few) in
         let now : known k here e ≡ option_map digest_of (behind.received e) =
-            noted ∙ ap (λ a. or_later (known old here e) (cond ((is_none a && ltb p.id.esi (block_symbols conf here)) && eqb p.id.esi e) (Some digest) None)) unanswered
-            ∙ ap (or_later (known old here e)) (noted_here p.id.esi e (block_symbols conf here) digest (eqb p.id.esi e) few refl)
-            ∙ ap (λ o. or_later o (cond (eqb p.id.esi e) (Some digest) None)) was
-            ∙ later_digest ((s.received here).received e) (eqb p.id.esi e) p.payload in
+        noted ∙ ap (λ a. or_later (known old here e) (cond ((is_none a && ltb p.id.esi (block_symbols conf here)) && eqb p.id.esi e) (Some digest) None)) unanswered
+        ∙ ap (or_later (known old here e)) (noted_here p.id.esi e (block_symbols conf here) digest (eqb p.id.esi e) few refl)
+        ∙ ap (λ o. or_later o (cond (eqb p.id.esi e) (Some digest) None)) was
+        ∙ later_digest ((s.received here).received e) (eqb p.id.esi e) p.payload in
         subst (λ x. KnowsSymbol conf here e (new.received here) (new.answer here) x) (sym now) (by (new.answer here) refl opened)
       where
         by : (a : Option (List ℕ)) → new.answer here ≡ a → AddsOpen (s.received here) p (new.received here) (new.answer here)

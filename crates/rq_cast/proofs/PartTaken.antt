@@ -1,6 +1,6 @@
 -- What a part's receiver has taken, cell by cell.
-use Rattle.std.proofs.Common.{◌≡◌, ℕ, ◌+◌, ◌≤◌, List, [], ◌∷◌, ◌++◌, Bool, true, false, Option, Some, None, refl, sym, ap, subst, ◌∙◌, arith, length, drop, map, inl, inr, append-nil, append_assoc, length-append}
-use Rattle.std.specs.Prelude.{◌⊎◌, IfSome, MatchOption, Contains}
+use Rattle.std.proofs.Common.{◌≡◌, ℕ, ◌+◌, ◌≤◌, List, [], ◌∷◌, ◌++◌, true, false, Option, Some, None, refl, sym, ap, subst, ◌∙◌, arith, length, drop, map, inl, inr, append-nil, length-append}
+use Rattle.std.specs.Prelude.{IfSome, MatchOption, Contains}
 use Rattle.std.proofs.lemmas.Bool.{true≢false}
 use Rattle.std.proofs.lemmas.List.{map-append}
 use Rattle.std.proofs.lemmas.List.Elements.{Contains-push, Contains-append_left}

@@ -89,8 +89,7 @@ sent_cells_are_found table bytes s is i sent before rest cell =
     let c = s.encoded.configuration in
     let p = cell.packet in
     let of = cell.of_object table (sealed bytes) is.encoder in
-    let found = found_of_stream s.key before (record { head = s.head; packet = p }) rest (is_cell table bytes s is p of) in
-    (
+    let found = found_of_stream s.key before (record { head = s.head; packet = p }) rest (is_cell table bytes s is p of) in (
       record { head = s.head; packet = p },
       cell.id,
       (refl, cell.of_object),

@@ -1,17 +1,14 @@
 -- What a decoder keeps of a block is of its configuration.
-use Rattle.std.proofs.Common.{◌≡◌, ℕ, ◌<◌, List, [], ◌∷◌, length, get_or, map, ap, ◌∙◌, arith}
-use Rattle.std.specs.Prelude.{All}
-use Rattle.std.specs.List.{range_with_len}
+use Rattle.std.proofs.Common.{◌≡◌, ℕ, ◌<◌, List, [], ◌∷◌, length, get_or, ap, ◌∙◌, arith}
 use Rattle.std.proofs.lemmas.List.{get_or_default}
 use Rattle.rq_standard.specs.Configuration.{Configuration}
 use Rattle.rq_standard.specs.Cutting.{block_symbols}
 use Rattle.rq_standard.specs.ReceivedBlock.{ReceivedBlock}
-use Rattle.rq_block.specs.SourceBlockDecoder.{received_of}
 use Rattle.rq_block.proofs.Numbered.{length-numbered, numbered_at}
 use Rattle.raptorq.specs.declared.decoder.block.ObjectBlock.{ObjectBlock}
 use Rattle.raptorq.specs.declared.decoder.object.Decoder.{Decoder}
-use Rattle.raptorq.specs.Decoder.{received_at, state_of}
-use Rattle.raptorq.proofs.ObjectBlocks.{block_number, IsCut, received_here}
+use Rattle.raptorq.specs.Decoder.{state_of}
+use Rattle.raptorq.proofs.ObjectBlocks.{block_number, received_here}
 
 some_block : (items : List ObjectBlock) (n : ℕ) → n < length items → ObjectBlock
 some_block [] n below = absurd (omega arith)

@@ -1,5 +1,5 @@
 -- What a receiver of a part makes of cells of its stream, whoever sent them.
-use Rattle.std.specs.Prelude.{◌≡◌, ◌⊎◌, ℕ, ◌<◌, ◌≤◌, List, [], ◌∷◌, ◌++◌, length, map, drop, Contains, Option, Some, Ok, IfSome, MatchOption, option_map, vec_items, Bool, true, false}
+use Rattle.std.specs.Prelude.{◌≡◌, ◌⊎◌, ℕ, ◌<◌, ◌≤◌, List, [], ◌∷◌, ◌++◌, length, map, drop, Contains, Some, Ok, IfSome, MatchOption, option_map, vec_items, Bool, true, false}
 use Rattle.rq_standard.specs.declared.row.TableRow.{TableRow}
 use Rattle.rq_standard.specs.TableRows.{greatest_size}
 use Rattle.rq_standard.specs.Configuration.{largest_block}

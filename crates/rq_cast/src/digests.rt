@@ -12,9 +12,7 @@ ghost use Rattle.rq_cast.specs.Digests.{last_width, AreWhole, KnowsSymbols, Know
 use crate::parts::bytes_of_block;
 use raptorq::base::{ENCODING_SYMBOL_IDS, PayloadId};
 use raptorq::error::Error;
-use raptorq::{
-    BlockLayout, Decoder, ObjectTransmissionInformation, block_symbols,
-};
+use raptorq::{BlockLayout, Decoder, ObjectTransmissionInformation, block_symbols};
 use rq_cells::{DIGEST_LENGTH, digest_of};
 use std::alloc::{AllocError, Global};
 use std::collections::BTreeMap;
@@ -44,7 +42,9 @@ impl KnownDigests {
         requires { esi < 2 ^ 24 }
         ensures { result ≡ known self.now block esi }
     {
-        self.of.get(&(u32::from(block) * ENCODING_SYMBOL_IDS + esi)).copied()
+        self.of
+            .get(&(u32::from(block) * ENCODING_SYMBOL_IDS + esi))
+            .copied()
     }
 
     // Keeps the digest of a block's symbol, unless it has one of that id.
@@ -79,7 +79,9 @@ impl KnownDigests {
     {
         let block = id.source_block_number();
         let esi = id.encoding_symbol_id();
-        if decoder.block_bytes(block).is_some() || esi >= block_symbols(&decoder.get_config(), block) {
+        if decoder.block_bytes(block).is_some()
+            || esi >= block_symbols(&decoder.get_config(), block)
+        {
             return Ok(());
         }
         self.keep_first(block, esi, digest)

@@ -1,4 +1,4 @@
-//! The digests of an object's symbols, and the name and the end of its part.
+//! The digests of an object's symbols, and the end of its part.
 ghost use Rattle.std.specs.Prelude.{◌≡◌, ◌-◌, ◌*◌, ◌<◌, ◌≤◌, [], ◌++◌, length, map, take, drop, IfOk, IfErr, OnOk};
 ghost use Rattle.std.specs.List.{range_with_len, flat_map};
 ghost use Rattle.sha2.specs.Sha512.{sha512};
@@ -6,11 +6,11 @@ ghost use Rattle.rq_standard.specs.Configuration.{IsAligned, largest_block};
 ghost use Rattle.rq_standard.specs.Cutting.{symbol_of_block};
 ghost use Rattle.raptorq.specs.BlockBytes.{bytes_of_block};
 ghost use Rattle.rq_cells.specs.Cells.{digest_of};
-ghost use Rattle.rq_cast.specs.Parts.{source_digests, name_of_part, seal_of};
+ghost use Rattle.rq_cast.specs.Parts.{source_digests, seal_of};
 
 use raptorq::error::Error;
 use raptorq::{BlockLayout, ObjectTransmissionInformation, block_symbols, symbols_before};
-use rq_cells::{DIGEST_LENGTH, NAME_LENGTH, part_name};
+use rq_cells::DIGEST_LENGTH;
 use rq_digests::all_digests;
 use sha2::{Digest, Sha512};
 use std::alloc::{AllocError, Global};
@@ -35,23 +35,6 @@ fn first_bytes(hash: &[u8; 64]) -> [u8; 32]
     let mut first = [0; 32];
     first.copy_from_slice(&hash[..32]);
     first
-}
-
-/// The name of the part of a number that is this object. Refuses [`Error::OutOfMemory`] alone.
-pub(crate) fn part_name_of(
-    alloc: Global,
-    number: u32,
-    config: &ObjectTransmissionInformation,
-    object: &[u8],
-) -> Result<[u8; NAME_LENGTH], Error>
-    requires positive { 0 < config.now.symbol_size }
-    requires few { largest_block config.now < 65536 }
-    requires aligned { IsAligned config.now }
-    ensures name { IfOk result (λ name. name ≡ name_of_part number config.now object.now) }
-    ensures memory { IfErr result (λ e. e ≡ Error.OutOfMemory) }
-{
-    let digests = source_digests(alloc, config, object)?;
-    Ok(part_name(number, config, digests.as_slice()))
 }
 
 /// The digests of an object's source symbols, block by block, each as its packet carries it: zeros fill

@@ -21,10 +21,10 @@ returns-clause-whole c = λ e t below small.
     let filled = c.div_ceil-filled_up.result in
     let size = c.from.ensures ∙ c.symbol_size.ensures in
     let covered : count * c.from.result - n ≤ filled * width =
-        subst (λ m. count * c.from.result - n ≤ m * width) (sym c.div_ceil-filled_up.ensures)
-        (div_ceil_times (count * c.from.result - n) width (omega (arith, c.if-width-eq0.false))).0 in
+    subst (λ m. count * c.from.result - n ≤ m * width) (sym c.div_ceil-filled_up.ensures)
+    (div_ceil_times (count * c.from.result - n) width (omega (arith, c.if-width-eq0.false))).0 in
     let covered_there : count * k.symbol_size - n ≤ filled * last_width k =
-        subst (λ w. count * k.symbol_size - n ≤ filled * w) c.last_width-width.ensures
-        (subst (λ m. count * m - n ≤ filled * width) size covered) in
+    subst (λ w. count * k.symbol_size - n ≤ filled * w) c.last_width-width.ensures
+    (subst (λ m. count * m - n ≤ filled * width) size covered) in
     let fits : c.saturating_sub.result + filled ≤ count = omega (arith, c.saturating_sub.ensures, below) in
     are_whole k count n filled c.saturating_sub.result c.requires.aligned covered_there fits e t below small

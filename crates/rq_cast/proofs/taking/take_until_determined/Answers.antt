@@ -1,9 +1,7 @@
-use Rattle.std.proofs.Common.{◌≡◌, ◌<◌, sym, ap, subst, ◌∙◌, arith, rules, refl, length, take, take_at}
+use Rattle.std.proofs.Common.{◌≡◌, ◌<◌, sym, ap, ◌∙◌, arith, rules, refl, length, take, take_at}
 use Rattle.std.proofs.lemmas.Result.{err_from_is_err_and}
-use Rattle.std.specs.Prelude.{OnOk, OnErr}
-use Rattle.rq_cast.specs.Receiving.{ReadsAll, SeesNothingMore}
 use Rattle.rq_cast.specs.Input.{source, last_length}
-use Rattle.rq_cast.proofs.Receiving.{longer, reading_first, reading_next, receives_all, receives_many, receives_none, none_open, sees_behind}
+use Rattle.rq_cast.proofs.Receiving.{reading_first, reading_next, receives_all, receives_many, receives_none, none_open, sees_behind}
 use Rattle.rq_cast.proofs.taking.take_until_determined.Goals as goal
 
 pub reading-init : goal.reading-init

@@ -1,4 +1,4 @@
-use Rattle.std.proofs.Common.{◌≡◌, ℕ, List, Option, Some, None, true, false, refl, sym, subst, ◌∙◌, Vec, Global}
+use Rattle.std.proofs.Common.{◌≡◌, ℕ, List, Option, Some, None, true, false, refl, sym, ◌∙◌, Vec, Global}
 use Rattle.std.specs.Prelude.{IfSome, IsSome, is_some, option_map, vec_items}
 use Rattle.rq_standard.specs.DecoderState.{result_of}
 use Rattle.raptorq.specs.Decoder.{state_of}

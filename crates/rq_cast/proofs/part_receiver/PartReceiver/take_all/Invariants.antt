@@ -1,5 +1,4 @@
 use Rattle.std.proofs.Common.{◌≡◌, ◌++◌, map}
-use Rattle.std.specs.Prelude.{All}
 use Rattle.std.specs.Vec.Iter.{into_iter_items}
 use Rattle.rq_cast.specs.PartReceiving.{IsSound, TakesCells}
 use Rattle.rq_cast.proofs.part_receiver.PartReceiver.take_all.Given as goal

@@ -1,4 +1,4 @@
-use Rattle.std.proofs.Common.{◌≡◌, refl, subst, arith}
+use Rattle.std.proofs.Common.{refl, subst, arith}
 use Rattle.rq_cells.specs.Scans.{Settles}
 use Rattle.rq_cast.proofs.Receiving.{reads_all}
 use Rattle.rq_cast.proofs.receiver.Receiver.take_cells.Goals as goal
