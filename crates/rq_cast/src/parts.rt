@@ -1,4 +1,4 @@
-//! The digests of an object's symbols, and the name and the end of its part.
+//! The digests of an object's symbols, and the end of its part.
 ghost use Rattle.std.specs.Prelude.{◌≡◌, ◌-◌, ◌*◌, ◌<◌, ◌≤◌, [], ◌++◌, length, map, take, drop, IfOk, IfErr, OnOk};
 ghost use Rattle.std.specs.List.{range_with_len, flat_map};
 ghost use Rattle.sha2.specs.Sha512.{sha512};

@@ -1,4 +1,4 @@
-//! Bytes in, the object of the cells among them out.
+//! Bytes in, the stream of the cells among them out.
 ghost use Rattle.std.specs.Prelude.{◌-◌, ◌<◌, ◌^◌};
 ghost use Rattle.rq_streams.specs.Counted.{failed_count, inner};
 ghost use Rattle.rq_streams.specs.Ends.{EndsAtFailure};

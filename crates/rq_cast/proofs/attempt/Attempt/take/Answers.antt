@@ -1,7 +1,6 @@
-use Rattle.std.proofs.Common.{◌≡◌, ◌≢◌, Bool, true, false, Result, Ok, Err, sym, ap, subst, arith}
-use Rattle.std.specs.Prelude.{IfOk}
+use Rattle.std.proofs.Common.{◌≡◌, ◌≢◌, Bool, true, false, sym, ap, subst, arith}
 use Rattle.std.proofs.lemmas.Bool.{lt-ltb}
-use Rattle.rq_bytes.specs.declared.error.Error.{Error}
+use Rattle.std.proofs.lemmas.Result.{IfOk-weaker}
 use Rattle.rq_bytes.specs.declared.error.Error.TheVariants.{OutOfMemory}
 use Rattle.rq_standard.specs.Packet.{SymbolId}
 use Rattle.raptorq.specs.Decoder.{state_of}
@@ -12,11 +11,6 @@ use Rattle.rq_cast.specs.PartReceiving.{TakesOrFails}
 use Rattle.rq_cast.proofs.AttemptSteps.{refused, unlooked, looked}
 use Rattle.rq_cast.proofs.attempt.Attempt.take.Goals as goal
 use Rattle.rq_cast.proofs.attempt.Attempt.take.Goals.{After-add_new_packet}
-
--- what follows of a result that is Ok
-if_ok : (P Q : Bool → Type 0) (r : Result Bool Error) → ((b : Bool) → P b → Q b) → IfOk r P → IfOk r Q
-if_ok P Q (Ok b) all p = all b p
-if_ok P Q (Err e) all p = tt
 
 module _ (c : After-add_new_packet) where
   -- the part has the packet's block
@@ -46,7 +40,7 @@ look-requires c =
 pub returns-in-Ok-clause-takes : goal.returns-in-Ok-clause-takes
 returns-in-Ok-clause-takes c =
     let at = (goal.at.returns-in-Ok-clause-takes c).After-add_new_packet in
-    if_ok _ (TakesOrFails c.args.head.now c.args.self.now c.args.packet c.look.new.self) c.look.result
+    IfOk-weaker c.look.result _ (TakesOrFails c.args.head.now c.args.self.now c.args.packet c.look.new.self)
     (looked c.args.head.now c.args.self.now c.requires.attempt c.args.packet (known at) c.note.new.self (notes at) c.add_new_packet.new.self
     c.in-Ok.ensures c.look.new.self) c.look.ensures.looks
 
@@ -59,4 +53,4 @@ returns-in-Err-clause-takes c =
     let fails : (b : Bool) → (b ≡ false) × (c.in-Err.refusal ≢ OutOfMemory) → TakesOrFails h old p _ b =
     λ b (ended, not_memory). subst (TakesOrFails h old p _) (sym ended)
     (refused h old c.requires.attempt p (known at) c.add_new_packet.new.self c.in-Err.refusal c.in-Err.ensures not_memory) in
-    if_ok _ (TakesOrFails h old p _) c.end_unless_memory.result fails c.end_unless_memory.ensures.ends
+    IfOk-weaker c.end_unless_memory.result _ (TakesOrFails h old p _) fails c.end_unless_memory.ensures.ends
