@@ -67,7 +67,7 @@ impl<'w, 'a> Devices<'w> for Memory<'a> {
     }
 
     fn open(&mut self, files: Vec<&'w str>) -> Result<Bytes<'a>, Stop> {
-        self.read += files.len();
+        self.read = self.read.saturating_add(files.len());
         let rest: &'a [u8] = match files.first() {
             Some(file) if *file == "KEY" => &KEY,
             Some(file) if *file == "EMPTY" => &[],
