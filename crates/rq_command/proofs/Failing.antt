@@ -1,5 +1,7 @@
 -- Failed calls of a run.
 use Rattle.std.proofs.Common.{◌≡◌, ℕ, ◌+◌, ◌≤◌, Option, Some, None, Result, Ok, Err, true, false, refl, sym, subst, ap, ◌∙◌, arith, lit<}
+use Rattle.std.specs.Result.{IsErrAnd}
+use Rattle.std.proofs.lemmas.Result.{err_from_is_err_and}
 use Rattle.rq_streams.specs.declared.run.Stop.{Stop}
 use Rattle.rq_streams.specs.declared.run.Stop.TheVariants.{Fault, Refused}
 use Rattle.rq_streams.specs.Ends.{failed_calls}
@@ -12,10 +14,6 @@ use Rattle.rq_command.specs.Program.{Failures, FailsReceiving, end_of}
 
 -- ---- counts
 
-pub none_failed : (a : Option ℕ) → Fails a a 0
-none_failed None = tt
-none_failed (Some n) = let same : n ≡ n + 0 = omega arith in ap (λ k. Some k) same
-
 -- some, and then others
 pub failed_then : (a b c : Option ℕ) (m n all : ℕ) → Fails a b m → Fails b c n → m + n ≡ all → Fails a c all
 failed_then None b c m n all first then is = tt
@@ -24,9 +22,16 @@ failed_then (Some x) b c m n all first then is =
     let same : x + m + n ≡ x + all = omega (arith, is) in behind ∙ ap (λ k. Some k) same
 
 -- what stopped a run that failed so often
-pub stopped : (r : Result End Stop) (stop : Stop) (a b : Option ℕ) → r ≡ Err stop → Fails a b (failed_calls {X = ℕ} (Err stop)) → Failures (end_of r) a b
+stopped : (r : Result End Stop) (stop : Stop) (a b : Option ℕ) → r ≡ Err stop → Fails a b (failed_calls {X = ℕ} (Err stop)) → Failures (end_of r) a b
 stopped r Fault a b is fails = subst (λ (e : Result End Stop). Failures (end_of e) a b) (sym is) (1, fails, lit< tt)
 stopped r (Refused e) a b is fails = subst (λ (e : Result End Stop). Failures (end_of e) a b) (sym is) (0, fails, tt)
+
+-- the same, passed on by a run in which none failed before
+pub passed_on : (r : Result End Stop) (stop : Stop) (a b c : Option ℕ) → IsErrAnd r (λ s. s ≡ stop) → Fails a b 0
+    → Fails b c (failed_calls {X = ℕ} (Err stop)) → Failures (end_of r) a c
+passed_on r stop a b c is none fails =
+    let n = failed_calls {X = ℕ} (Err stop) in
+    let p = err_from_is_err_and r is in stopped r stop a c (p.1 ∙ ap (λ s. Err s) p.2) (failed_then a b c 0 n n none fails (omega arith))
 
 -- the same, where more may have failed
 pub stopped_later : (r : Result End Stop) (stop : Stop) (a b : Option ℕ) (more : ℕ) → r ≡ Err stop

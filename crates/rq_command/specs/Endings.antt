@@ -11,7 +11,7 @@ use Rattle.rq_cast.specs.declared.run.Ending.{Ending}
 use Rattle.rq_cast.specs.declared.run.Ending.TheVariants.{Written, Incomplete, AnotherObject}
 use Rattle.rq_cast.specs.declared.survey.Standing.{Standing}
 use Rattle.rq_command.specs.declared.ending.End.{End}
-use Rattle.rq_command.specs.declared.ending.End.TheVariants.{Unasked, AtTerminal, Sent, Received, Surveyed, Stopped}
+use Rattle.rq_command.specs.declared.ending.End.TheVariants.{Unasked, AtTerminal, EmptyKey, Sent, Received, Surveyed, Stopped}
 
 -- of words that ask for no job
 abbrev pub word_status : ErrorKind → ℕ
@@ -54,6 +54,7 @@ survey_status (standing ∷ others) = 0
 abbrev pub status_of : End → ℕ
 status_of (Unasked e) = word_status (kind_of e)
 status_of AtTerminal = 64
+status_of EmptyKey = 64
 status_of (Sent cells lost) = sent_status cells lost
 status_of (Received (Ok ending) seen) = ending_status ending
 status_of (Received (Err stop) seen) = stop_status stop

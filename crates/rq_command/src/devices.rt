@@ -34,11 +34,13 @@ pub trait Devices<'w> {
     /// Whether standard output is a terminal.
     fn shows_output(&self) -> bool;
 
-    /// What reads these files, one behind another, or standard input, where there are none.
+    /// What reads these files, one behind another, or standard input, where there are none. A key is read so
+    /// too, from the file that holds it.
     fn open(&mut self, files: Vec<&'w str>) -> Result<Self::Reader, Stop>
         ensures bytes { IfOk result (λ r. Self.Reader.remaining r ≡ stands self.old (map (λ s. s.now) files.entry.items)) }
         ensures fault { IfErr result (λ stop. stop ≡ Stop.Fault) }
         ensures counts { Fails (failed self.old) (failed self.new) (failed_calls result) }
+        ensures stays { stands self.new ≡ stands self.old }
         ensures kept { placed self.new ≡ placed self.old };
 
     /// How many bytes a reader has, where that is known before they are read.
@@ -48,6 +50,7 @@ pub trait Devices<'w> {
     /// Counts the calls that failed of what was opened.
     fn count<X>(&mut self, calls: &Counted<X>)
         ensures counts { Fails (failed self.old) (failed self.new) (failed_count calls.now) }
+        ensures stays { stands self.new ≡ stands self.old }
         ensures kept { placed self.new ≡ placed self.old };
 
     /// What writes beside a file, or on standard output.

@@ -1,6 +1,6 @@
 //! How the program ends.
 ghost use Rattle.std.specs.Prelude.{◌≡◌};
-ghost use Rattle.rq_command.specs.Endings.{all_lost, ending_status, stop_status, sent_status, status_of, word_status};
+ghost use Rattle.rq_command.specs.Endings.{all_lost, ending_status, stop_status, status_of, word_status};
 
 use clap::Error;
 use clap::error::ErrorKind;
@@ -15,6 +15,8 @@ pub enum End {
     Unasked(Error),
     /// Its cells would have gone to a terminal, and nothing was read.
     AtTerminal,
+    /// The file of its key has no bytes, and nothing else was read.
+    EmptyKey,
     /// It has sent cells.
     Sent {
         /// How many were to be sent.
@@ -32,15 +34,16 @@ pub enum End {
 
 impl End {
     /// The status that the program ends with: 0 where all is done, 1 after a fault of the system, 2 where
-    /// too little came, 3 where what came is refused or isn't what it says, or no cell has the ids that were
-    /// asked for, and 64 where the words are wrong.
+    /// too little came, 3 where what came is refused or isn't what it says, and 64 where the words are wrong,
+    /// or the key is empty.
     pub fn status(&self) -> u8
         ensures { result ≡ status_of self.now }
     {
         match self {
             End::Unasked(error) => word_status(error.kind()),
-            End::AtTerminal => 64,
-            End::Sent { cells, lost } => sent_status(*cells, *lost),
+            End::AtTerminal | End::EmptyKey => 64,
+            // There may be no cells: of a small object a share may be empty.
+            End::Sent { cells, lost } => u8::from(all_lost(*cells, *lost)),
             End::Received(Ok(ending), _) => ending_status(*ending),
             End::Received(Err(stop), _) => stop_status(*stop),
             End::Surveyed(standings) => if standings.is_empty() { 2 } else { 0 },
@@ -67,13 +70,6 @@ pub(crate) fn all_lost(cells: u64, lost: u64) -> bool
     ensures { result ≡ all_lost cells lost }
 {
     lost > 0 && lost >= cells / 2
-}
-
-// Of cells that were to be sent. There may be none: of a small object a share may be empty.
-fn sent_status(cells: u64, lost: u64) -> u8
-    ensures { result ≡ sent_status cells lost }
-{
-    u8::from(all_lost(cells, lost))
 }
 
 // Of a run that nothing stopped.

@@ -153,6 +153,10 @@ pub fn write_end<W: Write>(end: &End, out: &mut W) -> io::Result<()> {
             out,
             "rqcast: cells aren't written to a terminal: send them on, as by >FILE"
         ),
+        End::EmptyKey => writeln!(
+            out,
+            "rqcast: the key is empty: take a file of some bytes, as 32 of /dev/urandom"
+        ),
         End::Sent { cells, .. } if *cells == 0 => writeln!(
             out,
             "rqcast: no cell is sent: --from and --share begin behind the last id"

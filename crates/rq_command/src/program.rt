@@ -1,18 +1,17 @@
 //! The program from its words to its end, over any devices.
-ghost use Rattle.std.specs.Prelude.{◌≡◌, ◌⊎◌, ℕ, ◌+◌, ◌<◌, length, map, None, Ok, Err, IfOk, IfErr, IfSome};
+ghost use Rattle.std.specs.Prelude.{◌≡◌, ◌⊎◌, ℕ, ◌+◌, ◌<◌, map, option_map, Ok, Err, IfOk, IfErr};
 ghost use Rattle.rq_streams.specs.Ends.{failed_calls};
-ghost use Rattle.rq_cast.specs.Preparing.{IsPrepared, StopsPreparing};
 ghost use Rattle.rq_cast.specs.Sent.{sending_of};
 ghost use Rattle.rq_command.specs.Failed.{Fails};
+ghost use Rattle.rq_command.specs.Keyed.{key_file, IsKeyRead};
 ghost use Rattle.rq_command.specs.Placed.{is_whole, IsPlaced};
-ghost use Rattle.rq_command.specs.Program.{EndsSend, EndsReceive, EndsInfo, end_of, Does, FailsReceiving, Failures};
+ghost use Rattle.rq_command.specs.Program.{StopsReading, StopsJob, Prepares, EndsJob, end_of, Does, FailsReceiving, Failures};
 
 use crate::devices::{Devices, Teller};
 use crate::ending::End;
 use crate::told::Told;
 use rq_cast::{
-    Ending, Input, Order, Output, Seen, Sender, check_length, read_sender, run_receive,
-    standings_in,
+    Ending, Input, Output, Seen, Sender, check_length, read_sender, run_receive, standings_in,
 };
 use rq_cells::{Key, Wanted};
 use rq_rows::full_table;
@@ -21,27 +20,66 @@ use rq_words::{InfoJob, Job, ReceiveJob, SendJob, job};
 use std::alloc::Global;
 use std::convert::AsStr;
 
-// Reads an object to its end, and makes its sender. Where its length is known, that is checked first.
+// The key that a file has, all of whose bytes it is; none where there are none. Without a file it is that of
+// cells by no key.
+fn key_of<'w, D: Devices<'w>>(
+    alloc: Global,
+    file: Option<&'w str>,
+    devices: &mut D,
+) -> Result<Option<Key>, Stop>
+    ensures key { IfOk result (IsKeyRead (key_file (D.stands devices.old) (option_map (λ s. s.now) file.entry))) }
+    ensures stops { IfErr result StopsReading }
+    ensures counts { Fails (D.failed devices.old) (D.failed devices.new) (failed_calls result) }
+    ensures stays { D.stands devices.new ≡ D.stands devices.old }
+    ensures kept { D.placed devices.new ≡ D.placed devices.old }
+{
+    let Some(file) = file else {
+        return Ok(Some(Key::none()));
+    };
+    let reader = devices.open(Vec::from_slice(alloc, &[file])?)?;
+    let mut input = Counted::new(reader);
+    let read = read_all(alloc, &mut input);
+    devices.count(&input);
+    let bytes = read?;
+    if bytes.is_empty() {
+        return Ok(None);
+    }
+    Ok(Some(Key::new(bytes)))
+}
+
+// Reads an object to its end, and makes its sender; none where the key is empty. A length that is known is
+// checked before that.
 fn prepare<'w, D: Devices<'w>, T: Teller>(
     alloc: Global,
-    order: &Order,
-    reader: D::Reader,
+    job: SendJob<'w>,
     devices: &mut D,
     teller: &mut T,
-) -> Result<Sender, Stop>
-    requires step { 0 < order.now.ids.step }
-    ensures prepared { IfOk result (λ s. IfSome (D.Reader.remaining reader) (λ object. IsPrepared order.now None object (sending_of s))) }
-    ensures stops { IfErr result (λ stop. IfSome (D.Reader.remaining reader) (λ object. StopsPreparing order.now object stop)) }
+) -> Result<Option<Sender>, Stop>
+    requires step { 0 < job.order.ids.step }
+    ensures prepared { IfOk result (λ s. Prepares job.entry (D.stands devices.old) (option_map sending_of s)) }
+    ensures stops { IfErr result (StopsJob job.entry (D.stands devices.old)) }
     ensures counts { Fails (D.failed devices.old) (D.failed devices.new) (failed_calls result) }
     ensures kept { D.placed devices.new ≡ D.placed devices.old }
 {
-    if let Some(length) = devices.length(&reader) {
+    let SendJob {
+        order,
+        key,
+        files,
+        telling,
+    } = job;
+    let Some(key) = key_of(alloc, key, devices)? else {
+        return Ok(None);
+    };
+    let reader = devices.open(files)?;
+    let length = devices.length(&reader);
+    teller.begin(telling, order.ids.rate, length);
+    if let Some(length) = length {
         check_length(alloc, length, order.symbol_size)?;
     }
     let mut input = Counted::new(Told::new(reader, teller));
-    let prepared = read_sender(alloc, order, Key::none(), &mut input);
+    let prepared = read_sender(alloc, &order, key, &mut input);
     devices.count(&input);
-    prepared
+    Ok(Some(prepared?))
 }
 
 // Sends an object. Nothing is read where its cells would go to a terminal.
@@ -52,21 +90,15 @@ fn send<'w, D: Devices<'w>, T: Teller>(
     teller: &mut T,
 ) -> Result<End, Stop>
     requires { 0 < job.order.ids.step }
-    ensures does { EndsSend job.entry.order (D.stands devices.old (map (λ s. s.now) job.entry.files.items)) D.blank (end_of result)
-        (D.placed devices.old) (D.placed devices.new) }
+    ensures does { EndsJob (Job.Send job.entry) (D.stands devices.old) D.blank (end_of result) (D.placed devices.old) (D.placed devices.new) }
     ensures failures { Failures (end_of result) (D.failed devices.old) (D.failed devices.new) }
 {
-    let SendJob {
-        order,
-        files,
-        telling,
-    } = job;
     if devices.shows_output() {
         return Ok(End::AtTerminal);
     }
-    let reader = devices.open(files)?;
-    teller.begin(telling, order.ids.rate, devices.length(&reader));
-    let sender = prepare(alloc, &order, reader, devices, teller)?;
+    let Some(sender) = prepare(alloc, job, devices, teller)? else {
+        return Ok(End::EmptyKey);
+    };
     teller.announce(&sender);
     let mut output = Output::new(Counted::new(devices.create(None)?));
     let sent = sender.send(alloc, &mut output, teller);
@@ -115,18 +147,20 @@ fn receive<'w, D: Devices<'w>, T: Teller>(
     devices: &mut D,
     teller: &mut T,
 ) -> Result<End, Stop>
-    ensures does { EndsReceive job.entry.name.items job.entry.output (D.stands devices.old (map (λ s. s.now) job.entry.files.items)) D.blank (end_of result)
-        (D.placed devices.old) (D.placed devices.new) }
+    ensures does { EndsJob (Job.Receive job.entry) (D.stands devices.old) D.blank (end_of result) (D.placed devices.old) (D.placed devices.new) }
     ensures failures { Failures (end_of result) (D.failed devices.old) (D.failed devices.new) }
 {
     let ReceiveJob {
         name,
+        key,
         output,
         files,
         telling,
     } = job;
+    let Some(key) = key_of(alloc, key, devices)? else {
+        return Ok(End::EmptyKey);
+    };
     let table = full_table(alloc)?;
-    let key = Key::none();
     let wanted = Wanted {
         key: &key,
         table: &table,
@@ -151,11 +185,17 @@ fn info<'w, D: Devices<'w>, T: Teller>(
     devices: &mut D,
     teller: &mut T,
 ) -> Result<End, Stop>
-    ensures does { EndsInfo (D.stands devices.old (map (λ s. s.now) job.entry.files.items)) (end_of result)
-        (D.placed devices.old) (D.placed devices.new) }
+    ensures does { EndsJob (Job.Info job.entry) (D.stands devices.old) D.blank (end_of result) (D.placed devices.old) (D.placed devices.new) }
     ensures failures { Failures (end_of result) (D.failed devices.old) (D.failed devices.new) }
 {
-    let InfoJob { files, telling } = job;
+    let InfoJob {
+        key,
+        files,
+        telling,
+    } = job;
+    let Some(key) = key_of(alloc, key, devices)? else {
+        return Ok(End::EmptyKey);
+    };
     let table = full_table(alloc)?;
     let reader = devices.open(files)?;
     teller.begin(telling, None, devices.length(&reader));
@@ -163,7 +203,7 @@ fn info<'w, D: Devices<'w>, T: Teller>(
     let read = read_all(alloc, &mut input);
     devices.count(&input);
     let bytes = read?;
-    let standings = standings_in(alloc, &table, &Key::none(), bytes.as_slice())?;
+    let standings = standings_in(alloc, &table, &key, bytes.as_slice())?;
     Ok(End::Surveyed(standings))
 }
 
@@ -180,8 +220,9 @@ fn end_of(ended: Result<End, Stop>) -> End
 /// The program from the words after its name to its end: [`job`] says what they ask for, and [`read_sender`]
 /// and [`Sender::send`], [`run_receive`] or [`standings_in`] does it, over all rows.
 ///
-/// Words that ask for no job read and write nothing. A file is put in its place only where the run has
-/// written all of it, and else is as it was.
+/// Words that ask for no job read and write nothing. Of a job with a key the file of that is read first, and
+/// where it is empty nothing else is done. A file is put in its place only where the run has written all of
+/// it, and else is as it was.
 pub fn run<'w, S: AsStr, D: Devices<'w>, T: Teller>(
     alloc: Global,
     words: &'w [S],

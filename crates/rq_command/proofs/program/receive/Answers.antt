@@ -1,36 +1,29 @@
-use Rattle.std.proofs.Common.{◌≡◌, ◌+◌, Err, ap, refl, subst, sym, ◌∙◌, arith}
-use Rattle.std.proofs.lemmas.Result.{err_from_is_err_and}
-use Rattle.rq_streams.specs.declared.run.Stop.TheVariants.{Refused}
+use Rattle.std.proofs.Common.{◌≡◌, ◌+◌, ℕ, Err, ap, refl, ◌∙◌, arith}
 use Rattle.rq_streams.specs.Counted.{failed_count}
 use Rattle.rq_streams.specs.Ends.{failed_calls}
 use Rattle.rq_cast.specs.Input.{counted_of}
 use Rattle.rq_command.specs.Failed.{Fails}
-use Rattle.rq_command.proofs.Failing.{failed_then, none_failed, stopped}
+use Rattle.rq_command.proofs.Failing.{failed_then, passed_on}
 use Rattle.rq_command.proofs.program.receive.Goals as goal
-
-pub returns-in_err-table-clause-failures : goal.returns-in_err-table-clause-failures
-returns-in_err-table-clause-failures g c =
-    let p = err_from_is_err_and c.from_residual.result c.from_residual.ensures.1 in
-    stopped c.from_residual.result (Refused c.in_err-table.field-0.0) (g.D.Devices.failed c.args.devices.now) (g.D.Devices.failed c.args.devices.now)
-    (p.1 ∙ ap (λ s. Err s) p.2) (none_failed (g.D.Devices.failed c.args.devices.now))
 
 pub returns-in_err-reader-clause-failures : goal.returns-in_err-reader-clause-failures
 returns-in_err-reader-clause-failures g c =
-    let p = err_from_is_err_and c.from_residual-in_err-reader.result c.from_residual-in_err-reader.ensures.1 in
-    stopped c.from_residual-in_err-reader.result c.in_err-reader.field-0.0 (g.D.Devices.failed c.args.devices.now) (g.D.Devices.failed c.open.new.self)
-    (p.1 ∙ ap (λ s. Err s) p.2) c.in_err-reader.ensures.counts
+    passed_on c.from_residual-in_err-reader.result c.in_err-reader.field-0.0 (g.D.Devices.failed c.args.devices.now) (g.D.Devices.failed c.key_of.new.devices)
+    (g.D.Devices.failed c.open.new.self) c.from_residual-in_err-reader.ensures.1 c.in_ok-key.ensures.counts c.in_err-reader.ensures.counts
 
 pub returns-in_err-create-clause-failures : goal.returns-in_err-create-clause-failures
 returns-in_err-create-clause-failures g c =
-    let p = err_from_is_err_and c.from_residual-in_err-create.result c.from_residual-in_err-create.ensures.1 in
-    stopped c.from_residual-in_err-create.result c.in_err-create.field-0.0 (g.D.Devices.failed c.args.devices.now) (g.D.Devices.failed c.create.new.self)
-    (p.1 ∙ ap (λ s. Err s) p.2)
-    (failed_then (g.D.Devices.failed c.args.devices.now) (g.D.Devices.failed c.open.new.self) (g.D.Devices.failed c.create.new.self) 0 _ _
-    c.in_ok-reader.ensures.counts c.in_err-create.ensures.counts (omega arith))
+    let k = g.D.Devices.failed c.key_of.new.devices in
+    let o = g.D.Devices.failed c.open.new.self in
+    let w = g.D.Devices.failed c.create.new.self in
+    let n = failed_calls {X = ℕ} (Err c.in_err-create.field-0.0) in
+    passed_on c.from_residual-in_err-create.result c.in_err-create.field-0.0 (g.D.Devices.failed c.args.devices.now) k w c.from_residual-in_err-create.ensures.1
+    c.in_ok-key.ensures.counts (failed_then k o w 0 n n c.in_ok-reader.ensures.counts c.in_err-create.ensures.counts (omega arith))
 
 pub returns-clause-failures : goal.returns-clause-failures
 returns-clause-failures g c =
     let a = g.D.Devices.failed c.args.devices.now in
+    let k = g.D.Devices.failed c.key_of.new.devices in
     let o = g.D.Devices.failed c.open.new.self in
     let w = g.D.Devices.failed c.create.new.self in
     let r = g.D.Devices.failed c.count.new.self in
@@ -46,7 +39,8 @@ returns-clause-failures g c =
     let sum : reads + (writes + last.0) ≡ all = omega (arith, read, input, output, c.run_receive-ended.ensures.failures.counts) in
     let behind : Fails r z (writes + last.0) = failed_then r s z writes last.0 (writes + last.0) c.count-2.ensures.counts last.1 refl in (
       all,
-      failed_then a o z 0 all all c.in_ok-reader.ensures.counts (failed_then o w z 0 all all c.in_ok-create.ensures.counts
-          (failed_then w r z reads (writes + last.0) all c.count.ensures.counts behind sum) (omega arith)) (omega arith),
+      failed_then a k z 0 all all c.in_ok-key.ensures.counts (failed_then k o z 0 all all c.in_ok-reader.ensures.counts
+          (failed_then o w z 0 all all c.in_ok-create.ensures.counts (failed_then w r z reads (writes + last.0) all c.count.ensures.counts behind sum) (omega arith))
+          (omega arith)) (omega arith),
       last.2,
     )

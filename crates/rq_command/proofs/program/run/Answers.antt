@@ -1,7 +1,6 @@
-use Rattle.std.proofs.Common.{map, refl}
+use Rattle.std.proofs.Common.{map}
 use Rattle.rq_words.specs.declared.jobs.Job.TheVariants.{Send, Receive, Info}
 use Rattle.rq_command.proofs.Doing.{done}
-use Rattle.rq_command.proofs.Failing.{none_failed}
 use Rattle.rq_command.proofs.program.run.Goals as goal
 
 pub returns-in-Ok-Send-clause-does : goal.returns-in-Ok-Send-clause-does
