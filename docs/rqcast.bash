@@ -2,7 +2,7 @@
 
 _rqcast() {
     local word=${COMP_WORDS[COMP_CWORD]} before=${COMP_WORDS[COMP_CWORD - 1]}
-    local words="-q --quiet --progress --json -h --help -V --version"
+    local words="-k --key -q --quiet --progress --json -h --help -V --version"
     COMPREPLY=()
     if [ "$COMP_CWORD" -eq 1 ]; then
         mapfile -t COMPREPLY < <(compgen -W "send receive info -h --help -V --version" -- "$word")
