@@ -15,6 +15,7 @@ fn ends_are_said(rt: HostRuntime) {
     let received = |ended| End::Received(ended, none);
     let rows = [
         (End::AtTerminal, "cells aren't written to a terminal", 64),
+        (End::EmptyKey, "the key is empty", 64),
         (End::Sent { cells: 0, lost: 0 }, "no cell is sent", 0),
         (End::Sent { cells: 5, lost: 1 }, "", 0),
         (

@@ -1,6 +1,9 @@
 //! The program from its words to its end, over memory.
-use crate::tests::stored_cells::{FIRST, FIRST_MISNAMED, OBJECT, SECOND, SECOND_MISNAMED, joined};
+use crate::tests::stored_cells::{
+    FIRST, FIRST_KEYED, FIRST_MISNAMED, KEY, OBJECT, SECOND, SECOND_KEYED, SECOND_MISNAMED, joined,
+};
 use raptorq::Decoder;
+use raptorq::error::Error;
 use rq_cast::{Pace, Progress, Seen, Sender};
 use rq_command::{Devices, End, Teller, Telling, run};
 use rq_streams::{Counted, Stop};
@@ -34,7 +37,8 @@ impl Write for Written {
     }
 }
 
-// All files, and standard input, have the same bytes. A file that is written holds some before.
+// KEY has a key, EMPTY has nothing, and all other files, and standard input, have the same bytes. A file that is
+// written holds some before.
 #[derive(Drop)]
 struct Memory<'a> {
     alloc: Global,
@@ -63,8 +67,13 @@ impl<'w, 'a> Devices<'w> for Memory<'a> {
     }
 
     fn open(&mut self, files: Vec<&'w str>) -> Result<Bytes<'a>, Stop> {
-        self.read = files.len();
-        Ok(Bytes { rest: self.input })
+        self.read = self.read.saturating_add(files.len());
+        let rest: &'a [u8] = match files.first() {
+            Some(file) if *file == "KEY" => &KEY,
+            Some(file) if *file == "EMPTY" => &[],
+            _ => self.input,
+        };
+        Ok(Bytes { rest })
     }
 
     fn length(&self, reader: &Bytes<'a>) -> Option<u64> {
@@ -131,15 +140,33 @@ fn done(alloc: Global, line: &str, input: &[u8], is_terminal: bool) -> Result<Do
 // Bytes in two parts, one behind the other.
 type Two = (&'static [u8], &'static [u8]);
 
+// Words, input, status, what is placed, and how many files are read.
+type Row = (&'static str, Two, u8, Two, usize);
+
+const NOTHING: Two = (b"", b"");
+
+const CELLS: Two = (&FIRST, &SECOND);
+
+const FILE: Two = (&OBJECT, b"");
+
+const KEYED: Two = (&FIRST_KEYED, &SECOND_KEYED);
+
+const MISNAMED: Two = (&FIRST_MISNAMED, &SECOND_MISNAMED);
+
+const OLD: Two = (b"old", b"");
+
+// What the program does by a row, and what is wanted.
+fn both(alloc: Global, row: &Row) -> Result<(Done, Done), Error> {
+    let (line, input, status, placed, read) = *row;
+    let input = joined(alloc, &[input.0, input.1])?;
+    let placed = joined(alloc, &[placed.0, placed.1])?;
+    let found = done(alloc, line, input.as_slice(), false)?;
+    Ok((found, (status, placed, read)))
+}
+
 #[test]
 fn words_are_done(rt: HostRuntime) {
-    let alloc = rt.alloc();
-    const NOTHING: Two = (b"", b"");
-    const CELLS: Two = (&FIRST, &SECOND);
-    const FILE: Two = (&OBJECT, b"");
-    const MISNAMED: Two = (&FIRST_MISNAMED, &SECOND_MISNAMED);
-    const OLD: Two = (b"old", b"");
-    let rows: [(&str, Two, u8, Two, usize); 11] = [
+    let rows: [Row; 11] = [
         ("send --cell 88 --repair 0 FILE", FILE, 0, CELLS, 1),
         ("send --cell=88 -r0 --share 0/2", FILE, 0, (&FIRST, b""), 0),
         ("send -c88 -r 0 --from 1 -q", FILE, 0, (&SECOND, b""), 0),
@@ -152,11 +179,30 @@ fn words_are_done(rt: HostRuntime) {
         ("receive", MISNAMED, 3, NOTHING, 0),
         ("info A", CELLS, 0, OLD, 1),
     ];
-    for (line, input, status, placed, read) in rows {
-        let input = joined(alloc, &[input.0, input.1]).expect(&rt, "memory");
-        let placed = joined(alloc, &[placed.0, placed.1]).expect(&rt, "memory");
-        let found = done(alloc, line, input.as_slice(), false).expect(&rt, "memory");
-        assert_eq!(rt; found, (status, placed, read), "{line}");
+    for row in rows {
+        let (found, wanted) = both(rt.alloc(), &row).expect(&rt, "memory");
+        assert_eq!(rt; found, wanted, "{}", row.0);
+    }
+}
+
+#[test]
+fn keys_are_used(rt: HostRuntime) {
+    let rows: [Row; 11] = [
+        ("send -c88 -r0 -k KEY FILE", FILE, 0, KEYED, 2),
+        ("receive --key KEY -o FILE", KEYED, 0, FILE, 1),
+        ("receive -o FILE", KEYED, 2, OLD, 0),
+        ("receive -kKEY -o FILE", CELLS, 2, OLD, 1),
+        ("receive -k OTHER -o FILE", KEYED, 2, OLD, 1),
+        ("info -k KEY A", KEYED, 0, OLD, 2),
+        ("info -k KEY A", CELLS, 2, OLD, 2),
+        ("info A", KEYED, 2, OLD, 1),
+        ("send -k EMPTY FILE", FILE, 64, OLD, 1),
+        ("receive -k EMPTY A B", KEYED, 64, OLD, 1),
+        ("info -k EMPTY A", KEYED, 64, OLD, 1),
+    ];
+    for row in rows {
+        let (found, wanted) = both(rt.alloc(), &row).expect(&rt, "memory");
+        assert_eq!(rt; found, wanted, "{}", row.0);
     }
 }
 

@@ -96,6 +96,32 @@ fn orders_are_read(rt: HostRuntime) {
     }
 }
 
+// Whether a line of words asks for a job by the key of this file.
+fn names_key(alloc: Global, line: &str, key: Option<&str>) -> Result<bool, AllocError> {
+    let words: Vec<&str> = line.split_whitespace().collect(alloc)?;
+    match job(alloc, words.as_slice()) {
+        Ok(Job::Send(job)) => Ok(job.key == key),
+        Ok(Job::Receive(job)) => Ok(job.key == key),
+        Ok(Job::Info(job)) => Ok(job.key == key),
+        Err(_) => Ok(false),
+    }
+}
+
+#[test]
+fn keys_are_named(rt: HostRuntime) {
+    for (line, key) in [
+        ("send", None),
+        ("send -k FILE", Some("FILE")),
+        ("send --key=FILE -q OTHER", Some("FILE")),
+        ("receive -kFILE A B", Some("FILE")),
+        ("receive A B", None),
+        ("info A --key FILE", Some("FILE")),
+    ] {
+        let is_named = names_key(rt.alloc(), line, key).expect(&rt, "memory");
+        assert!(rt; is_named, "{line}");
+    }
+}
+
 #[test]
 fn wrong_words_are_named(rt: HostRuntime) {
     let alloc = rt.alloc();
@@ -129,6 +155,7 @@ fn wrong_words_are_named(rt: HostRuntime) {
         ),
         ("receive --name b", "'b' for '--name <HEX>'"),
         ("receive --output", "'--output <FILE>'"),
+        ("info --key", "'--key <FILE>'"),
         (
             "info --quiet --json",
             "'--quiet' cannot be used with '--json'",
