@@ -175,8 +175,8 @@ fn words_are_done(rt: HostRuntime) {
         ("receive -o FILE --name 895c A B", CELLS, 0, FILE, 2),
         ("receive -o FILE --name 895d", CELLS, 2, OLD, 0),
         ("receive -o FILE", (&FIRST, &SECOND[..87]), 2, OLD, 0),
-        ("receive -o FILE", MISNAMED, 3, OLD, 0),
-        ("receive", MISNAMED, 3, NOTHING, 0),
+        ("receive -o FILE", MISNAMED, 2, OLD, 0),
+        ("receive", MISNAMED, 2, NOTHING, 0),
         ("info A", CELLS, 0, OLD, 1),
     ];
     for row in rows {

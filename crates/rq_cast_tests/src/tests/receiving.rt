@@ -2,9 +2,9 @@
 use crate::tests::stored_cells::{
     FIRST, FIRST_MISNAMED, OBJECT, OF_NO_BLOCK, SECOND, SECOND_MISNAMED, joined,
 };
-use raptorq::EncodingPacket;
 use raptorq::error::Error;
 use raptorq::systematic_constants::SystematicTable;
+use raptorq::{EncodingPacket, PayloadId};
 use rq_cast::{Ending, Input, Seen, Silent, run_receive};
 use rq_cells::{Cell, Key, Wanted};
 use rq_streams::{Counted, Stop};
@@ -128,9 +128,10 @@ fn other_runs_write_nothing(rt: HostRuntime) {
 fn forged(alloc: Global, name: u8, symbol: u8) -> Result<Vec<u8>, Error> {
     let mut cell = Cell::read(alloc, &Key::none(), &FIRST)?.ok_or(Error::PacketTooShort)?;
     cell.head.name[0] ^= name;
-    let (id, mut payload) = cell.packet.split();
+    let mut payload = [0; 24];
+    payload.copy_from_slice(&FIRST[56..80]);
     payload[0] ^= symbol;
-    cell.packet = EncodingPacket::new(id, payload);
+    cell.packet = EncodingPacket::new(PayloadId::new(0, 0)?, Vec::from_slice(alloc, &payload)?);
     cell.serialize(alloc, &Key::none())
 }
 

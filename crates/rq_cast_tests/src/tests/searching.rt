@@ -23,12 +23,17 @@ fn long_cell(alloc: Global) -> Result<Vec<u8>, Error> {
     cell.serialize(alloc, &Key::none())
 }
 
-// How many bytes of them were fed when a cell was found, at which of them it begins, how its stream begins,
-// and how many damaged cells were told before it.
+// The bytes from one place to another.
+fn part(bytes: &[u8], from: usize, to: usize) -> &[u8] {
+    bytes.get(from..to).unwrap_or(&[])
+}
+
+// Feeds bytes in pieces that end at these places. Answers how many were fed when a cell was found, at which
+// of them it begins, how its stream begins, and how many damaged cells were told before it.
 fn find(
     alloc: Global,
     bytes: &[u8],
-    pieces: &[usize],
+    ends: &[usize],
 ) -> Result<Option<(usize, usize, u8, usize)>, Error> {
     let (table, key) = (SystematicTable::built_in(alloc)?, Key::none());
     let wanted = Wanted {
@@ -37,17 +42,19 @@ fn find(
         name: &[],
     };
     let mut search = CellSearch::new(alloc, &wanted);
-    let (mut fed, mut gone, mut damaged) = (0, 0, 0);
-    for n in pieces {
-        let piece = &bytes[fed..fed + n];
-        fed += n;
+    let (mut fed, mut gone, mut damaged) = (0, 0usize, 0usize);
+    for end in ends {
+        let piece = part(bytes, fed, *end);
+        fed = *end;
         match search.feed(alloc, piece)? {
             Search::Found { at, head, before } => {
-                return Ok(Some((fed, gone + at, head.stream[0], damaged + before.damaged)));
+                let place = gone.wrapping_add(at);
+                let damaged = damaged.wrapping_add(before.damaged);
+                return Ok(Some((fed, place, head.stream[0], damaged)));
             }
             Search::NotYet { from, before, .. } => {
-                gone += from;
-                damaged += before.damaged;
+                gone = gone.wrapping_add(from);
+                damaged = damaged.wrapping_add(before.damaged);
             }
         }
     }
@@ -55,24 +62,35 @@ fn find(
 }
 
 #[test]
-fn cells_that_become_whole_are_found(rt: HostRuntime) {
+fn cells_that_become_whole_are_found(rt: HostRuntime) -> Result<(), Error> {
     let alloc = rt.alloc();
-    let long = long_cell(alloc).expect(&rt, "a cell");
-    let mut damaged = joined(alloc, &[long.as_slice(), &SECOND]).expect(&rt, "bytes");
-    damaged[200] ^= 1;
-    let forged = joined(alloc, &[b"RQC", &long[..52], &SECOND]).expect(&rt, "bytes");
+    let cell = long_cell(alloc)?;
+    let long = cell.as_slice();
+    let (front, behind) = (part(long, 0, 200), part(long, 201, 264));
+    let damaged = joined(alloc, &[front, &[1], behind, &SECOND])?;
+    let forged = joined(alloc, &[b"RQC", part(long, 0, 52), &SECOND])?;
+    let damaged = damaged.as_slice();
     let rows: [(&[u8], &[usize], Option<(usize, usize, u8, usize)>); 8] = [
-        (&long, &[264], Some((264, 0, 1, 0))),
-        (&long, &[52, 92, 120], Some((144, 56, 137, 0))),
-        (&long, &[143, 121], Some((264, 0, 1, 0))),
-        (&damaged, &[143, 120, 1], Some((263, 56, 137, 0))),
-        (&damaged, &[143, 121], Some((264, 56, 137, 1))),
-        (&damaged[144..], &[207, 1], Some((208, 120, 137, 0))),
-        (&forged, &[1, 54, 87, 1], Some((143, 55, 137, 0))),
-        (&forged, &[142], None),
+        (long, &[264], Some((264, 0, 1, 0))),
+        (long, &[52, 144, 264], Some((144, 56, 137, 0))),
+        (long, &[143, 264], Some((264, 0, 1, 0))),
+        (damaged, &[143, 263, 264], Some((263, 56, 137, 0))),
+        (damaged, &[143, 264], Some((264, 56, 137, 1))),
+        (
+            part(damaged, 144, 352),
+            &[207, 208],
+            Some((208, 120, 137, 0)),
+        ),
+        (
+            forged.as_slice(),
+            &[1, 55, 142, 143],
+            Some((143, 55, 137, 0)),
+        ),
+        (forged.as_slice(), &[142], None),
     ];
-    for (i, (bytes, pieces, wanted)) in rows.iter().enumerate() {
-        let found = find(alloc, bytes, pieces).expect(&rt, "memory");
-        same!(rt; found, *wanted, i);
+    for (number, (bytes, ends, wanted)) in rows.iter().enumerate() {
+        let found = find(alloc, bytes, ends)?;
+        same!(rt; found, *wanted, number);
     }
+    Ok(())
 }
