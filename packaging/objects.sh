@@ -5,7 +5,7 @@
 # Those that are built for, the least one first.
 declare -a processors
 # The programs, each with words to try it with.
-readonly PROGRAMS=("rq send 2 0" "rqcast send --cell 50 --repair 0")
+readonly PROGRAMS=("rq send 2 0" "rqcast send --cell 72 --repair 0")
 # The crates of the toolchain that are linked in, of which it has the licences.
 readonly LINKED="arrayvec clap hex memchr sha2 smallvec serde strsim thiserror"
 
