@@ -331,9 +331,10 @@ class Part:
         return intermediate and [sum_of(count, self.configuration.size, intermediate, esi) for esi in range(count)]
 
     def end(self, data):
-        """Takes an object for the part, where it is the only one, as the head says."""
+        """Takes an object for the part, where it is the only one of its stream, as the head says."""
         number, name = int.from_bytes(self.head[12:16], "big"), self.head[16:32]
-        if number == LAST and data.endswith(SEAL) and name_of(number, self.configuration, cut(data, self.configuration)) == name:
+        is_first = number == LAST and self.head[4:12] == name[:8]
+        if is_first and data.endswith(SEAL) and name_of(number, self.configuration, cut(data, self.configuration)) == name:
             self.data = data[: -len(SEAL)]
         else:
             self.begin_anew(self.head)

@@ -79,7 +79,7 @@ module _ (table : List TableRow) (bytes : List ℕ) (s : Sending) (is : IsSendin
     heads = All-weaker (IsCellFrom s) (λ (cell : Cell). cell.head ≡ s.head) (λ cell h. h.0) cells from;
     object = object;
     bytes = bytes;
-    stream = subst (λ h. IsStream h object bytes) (sym is.head) (record { only = refl; named = refl; ended = refl });
+    stream = subst (λ h. IsStream h object bytes) (sym is.head) (record { only = refl; stream = refl; named = refl; ended = refl });
     honest = subst (λ k. IsHonestRun table k object (received_packets s.head cells)) (sym configured)
         (record { long = is.encoder.long; nonsingular = is.nonsingular; honest = packets_of cells from });
   }

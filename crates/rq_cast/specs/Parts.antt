@@ -37,9 +37,10 @@ only_head c object =
     let name = name_of_part only_part c object in
     record { stream = take 8 name; number = only_part; name = name; configuration = c }
 
--- An object is the only part of the stream of these bytes, as a head says: its name is right, and its seal.
+-- An object is the only part of the stream of these bytes, as a head says: its name is right, which the stream's begins, and its seal.
 pub record IsStream (h : Head) (object bytes : List ℕ) : Type 0 where
   pub only : h.number ≡ only_part
+  pub stream : h.stream ≡ take 8 h.name
   pub named : name_of_part h.number h.configuration object ≡ h.name
   pub ended : object ≡ sealed bytes
 

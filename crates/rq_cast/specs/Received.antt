@@ -54,8 +54,8 @@ from_first r = drop r.at (beginning r) ++ r.later
 abbrev pub cells_from : (w : Wish) (past : List ℕ) (first : Head) → IsReceived w past first → List Cell
 cells_from w past first r = cells_in (source_of w.key first) (from_first r)
 
--- Which packets count: those of the cells that have one head, whose first is wanted or another of these cells', but for some that came before a new
--- beginning. Where one sender made all these cells, all count.
+-- Which packets count: those of the cells with one head, that of the first wanted cell or of another one behind it, but for some first cells, which came
+-- before the part was begun anew. Where one sender made all these cells, all count.
 pub record RestsOn (table : List TableRow) (w : Wish) (past : List ℕ) (first : Head) (r : IsReceived w past first) (h : Head) (packets : List Packet)
     : Type 0 where
   pub headed : Contains (first ∷ map (λ cell. cell.head) (cells_from w past first r)) h

@@ -10,7 +10,7 @@ ghost use Rattle.rq_cast.specs.Parts.{source_digests, seal_of};
 
 use raptorq::error::Error;
 use raptorq::{BlockLayout, ObjectTransmissionInformation, block_symbols, symbols_before};
-use rq_cells::DIGEST_LENGTH;
+use rq_cells::{DIGEST_LENGTH, NAME_LENGTH, STREAM_LENGTH};
 use rq_digests::all_digests;
 use sha2::{Digest, Sha512};
 use std::alloc::{AllocError, Global};
@@ -26,6 +26,15 @@ pub(crate) fn seal() -> [u8; SEAL_LENGTH]
     ensures { result ≡ seal_of [] }
 {
     first_bytes(&Sha512::digest(&[]))
+}
+
+/// The name of the stream whose first part has a name: it begins so.
+pub(crate) fn stream_of_name(name: &[u8; NAME_LENGTH]) -> [u8; STREAM_LENGTH]
+    ensures { result ≡ take 8 name.now }
+{
+    let mut stream = [0; STREAM_LENGTH];
+    stream.copy_from_slice(&name[..STREAM_LENGTH]);
+    stream
 }
 
 // The first 32 bytes of a hash.

@@ -9,15 +9,14 @@ ghost use Rattle.rq_cast.specs.Output.{counting, sink, refused_count, flushed};
 ghost use Rattle.rq_cast.specs.Writing.{AreDigestsIn, IsRoom, WritesCell, failed_writes, lost_cells};
 
 use crate::output::Output;
-use crate::parts::source_digests;
+use crate::parts::{source_digests, stream_of_name};
 use crate::series::{Repair, Series};
 use raptorq::base::PAYLOAD_ID_LENGTH;
 use raptorq::error::Error;
 use raptorq::systematic_constants::SystematicTable;
 use raptorq::{Encoder, ObjectTransmissionInformation, block_symbols, symbols_before};
 use rq_cells::{
-    DIGEST_LENGTH, HEAD_LENGTH, Head, Key, LAST_PART, STREAM_LENGTH, digest_of, part_name,
-    write_check,
+    DIGEST_LENGTH, HEAD_LENGTH, Head, Key, LAST_PART, digest_of, part_name, write_check,
 };
 use rq_streams::Stop;
 use std::alloc::Global;
@@ -67,10 +66,8 @@ fn only_head(configuration: &ObjectTransmissionInformation, digests: &[[u8; DIGE
     ensures { (object : List ℕ) → digests.now ≡ source_digests configuration.now object → result ≡ only_head configuration.now object }
 {
     let name = part_name(LAST_PART, configuration, digests);
-    let mut stream = [0; STREAM_LENGTH];
-    stream.copy_from_slice(&name[..STREAM_LENGTH]);
     Head {
-        stream,
+        stream: stream_of_name(&name),
         number: LAST_PART,
         name,
         configuration: *configuration,

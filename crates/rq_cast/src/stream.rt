@@ -7,7 +7,7 @@ ghost use Rattle.rq_cast.specs.Digests.{KnowsDigests};
 ghost use Rattle.rq_cast.specs.Parts.{name_of_part, sealed, IsStreamIn};
 
 use crate::digests::{KnownDigests, received_digests};
-use crate::parts::{SEAL_LENGTH, seal};
+use crate::parts::{SEAL_LENGTH, seal, stream_of_name};
 use raptorq::Decoder;
 use raptorq::error::Error;
 use rq_cells::{Head, LAST_PART, part_name};
@@ -45,7 +45,7 @@ fn is_named(
 }
 
 /// The bytes of the stream whose only part is the object that a decoder has answered, where it is what a
-/// head says: by its number, its name and its seal. The digests that are known are those of symbols that
+/// head says: by its number, its name, which the stream's begins, and its seal. The digests that are known are those of symbols that
 /// it took. Refuses [`Error::OutOfMemory`] alone.
 pub(crate) fn stream_of(
     alloc: Global,
@@ -63,7 +63,7 @@ pub(crate) fn stream_of(
     let Some(mut object) = decoder.get_result()? else {
         return Ok(None);
     };
-    if head.number != LAST_PART {
+    if head.number != LAST_PART || head.stream != stream_of_name(&head.name) {
         return Ok(None);
     }
     let Some(length) = length_before_seal(object.as_slice()) else {

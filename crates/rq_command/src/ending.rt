@@ -34,8 +34,8 @@ pub enum End {
 
 impl End {
     /// The status that the program ends with: 0 where all is done, 1 after a fault of the system, 2 where
-    /// too little came, 3 where what came is refused or isn't what it says, and 64 where the words are wrong,
-    /// or the key is empty.
+    /// too little came, 3 where what was to be sent is refused, and 64 where the words are wrong, cells would
+    /// go to a terminal, or the key is empty.
     pub fn status(&self) -> u8
         ensures { result ≡ status_of self.now }
     {
