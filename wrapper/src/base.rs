@@ -1,9 +1,10 @@
 //! Packets and configurations.
 
 use crate::calls::{
-    self, Configuration, DEFAULT_DECODER_MEMORY, ENCODING_SYMBOL_IDS, ESI_TOO_LARGE,
-    PAYLOAD_ID_LENGTH, Parameters, Refusal, accepted,
+    self, Configuration, DEFAULT_DECODER_MEMORY, ENCODING_SYMBOL_IDS, PAYLOAD_ID_LENGTH,
+    Parameters, accepted,
 };
+use crate::error::Error;
 #[cfg(feature = "serde")]
 use crate::fields::{ConfigurationFields, PayloadIdFields};
 #[cfg(feature = "serde")]
@@ -24,17 +25,21 @@ pub struct PayloadId {
 }
 
 impl PayloadId {
-    /// An id. Panics where the encoding symbol id doesn't fit 24 bits.
+    /// An id.
+    ///
+    /// # Panics
+    ///
+    /// Where [`PayloadId::try_new`] refuses.
+    #[must_use]
+    #[track_caller]
     pub fn new(source_block_number: u8, encoding_symbol_id: u32) -> PayloadId {
-        accepted(Self::checked(source_block_number, encoding_symbol_id))
+        accepted(Self::try_new(source_block_number, encoding_symbol_id))
     }
 
-    pub(crate) fn checked(
-        source_block_number: u8,
-        encoding_symbol_id: u32,
-    ) -> Result<PayloadId, Refusal> {
+    /// An id. Refuses [`Error::EsiTooLarge`] where the encoding symbol id doesn't fit 24 bits.
+    pub fn try_new(source_block_number: u8, encoding_symbol_id: u32) -> Result<PayloadId, Error> {
         if encoding_symbol_id >= ENCODING_SYMBOL_IDS {
-            return Err(ESI_TOO_LARGE);
+            return Err(Error::EsiTooLarge);
         }
         Ok(PayloadId {
             source_block_number,
@@ -43,6 +48,7 @@ impl PayloadId {
     }
 
     /// The id that four bytes spell.
+    #[must_use]
     pub fn deserialize(data: &[u8; PAYLOAD_ID_LENGTH]) -> PayloadId {
         PayloadId {
             source_block_number: data[0],
@@ -51,17 +57,20 @@ impl PayloadId {
     }
 
     /// The four bytes that spell the id.
+    #[must_use]
     pub fn serialize(&self) -> [u8; PAYLOAD_ID_LENGTH] {
         let id = self.encoding_symbol_id.to_be_bytes();
         [self.source_block_number, id[1], id[2], id[3]]
     }
 
     /// The number of the source block.
+    #[must_use]
     pub fn source_block_number(&self) -> u8 {
         self.source_block_number
     }
 
     /// The encoding symbol id.
+    #[must_use]
     pub fn encoding_symbol_id(&self) -> u32 {
         self.encoding_symbol_id
     }
@@ -84,17 +93,33 @@ pub struct EncodingPacket {
 
 impl EncodingPacket {
     /// A packet of an id and its payload.
+    #[must_use]
     pub fn new(payload_id: PayloadId, data: Vec<u8>) -> EncodingPacket {
         EncodingPacket { payload_id, data }
     }
 
-    /// The packet that bytes spell. Panics below four bytes.
+    /// The packet that bytes spell.
+    ///
+    /// # Panics
+    ///
+    /// Where [`EncodingPacket::try_deserialize`] refuses.
+    #[must_use]
+    #[track_caller]
     pub fn deserialize(data: &[u8]) -> EncodingPacket {
-        let (id, payload) = data.split_first_chunk().expect("PacketTooShort");
-        EncodingPacket::new(PayloadId::deserialize(id), payload.to_vec())
+        accepted(Self::try_deserialize(data))
+    }
+
+    /// The packet that bytes spell. Refuses [`Error::PacketTooShort`] below four bytes.
+    pub fn try_deserialize(data: &[u8]) -> Result<EncodingPacket, Error> {
+        let (id, payload) = data.split_first_chunk().ok_or(Error::PacketTooShort)?;
+        Ok(EncodingPacket::new(
+            PayloadId::deserialize(id),
+            payload.to_vec(),
+        ))
     }
 
     /// The bytes that spell the packet.
+    #[must_use]
     pub fn serialize(&self) -> Vec<u8> {
         let mut bytes = Vec::with_capacity(PAYLOAD_ID_LENGTH + self.data.len());
         self.append_to(&mut bytes);
@@ -108,16 +133,19 @@ impl EncodingPacket {
     }
 
     /// The packet's id.
+    #[must_use]
     pub fn payload_id(&self) -> &PayloadId {
         &self.payload_id
     }
 
     /// The encoding symbol.
+    #[must_use]
     pub fn data(&self) -> &[u8] {
         &self.data
     }
 
     /// The packet's id and its encoding symbol.
+    #[must_use]
     pub fn split(self) -> (PayloadId, Vec<u8>) {
         (self.payload_id, self.data)
     }
@@ -142,7 +170,13 @@ pub struct ObjectTransmissionInformation {
 }
 
 impl ObjectTransmissionInformation {
-    /// A configuration. Panics where it is refused.
+    /// A configuration.
+    ///
+    /// # Panics
+    ///
+    /// Where [`ObjectTransmissionInformation::try_new`] refuses.
+    #[must_use]
+    #[track_caller]
     pub fn new(
         transfer_length: u64,
         symbol_size: u16,
@@ -150,6 +184,24 @@ impl ObjectTransmissionInformation {
         sub_blocks: u16,
         alignment: u8,
     ) -> ObjectTransmissionInformation {
+        accepted(Self::try_new(
+            transfer_length,
+            symbol_size,
+            source_blocks,
+            sub_blocks,
+            alignment,
+        ))
+    }
+
+    /// A configuration. Refuses, in this order, [`Error::TransferTooLong`], [`Error::AlignmentZero`],
+    /// [`Error::Misaligned`] and [`Error::TooManySymbols`].
+    pub fn try_new(
+        transfer_length: u64,
+        symbol_size: u16,
+        source_blocks: u8,
+        sub_blocks: u16,
+        alignment: u8,
+    ) -> Result<ObjectTransmissionInformation, Error> {
         let asked = Parameters {
             transfer_length,
             symbol_size,
@@ -157,18 +209,30 @@ impl ObjectTransmissionInformation {
             source_blocks,
             alignment,
         };
-        accepted(Self::checked(&asked))
+        calls::write(&asked).map(|bytes| Self::deserialize(&bytes))
     }
 
-    pub(crate) fn checked(asked: &Parameters) -> Result<ObjectTransmissionInformation, Refusal> {
-        calls::write(asked).map(|bytes| Self::deserialize(&bytes))
-    }
-
-    /// The default configuration of an object. Panics where it is refused.
+    /// The default configuration of an object (RFC 6330, section 4.3).
+    ///
+    /// # Panics
+    ///
+    /// Where [`ObjectTransmissionInformation::try_with_defaults`] refuses.
+    #[must_use]
+    #[track_caller]
     pub fn with_defaults(
         transfer_length: u64,
         max_packet_size: u16,
     ) -> ObjectTransmissionInformation {
+        accepted(Self::try_with_defaults(transfer_length, max_packet_size))
+    }
+
+    /// The default configuration of an object (RFC 6330, section 4.3). Refuses, in this order,
+    /// [`Error::PacketSizeZero`], [`Error::TransferLengthZero`], [`Error::TransferTooLong`],
+    /// [`Error::MemoryRequirementTooSmall`] and [`Error::TooManyBlocks`].
+    pub fn try_with_defaults(
+        transfer_length: u64,
+        max_packet_size: u16,
+    ) -> Result<ObjectTransmissionInformation, Error> {
         Self::derived(transfer_length, max_packet_size, DEFAULT_DECODER_MEMORY)
     }
 
@@ -176,12 +240,13 @@ impl ObjectTransmissionInformation {
         transfer_length: u64,
         max_packet_size: u16,
         decoder_memory: u64,
-    ) -> ObjectTransmissionInformation {
-        let made = calls::derive(transfer_length, max_packet_size, decoder_memory);
-        Self::deserialize(&accepted(made))
+    ) -> Result<ObjectTransmissionInformation, Error> {
+        let made = calls::derive(transfer_length, max_packet_size, decoder_memory)?;
+        Ok(Self::deserialize(&made))
     }
 
     /// The configuration that twelve bytes spell.
+    #[must_use]
     pub fn deserialize(data: &Configuration) -> ObjectTransmissionInformation {
         let read = calls::read(data);
         ObjectTransmissionInformation {
@@ -194,6 +259,7 @@ impl ObjectTransmissionInformation {
     }
 
     /// The twelve bytes that spell the configuration.
+    #[must_use]
     pub fn serialize(&self) -> Configuration {
         // F in five bytes, a reserved zero, T in two, Z in one, N in two, Al in one.
         let [_, _, _, f @ ..] = self.transfer_length.to_be_bytes();
@@ -206,26 +272,31 @@ impl ObjectTransmissionInformation {
     }
 
     /// The length of the object, in bytes.
+    #[must_use]
     pub fn transfer_length(&self) -> u64 {
         self.transfer_length
     }
 
     /// The size of a symbol, in bytes.
+    #[must_use]
     pub fn symbol_size(&self) -> u16 {
         self.symbol_size
     }
 
     /// The number of source blocks.
+    #[must_use]
     pub fn source_blocks(&self) -> u8 {
         self.num_source_blocks
     }
 
     /// The number of sub-blocks in each source block.
+    #[must_use]
     pub fn sub_blocks(&self) -> u16 {
         self.num_sub_blocks
     }
 
     /// The symbol alignment, in bytes.
+    #[must_use]
     pub fn symbol_alignment(&self) -> u8 {
         self.symbol_alignment
     }

@@ -5,7 +5,13 @@ use crate::calls::{self, GREATEST_BLOCK, accepted};
 
 /// The function Partition of RFC 6330, section 4.4.1.2: `i` things in `j` parts as equal as they can
 /// be. Answers the size of the larger parts, that of the smaller ones, and how many there are of
-/// each. Panics where `j` is 0.
+/// each.
+///
+/// # Panics
+///
+/// Where `j` is 0.
+#[must_use]
+#[track_caller]
 pub fn partition<TI, TJ>(i: TI, j: TJ) -> (u32, u32, u32, u32)
 where
     TI: Into<u32>,
@@ -22,8 +28,13 @@ where
 }
 
 /// Where each source block begins and where it ends in the object, in bytes (RFC 6330, section
-/// 4.4.1.2). The last blocks can end past it. The object itself isn't read. Panics where the symbol
-/// size or the number of source blocks is 0, or a block has more than 56403 symbols.
+/// 4.4.1.2). The last blocks can end past it. The object itself isn't read.
+///
+/// # Panics
+///
+/// Where the symbol size or the number of source blocks is 0, or a block has more than 56403 symbols.
+#[must_use]
+#[track_caller]
 pub fn calculate_block_offsets(
     _data: &[u8],
     config: &ObjectTransmissionInformation,
@@ -39,7 +50,13 @@ pub fn calculate_block_offsets(
 }
 
 /// The number K' of symbols of the extended source block, with padding symbols, of so many source
-/// symbols (RFC 6330, section 5.3.1). Panics above 56403.
+/// symbols (RFC 6330, section 5.3.1).
+///
+/// # Panics
+///
+/// Above 56403.
+#[must_use]
+#[track_caller]
 pub fn extended_source_block_symbols(source_block_symbols: u32) -> u32 {
     assert!(source_block_symbols <= GREATEST_BLOCK, "TooManySymbols");
     // The library has the table. An object of symbols of a byte is one block by default from K' bytes of memory on.

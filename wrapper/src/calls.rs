@@ -1,9 +1,9 @@
 //! The calls of the static library, each as a safe function. `include/reamertan.h` says what they
 //! do.
 
-use std::fmt;
 use std::sync::LazyLock;
 
+use crate::error::Error;
 use crate::version::VERSION;
 
 mod coders;
@@ -49,59 +49,6 @@ pub struct Parameters {
 pub struct Range {
     pub start: u64,
     pub end: u64,
-}
-
-/// A call's number that isn't 0.
-#[derive(Clone, Copy, Debug, PartialEq, Eq)]
-pub struct Refusal(pub u8);
-
-/// An encoding symbol id doesn't fit 24 bits.
-pub const ESI_TOO_LARGE: Refusal = Refusal(11);
-
-/// A payload has another length than a symbol.
-pub const WRONG_PAYLOAD_SIZE: Refusal = Refusal(13);
-
-/// A packet is of another block.
-pub const UNKNOWN_BLOCK: Refusal = Refusal(14);
-
-/// The packets contradict each other.
-pub const CONTRADICTION: Refusal = Refusal(22);
-
-/// The names of answers by their numbers, made by `errors/make_lists`.
-const NAMES: [(u8, &str); 26] = [
-    (0, "Done"),
-    (1, "TransferTooLong"),
-    (2, "AlignmentZero"),
-    (3, "Misaligned"),
-    (4, "TooManySymbols"),
-    (5, "SymbolSizeZero"),
-    (6, "SourceBlocksZero"),
-    (7, "BlockOverTable"),
-    (8, "WrongDataLength"),
-    (9, "Singular"),
-    (10, "PlanMismatch"),
-    (11, "EsiTooLarge"),
-    (12, "PacketTooShort"),
-    (13, "WrongPayloadSize"),
-    (14, "UnknownBlock"),
-    (15, "PacketSizeZero"),
-    (16, "TransferLengthZero"),
-    (17, "MemoryRequirementTooSmall"),
-    (18, "TooManyBlocks"),
-    (19, "RowRefused"),
-    (20, "AlreadyExecuted"),
-    (21, "OutOfMemory"),
-    (22, "Contradiction"),
-    (23, "HeaderTooShort"),
-    (24, "WrongBuffer"),
-    (25, "Incomplete"),
-];
-
-impl fmt::Display for Refusal {
-    fn fmt(&self, f: &mut fmt::Formatter<'_>) -> fmt::Result {
-        let named = NAMES.iter().find(|(number, _)| *number == self.0);
-        f.write_str(named.map_or("?", |(_, name)| name))
-    }
 }
 
 unsafe extern "C" {
@@ -237,20 +184,25 @@ fn meet_library() {
     );
 }
 
-fn answered<T>(number: u8, value: T) -> Result<T, Refusal> {
+fn answered<T>(number: u8, value: T) -> Result<T, Error> {
     match number {
         0 => Ok(value),
-        refusal => Err(Refusal(refusal)),
+        // Another version's numbers aren't met: that library is refused.
+        number => Err(Error::of(number).expect("a number that the header has")),
     }
 }
 
 /// What a call answered. Panics with the refusal's name where it refused.
 #[track_caller]
-pub fn accepted<T>(answer: Result<T, Refusal>) -> T {
-    answer.unwrap_or_else(|refusal| panic!("{refusal}"))
+pub fn accepted<T>(answer: Result<T, Error>) -> T {
+    // A closure would be the place that a panic names.
+    match answer {
+        Ok(value) => value,
+        Err(refusal) => panic!("{refusal:?}"),
+    }
 }
 
-pub fn derive(length: u64, packet_size: u16, memory: u64) -> Result<Configuration, Refusal> {
+pub fn derive(length: u64, packet_size: u16, memory: u64) -> Result<Configuration, Error> {
     meet_library();
     let mut made = [0; CONFIGURATION_LENGTH];
     // SAFETY: the declaration is the header's, and the pointer is that of twelve bytes.
@@ -258,7 +210,7 @@ pub fn derive(length: u64, packet_size: u16, memory: u64) -> Result<Configuratio
     answered(number, made)
 }
 
-pub fn write(parameters: &Parameters) -> Result<Configuration, Refusal> {
+pub fn write(parameters: &Parameters) -> Result<Configuration, Error> {
     meet_library();
     let mut made = [0; CONFIGURATION_LENGTH];
     // SAFETY: as above, and the struct has the header's layout.
@@ -274,7 +226,7 @@ pub fn read(configuration: &Configuration) -> Parameters {
     read
 }
 
-pub fn block_range(configuration: &Configuration, block: u8) -> Result<Range, Refusal> {
+pub fn block_range(configuration: &Configuration, block: u8) -> Result<Range, Error> {
     meet_library();
     let mut range = Range::default();
     // SAFETY: as above.

@@ -1,10 +1,8 @@
 //! Decoders.
 
 use crate::base::{EncodingPacket, ObjectTransmissionInformation};
-use crate::calls::{
-    self, BYTES_AT_A_TIME, CONTRADICTION, Coder, Refusal, UNKNOWN_BLOCK, WRONG_PAYLOAD_SIZE,
-    accepted,
-};
+use crate::calls::{self, BYTES_AT_A_TIME, Coder, accepted};
+use crate::error::Error;
 use crate::shared::Locked;
 use std::fmt;
 
@@ -27,41 +25,108 @@ pub struct Decoder {
 }
 
 impl Decoder {
-    /// The decoder of an object in this configuration. Panics where it is refused.
+    /// The decoder of an object in this configuration.
+    ///
+    /// # Panics
+    ///
+    /// Where [`Decoder::try_new`] refuses.
+    #[must_use]
+    #[track_caller]
     pub fn new(config: ObjectTransmissionInformation) -> Decoder {
-        let decoder = accepted(Coder::<calls::Decoder>::new(&config.serialize()));
-        Decoder {
+        accepted(Self::try_new(config))
+    }
+
+    /// The decoder of an object in this configuration, which may be one that came from a network. Refuses, in
+    /// this order, [`Error::SymbolSizeZero`], [`Error::SourceBlocksZero`], [`Error::AlignmentZero`],
+    /// [`Error::Misaligned`] and [`Error::BlockOverTable`].
+    ///
+    /// A configuration may be one of an object of 900 GB: look at [`transfer_length`] before memory is taken.
+    ///
+    /// [`transfer_length`]: ObjectTransmissionInformation::transfer_length
+    pub fn try_new(config: ObjectTransmissionInformation) -> Result<Decoder, Error> {
+        let decoder = Coder::<calls::Decoder>::new(&config.serialize())?;
+        Ok(Decoder {
             config,
             decoder: Locked::new(decoder),
             bytes: Vec::new(),
-        }
+        })
     }
 
     /// Does nothing: there is one way to solve, for blocks of any size.
     pub fn set_sparse_threshold(&mut self, _value: u32) {}
 
-    /// Takes a packet and answers the object, once its packets determine it. Panics where the
-    /// packet's block is none of the object's, or its payload hasn't the size of a symbol.
+    /// Takes a packet and answers the object, once its packets determine it.
+    ///
+    /// # Panics
+    ///
+    /// As [`Decoder::add_new_packet`] does.
+    #[track_caller]
     pub fn decode(&mut self, packet: EncodingPacket) -> Option<Vec<u8>> {
         self.add_new_packet(packet);
         self.get_result()
     }
 
-    /// Takes a packet. Panics as [`Decoder::decode`] does.
+    /// Takes a packet and answers the object, once its packets determine it. Refuses what
+    /// [`Decoder::add_bytes`] refuses.
+    pub fn try_decode(&mut self, packet: EncodingPacket) -> Result<Option<Vec<u8>>, Error> {
+        self.try_add_new_packet(packet)?;
+        Ok(self.get_result())
+    }
+
+    /// Takes a packet. One that contradicts others is taken without a panic, and from then on there is no answer.
+    ///
+    /// # Panics
+    ///
+    /// Where [`Decoder::add_bytes`] refuses otherwise.
+    #[track_caller]
     pub fn add_new_packet(&mut self, packet: EncodingPacket) {
+        unless_contradictory(self.try_add_new_packet(packet));
+    }
+
+    /// Takes a packet. Refuses what [`Decoder::add_bytes`] refuses.
+    pub fn try_add_new_packet(&mut self, packet: EncodingPacket) -> Result<(), Error> {
         self.bytes.clear();
         packet.append_to(&mut self.bytes);
-        unless_contradictory(self.decoder.get_mut().add_packet(&self.bytes));
+        self.decoder.get_mut().add_packet(&self.bytes)
+    }
+
+    /// Takes a packet as it came, a payload id of 4 bytes and a symbol. The crate has no such call.
+    ///
+    /// Refuses, in this order, [`Error::PacketTooShort`], [`Error::UnknownBlock`] and
+    /// [`Error::WrongPayloadSize`], and goes on as if the packet hadn't come. [`Error::Contradiction`] says that
+    /// packets of its block contradict each other: some are damaged or forged, and there is no answer any more.
+    /// After [`Error::OutOfMemory`] the next packet tries again.
+    ///
+    /// ```
+    /// # use raptorq::{Decoder, Encoder, Error};
+    /// let encoder = Encoder::with_defaults(&[7; 5000], 100);
+    /// let mut decoder = Decoder::try_new(encoder.get_config())?;
+    /// assert_eq!(decoder.add_bytes(&[0, 0]), Err(Error::PacketTooShort));
+    /// for packet in encoder.packets().take(60) {
+    ///     decoder.add_bytes(&packet.serialize())?;
+    /// }
+    /// assert_eq!(decoder.get_result(), Some(vec![7; 5000]));
+    /// # Ok::<(), Error>(())
+    /// ```
+    pub fn add_bytes(&mut self, packet: &[u8]) -> Result<(), Error> {
+        self.decoder.get_mut().add_packet(packet)
     }
 
     /// How many packets more a source block needs at least, as
-    /// [`SourceBlockDecoder::missing_packets`] says. Panics where the block is none of the object's.
-    /// The crate has no such call.
+    /// [`SourceBlockDecoder::missing_packets`] says. The crate has no such call.
+    ///
+    /// # Panics
+    ///
+    /// With `UnknownBlock` where the block is none of the object's.
+    #[must_use]
+    #[track_caller]
     pub fn missing_packets(&self, source_block_number: u8) -> Option<u32> {
         unless_contradictory(self.decoder.lock().missing(source_block_number))
     }
 
     /// The object, where its packets determine it. None where some contradicted each other.
+    #[must_use]
+    #[track_caller]
     pub fn get_result(&self) -> Option<Vec<u8>> {
         let mut decoder = self.decoder.lock();
         let length = self.config.transfer_length() as usize;
@@ -122,37 +187,65 @@ pub struct SourceBlockDecoder {
 
 impl SourceBlockDecoder {
     /// The decoder of a block of so many bytes, cut into sub-blocks as the configuration says. Its
-    /// transfer length and its number of source blocks aren't read. Panics where the rest is refused, or
-    /// there are more than 56403 symbols.
+    /// transfer length and its number of source blocks aren't read.
+    ///
+    /// # Panics
+    ///
+    /// Where [`SourceBlockDecoder::try_new`] refuses.
+    #[must_use]
+    #[track_caller]
     pub fn new(
         source_block_id: u8,
         config: &ObjectTransmissionInformation,
         block_length: u64,
     ) -> SourceBlockDecoder {
+        accepted(Self::try_new(source_block_id, config, block_length))
+    }
+
+    /// The same. Refuses [`Error::SymbolSizeZero`], [`Error::AlignmentZero`], [`Error::Misaligned`], and
+    /// [`Error::BlockOverTable`] above 56403 symbols.
+    pub fn try_new(
+        source_block_id: u8,
+        config: &ObjectTransmissionInformation,
+        block_length: u64,
+    ) -> Result<SourceBlockDecoder, Error> {
         let configuration = config.serialize();
         let decoder =
-            Coder::<calls::BlockDecoder>::new(&configuration, source_block_id, block_length);
-        let decoder = Locked::new(accepted(decoder));
+            Coder::<calls::BlockDecoder>::new(&configuration, source_block_id, block_length)?;
         // Symbols of no bytes were refused.
         let length = block_length.next_multiple_of(config.symbol_size().into());
-        SourceBlockDecoder {
+        Ok(SourceBlockDecoder {
             source_block_id,
             config: config.of_block(length),
-            decoder,
+            decoder: Locked::new(decoder),
             bytes: Vec::new(),
-        }
+        })
     }
 
     /// Does nothing: there is one way to solve, for blocks of any size.
     pub fn set_sparse_threshold(&mut self, _value: u32) {}
 
     /// Takes packets and answers the block, once its packets determine it; with no packet, once more.
-    /// Where some contradict each other it is never answered. Panics where a packet is another block's, or
-    /// its payload hasn't the size of a symbol, and has taken those before it.
+    /// Where some contradict each other it is never answered.
+    ///
+    /// # Panics
+    ///
+    /// Where [`SourceBlockDecoder::try_decode`] refuses otherwise.
+    #[track_caller]
     pub fn decode<T: IntoIterator<Item = EncodingPacket>>(
         &mut self,
         packets: T,
     ) -> Option<Vec<u8>> {
+        unless_contradictory(self.try_decode(packets)).flatten()
+    }
+
+    /// The same. Refuses [`Error::UnknownBlock`] where a packet is another block's and
+    /// [`Error::WrongPayloadSize`] where its payload hasn't the size of a symbol, and has taken those before it
+    /// then. [`Error::Contradiction`] says that packets contradict each other: there is no answer any more.
+    pub fn try_decode<T: IntoIterator<Item = EncodingPacket>>(
+        &mut self,
+        packets: T,
+    ) -> Result<Option<Vec<u8>>, Error> {
         let mut checked = Ok(());
         for packet in packets {
             checked = self.check(&packet);
@@ -161,37 +254,41 @@ impl SourceBlockDecoder {
             }
             packet.append_to(&mut self.bytes);
             if self.bytes.len() >= BYTES_AT_A_TIME {
-                self.hand_over();
+                self.hand_over()?;
             }
         }
-        self.hand_over();
-        accepted(checked);
-        self.answer()
+        self.hand_over()?;
+        checked?;
+        Ok(self.answer())
     }
 
     /// How many packets more the block needs at least, of ids that didn't come yet: with fewer it isn't
     /// answered, whichever they are. That is the number of its source symbols, less that of the ids that
     /// came, or 1 where these are as many and don't determine it. It is 0 where the block is answered.
     /// None where its packets were found to contradict each other. The crate has no such call.
+    #[must_use]
     pub fn missing_packets(&self) -> Option<u32> {
         unless_contradictory(self.decoder.lock().missing())
     }
 
     // In a row of packets the library sees neither where one of another size begins nor that it ends.
-    fn check(&self, packet: &EncodingPacket) -> Result<(), Refusal> {
+    fn check(&self, packet: &EncodingPacket) -> Result<(), Error> {
         if packet.payload_id().source_block_number() != self.source_block_id {
-            return Err(UNKNOWN_BLOCK);
+            return Err(Error::UnknownBlock);
         }
         if packet.data().len() != usize::from(self.config.symbol_size()) {
-            return Err(WRONG_PAYLOAD_SIZE);
+            return Err(Error::WrongPayloadSize);
         }
         Ok(())
     }
 
     // Those that memory is refused for are handed over once more.
-    fn hand_over(&mut self) {
-        unless_contradictory(self.decoder.get_mut().add_packets(&self.bytes));
-        self.bytes.clear();
+    fn hand_over(&mut self) -> Result<(), Error> {
+        let answer = self.decoder.get_mut().add_packets(&self.bytes);
+        if answer != Err(Error::OutOfMemory) {
+            self.bytes.clear();
+        }
+        answer
     }
 
     fn answer(&self) -> Option<Vec<u8>> {
@@ -225,9 +322,10 @@ impl PartialEq for SourceBlockDecoder {
 impl Eq for SourceBlockDecoder {}
 
 // What was answered, and nothing where packets contradict each other. Panics where it was refused otherwise.
-fn unless_contradictory<T>(answer: Result<T, Refusal>) -> Option<T> {
+#[track_caller]
+fn unless_contradictory<T>(answer: Result<T, Error>) -> Option<T> {
     match answer {
-        Err(CONTRADICTION) => None,
+        Err(Error::Contradiction) => None,
         answer => Some(accepted(answer)),
     }
 }

@@ -2,7 +2,7 @@
 //! What `new` refuses is refused here too.
 
 use crate::base::{ObjectTransmissionInformation, PayloadId};
-use crate::calls::{Parameters, Refusal};
+use crate::error::Error;
 use serde::Deserialize;
 
 #[derive(Deserialize)]
@@ -13,10 +13,10 @@ pub struct PayloadIdFields {
 }
 
 impl TryFrom<PayloadIdFields> for PayloadId {
-    type Error = Refusal;
+    type Error = Error;
 
-    fn try_from(read: PayloadIdFields) -> Result<PayloadId, Refusal> {
-        PayloadId::checked(read.source_block_number, read.encoding_symbol_id)
+    fn try_from(read: PayloadIdFields) -> Result<PayloadId, Error> {
+        PayloadId::try_new(read.source_block_number, read.encoding_symbol_id)
     }
 }
 
@@ -31,15 +31,15 @@ pub struct ConfigurationFields {
 }
 
 impl TryFrom<ConfigurationFields> for ObjectTransmissionInformation {
-    type Error = Refusal;
+    type Error = Error;
 
-    fn try_from(read: ConfigurationFields) -> Result<ObjectTransmissionInformation, Refusal> {
-        ObjectTransmissionInformation::checked(&Parameters {
-            transfer_length: read.transfer_length,
-            symbol_size: read.symbol_size,
-            sub_blocks: read.num_sub_blocks,
-            source_blocks: read.num_source_blocks,
-            alignment: read.symbol_alignment,
-        })
+    fn try_from(read: ConfigurationFields) -> Result<ObjectTransmissionInformation, Error> {
+        ObjectTransmissionInformation::try_new(
+            read.transfer_length,
+            read.symbol_size,
+            read.num_source_blocks,
+            read.num_sub_blocks,
+            read.symbol_alignment,
+        )
     }
 }

@@ -14,7 +14,8 @@
 //! Packets have to arrive undamaged or not at all: put a checksum around each.
 //!
 //! A program that uses the crate changes its dependency and nothing else. Where the crate panics, these
-//! calls do too, with the name of the refusal; where they panic alone, `README.md` says.
+//! calls do too, with the name of the refusal; where they panic alone, `README.md` says. Beside each stands
+//! one that returns a `Result`, its name after `try_`: take these for what a network brings.
 #![deny(unsafe_code)]
 
 #[cfg(feature = "benchmarking")]
@@ -25,7 +26,7 @@ compile_error!(
 compile_error!("the feature `python` isn't offered: this is a library for Rust alone.");
 #[cfg(all(feature = "serde_support", not(feature = "serde")))]
 compile_error!(
-    "`serde_support` is a feature of the package in wrapper/serde: name that folder in the place of wrapper. This package has no dependency, not even an optional one, so that it builds where cargo can't reach crates.io."
+    "`serde_support` isn't in this package, which has no dependency, not even an optional one, so that it builds where cargo can't reach crates.io. The package in the repository's folder wrapper/serde, of the same code, has it: name that folder in the place of this one."
 );
 
 mod base;
@@ -35,6 +36,7 @@ mod blocks;
 mod calls;
 mod decoder;
 mod encoder;
+mod error;
 #[cfg(feature = "serde")]
 mod fields;
 mod plans;
@@ -44,5 +46,6 @@ mod version;
 pub use base::{EncodingPacket, ObjectTransmissionInformation, PayloadId};
 pub use blocks::{calculate_block_offsets, extended_source_block_symbols, partition};
 pub use decoder::{Decoder, SourceBlockDecoder};
-pub use encoder::{Encoder, EncoderBuilder, SourceBlockEncoder};
+pub use encoder::{Encoder, EncoderBuilder, Packets, SourceBlockEncoder};
+pub use error::Error;
 pub use plans::SourceBlockEncodingPlan;

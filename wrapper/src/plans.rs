@@ -1,6 +1,7 @@
 //! Plans of source blocks, and those that are kept.
 
-use crate::calls::{self, BYTES_AT_A_TIME, Coder, Configuration, Refusal, accepted};
+use crate::calls::{self, BYTES_AT_A_TIME, Coder, Configuration, accepted};
+use crate::error::Error;
 use crate::shared::Shared;
 use std::collections::VecDeque;
 use std::fmt;
@@ -22,12 +23,23 @@ pub struct SourceBlockEncodingPlan {
 }
 
 impl SourceBlockEncodingPlan {
-    /// The plan for source blocks of so many symbols. Panics above 56403.
+    /// The plan for source blocks of so many symbols.
+    ///
+    /// # Panics
+    ///
+    /// Where [`SourceBlockEncodingPlan::try_generate`] refuses.
+    #[must_use]
+    #[track_caller]
     pub fn generate(symbol_count: u16) -> SourceBlockEncodingPlan {
-        SourceBlockEncodingPlan {
+        accepted(Self::try_generate(symbol_count))
+    }
+
+    /// The plan for source blocks of so many symbols. Refuses [`Error::BlockOverTable`] above 56403.
+    pub fn try_generate(symbol_count: u16) -> Result<SourceBlockEncodingPlan, Error> {
+        Ok(SourceBlockEncodingPlan {
             source_symbol_count: symbol_count,
-            plan: Shared::new(accepted(Coder::<calls::Plan>::new(symbol_count))),
-        }
+            plan: Shared::new(Coder::<calls::Plan>::new(symbol_count)?),
+        })
     }
 
     /// The encoder of a block by the plan. For a large one the thread takes a further pointer, so that no other waits
@@ -37,7 +49,7 @@ impl SourceBlockEncodingPlan {
         configuration: &Configuration,
         block: u8,
         bytes: &[u8],
-    ) -> Result<Coder<calls::BlockEncoder>, Refusal> {
+    ) -> Result<Coder<calls::BlockEncoder>, Error> {
         let open = |plan: &mut Coder<calls::Plan>| plan.block_encoder(configuration, block, bytes);
         if bytes.len() > BYTES_AT_A_TIME {
             return open(&mut self.plan.further());
@@ -76,10 +88,10 @@ impl KeptPlans {
     }
 
     // A further pointer to a plan that is kept.
-    fn find(&mut self, symbols: u16) -> Option<Coder<calls::Plan>> {
+    fn find(&mut self, symbols: u16) -> Option<Result<Coder<calls::Plan>, Error>> {
         let mut plans = self.0.iter_mut();
         let (_, plan) = plans.find(|(count, _)| *count == symbols)?;
-        Some(accepted(plan.twin()))
+        Some(plan.twin())
     }
 
     // Keeps a plan, and answers the one that makes room for it.
@@ -96,13 +108,13 @@ impl KeptPlans {
 }
 
 /// A pointer to the plan for blocks of so many symbols: to one that is kept, or else to a new one, which is kept from
-/// then on. Panics above 56403.
-pub fn kept_plan(symbols: u16) -> Coder<calls::Plan> {
+/// then on.
+pub fn kept_plan(symbols: u16) -> Result<Coder<calls::Plan>, Error> {
     if let Some(plan) = KeptPlans::lock().find(symbols) {
         return plan;
     }
-    let mut made = accepted(Coder::<calls::Plan>::new(symbols));
-    let further = accepted(made.twin());
+    let mut made = Coder::<calls::Plan>::new(symbols)?;
+    let further = made.twin()?;
     let mut plans = KeptPlans::lock();
     // Another thread may have kept one since.
     if let Some(plan) = plans.find(symbols) {
@@ -112,5 +124,5 @@ pub fn kept_plan(symbols: u16) -> Coder<calls::Plan> {
     // It is freed when others may go on.
     drop(plans);
     drop(oldest);
-    made
+    Ok(made)
 }

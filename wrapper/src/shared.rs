@@ -1,6 +1,7 @@
 //! Coders of the library that are shared.
 
-use crate::calls::{Coder, Kind, Refusal, accepted};
+use crate::calls::{Coder, Kind, accepted};
+use crate::error::Error;
 use std::sync::atomic::{AtomicBool, Ordering};
 use std::sync::{Mutex, MutexGuard, PoisonError};
 
@@ -53,8 +54,8 @@ impl<K: Kind> Shared<K> {
     /// time. A second one waits for it once.
     pub fn call<T>(
         &self,
-        short: impl FnOnce(&mut Coder<K>) -> Result<T, Refusal>,
-    ) -> Result<T, Refusal> {
+        short: impl FnOnce(&mut Coder<K>) -> Result<T, Error>,
+    ) -> Result<T, Error> {
         if !self.is_wanted.load(Ordering::Relaxed) {
             if let Ok(mut coder) = self.coder.0.try_lock() {
                 return short(&mut coder);

@@ -157,48 +157,48 @@ fn coders_cross_threads_and_panics() {
 #[should_panic(expected = "PlanMismatch")]
 fn a_plan_of_another_number() {
     let plan = SourceBlockEncodingPlan::generate(11);
-    SourceBlockEncoder::with_encoding_plan(0, &config(), &bytes(40), &plan);
+    let _ = SourceBlockEncoder::with_encoding_plan(0, &config(), &bytes(40), &plan);
 }
 
 #[test]
 #[should_panic(expected = "BlockOverTable")]
 fn a_plan_of_more_symbols_than_a_block_has() {
-    SourceBlockEncodingPlan::generate(56404);
+    let _ = SourceBlockEncodingPlan::generate(56404);
 }
 
 #[test]
 #[should_panic(expected = "BlockOverTable")]
 fn more_symbols_than_a_block_has() {
-    SourceBlockEncoder::new(0, &config(), &bytes(70_000 * 4));
+    let _ = SourceBlockEncoder::new(0, &config(), &bytes(70_000 * 4));
 }
 
 #[test]
 #[should_panic(expected = "SymbolSizeZero")]
 fn symbols_of_no_bytes() {
     let config = ObjectTransmissionInformation::new(0, 0, 0, 1, 1);
-    SourceBlockEncoder::new(0, &config, &bytes(40));
+    let _ = SourceBlockEncoder::new(0, &config, &bytes(40));
 }
 
 #[test]
 #[should_panic(expected = "WrongDataLength")]
 fn a_symbol_that_is_not_whole() {
-    SourceBlockEncoder::new(0, &config(), &bytes(41));
+    let _ = SourceBlockEncoder::new(0, &config(), &bytes(41));
 }
 
 #[test]
 #[should_panic(expected = "EsiTooLarge")]
 fn an_id_of_more_than_24_bits() {
-    SourceBlockEncoder::new(0, &config(), &bytes(40)).repair_packets((1 << 24) - 11, 2);
+    let _ = SourceBlockEncoder::new(0, &config(), &bytes(40)).repair_packets((1 << 24) - 11, 2);
 }
 
 #[test]
 #[should_panic(expected = "UnknownBlock")]
 fn a_packet_of_another_block() {
-    SourceBlockDecoder::new(0, &config(), 40).decode([packet(1, 0, &[0; 4])]);
+    let _ = SourceBlockDecoder::new(0, &config(), 40).decode([packet(1, 0, &[0; 4])]);
 }
 
 #[test]
 #[should_panic(expected = "SourceBlocksZero")]
 fn offsets_of_no_blocks() {
-    calculate_block_offsets(&[], &config());
+    let _ = calculate_block_offsets(&[], &config());
 }

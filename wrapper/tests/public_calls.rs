@@ -196,5 +196,5 @@ fn a_clone_and_another_thread_go_on() {
 #[test]
 #[should_panic(expected = "Misaligned")]
 fn an_alignment_that_does_not_divide() {
-    ObjectTransmissionInformation::new(10, 10, 1, 1, 3);
+    let _ = ObjectTransmissionInformation::new(10, 10, 1, 1, 3);
 }

@@ -35,7 +35,7 @@ fn writes_what_the_crate_writes() {
 #[test]
 fn refuses_what_new_refuses() {
     let packet = r#"{"payload_id":{"source_block_number":0,"encoding_symbol_id":16777216},"data":[]}"#;
-    assert_eq!(refusal::<EncodingPacket>(packet), "EsiTooLarge at line 1 column 69");
+    assert_eq!(refusal::<EncodingPacket>(packet), "an encoding symbol id is above 16777215 at line 1 column 69");
     let misaligned = r#"{"transfer_length":1,"symbol_size":9,"num_source_blocks":1,"num_sub_blocks":1,"symbol_alignment":8}"#;
-    assert_eq!(refusal::<ObjectTransmissionInformation>(misaligned), "Misaligned");
+    assert_eq!(refusal::<ObjectTransmissionInformation>(misaligned), "the symbol alignment doesn't divide the symbol size");
 }

@@ -43,7 +43,7 @@ kinds! {
 /// # Safety
 ///
 /// Where the call answers 0, it has written each of them.
-unsafe fn filled(length: usize, fill: impl FnOnce(*mut u8) -> u8) -> Result<Vec<u8>, Refusal> {
+unsafe fn filled(length: usize, fill: impl FnOnce(*mut u8) -> u8) -> Result<Vec<u8>, Error> {
     let mut bytes = Vec::with_capacity(length);
     answered(fill(bytes.as_mut_ptr()), ())?;
     // SAFETY: as the caller says.
@@ -65,7 +65,7 @@ unsafe impl<K: Kind> Sync for Coder<K> {}
 
 impl<K: Kind> Coder<K> {
     /// What a call writes over a null pointer.
-    fn opened(open: impl FnOnce(*mut *mut K) -> u8) -> Result<Coder<K>, Refusal> {
+    fn opened(open: impl FnOnce(*mut *mut K) -> u8) -> Result<Coder<K>, Error> {
         meet_library();
         let mut at = null_mut();
         answered(open(&mut at), ())?;
@@ -73,7 +73,7 @@ impl<K: Kind> Coder<K> {
     }
 
     /// A further pointer to an encoder or a plan, which each thread uses by itself; a copy of a decoder.
-    pub fn twin(&mut self) -> Result<Coder<K>, Refusal> {
+    pub fn twin(&mut self) -> Result<Coder<K>, Error> {
         // SAFETY: the pointer is one that the library wrote. It is used by one call at a time, and closed when this is
         // dropped.
         Coder::opened(|twin| unsafe { K::TWIN(self.0.as_ptr(), twin) })
@@ -89,7 +89,7 @@ impl<K: Kind> Drop for Coder<K> {
 
 impl Coder<Encoder> {
     /// The encoder of an object.
-    pub fn new(configuration: &Configuration, object: &[u8]) -> Result<Self, Refusal> {
+    pub fn new(configuration: &Configuration, object: &[u8]) -> Result<Self, Error> {
         let (at, length) = (object.as_ptr(), object.len());
         // SAFETY: the declaration is the header's, and the pointer goes with its slice's length.
         Coder::opened(|coder| unsafe { reamertan_encoder_open(coder, configuration, at, length) })
@@ -103,7 +103,7 @@ impl Coder<Encoder> {
         first: u32,
         count: u32,
         packets: &mut [u8],
-    ) -> Result<(), Refusal> {
+    ) -> Result<(), Error> {
         let (at, length) = (packets.as_mut_ptr(), packets.len());
         // SAFETY: as above, and a coder is used by one call at a time.
         let number =
@@ -114,7 +114,7 @@ impl Coder<Encoder> {
 
 impl Coder<Plan> {
     /// The plan of blocks of so many symbols.
-    pub fn new(symbols: u16) -> Result<Self, Refusal> {
+    pub fn new(symbols: u16) -> Result<Self, Error> {
         // SAFETY: as above.
         Coder::opened(|coder| unsafe { reamertan_plan_open(coder, symbols) })
     }
@@ -125,7 +125,7 @@ impl Coder<Plan> {
         configuration: &Configuration,
         block: u8,
         bytes: &[u8],
-    ) -> Result<Coder<BlockEncoder>, Refusal> {
+    ) -> Result<Coder<BlockEncoder>, Error> {
         let (plan, at, length) = (self.0.as_ptr(), bytes.as_ptr(), bytes.len());
         // SAFETY: as above.
         Coder::opened(|coder| unsafe {
@@ -136,7 +136,7 @@ impl Coder<Plan> {
 
 impl Coder<BlockEncoder> {
     /// The same as an object's encoder does, of a block alone.
-    pub fn write(&mut self, first: u32, count: u32, packets: &mut [u8]) -> Result<(), Refusal> {
+    pub fn write(&mut self, first: u32, count: u32, packets: &mut [u8]) -> Result<(), Error> {
         let (at, length) = (packets.as_mut_ptr(), packets.len());
         // SAFETY: as above.
         let number =
@@ -147,13 +147,13 @@ impl Coder<BlockEncoder> {
 
 impl Coder<Decoder> {
     /// The decoder of an object, before any packet.
-    pub fn new(configuration: &Configuration) -> Result<Self, Refusal> {
+    pub fn new(configuration: &Configuration) -> Result<Self, Error> {
         // SAFETY: as above.
         Coder::opened(|coder| unsafe { reamertan_decoder_open(coder, configuration) })
     }
 
     /// Takes a packet, a payload id of 4 bytes and a symbol. Whether its block is complete by it nobody asks here.
-    pub fn add_packet(&mut self, packet: &[u8]) -> Result<(), Refusal> {
+    pub fn add_packet(&mut self, packet: &[u8]) -> Result<(), Error> {
         let (at, length, mut completes) = (packet.as_ptr(), packet.len(), false);
         // SAFETY: as above.
         let number =
@@ -168,7 +168,7 @@ impl Coder<Decoder> {
     }
 
     /// How many packets more a block needs at least.
-    pub fn missing(&mut self, block: u8) -> Result<u32, Refusal> {
+    pub fn missing(&mut self, block: u8) -> Result<u32, Error> {
         let mut packets = 0;
         // SAFETY: as above.
         let number = unsafe { reamertan_decoder_missing(self.0.as_ptr(), block, &mut packets) };
@@ -176,7 +176,7 @@ impl Coder<Decoder> {
     }
 
     /// The object's bytes in a block, which are so many.
-    pub fn block(&mut self, block: u8, length: usize) -> Result<Vec<u8>, Refusal> {
+    pub fn block(&mut self, block: u8, length: usize) -> Result<Vec<u8>, Error> {
         // SAFETY: as above, and what answers 0 has filled the buffer.
         unsafe {
             filled(length, |at| {
@@ -186,7 +186,7 @@ impl Coder<Decoder> {
     }
 
     /// The object, of so many bytes.
-    pub fn object(&mut self, length: usize) -> Result<Vec<u8>, Refusal> {
+    pub fn object(&mut self, length: usize) -> Result<Vec<u8>, Error> {
         // SAFETY: as above.
         unsafe {
             filled(length, |at| {
@@ -198,7 +198,7 @@ impl Coder<Decoder> {
 
 impl Coder<BlockDecoder> {
     /// The decoder of a block of so many bytes, before any packet.
-    pub fn new(configuration: &Configuration, block: u8, length: u64) -> Result<Self, Refusal> {
+    pub fn new(configuration: &Configuration, block: u8, length: u64) -> Result<Self, Error> {
         // SAFETY: as above.
         Coder::opened(|coder| unsafe {
             reamertan_block_decoder_open(coder, configuration, block, length)
@@ -206,7 +206,7 @@ impl Coder<BlockDecoder> {
     }
 
     /// Takes packets that lie one behind another, up to the first that is refused.
-    pub fn add_packets(&mut self, packets: &[u8]) -> Result<(), Refusal> {
+    pub fn add_packets(&mut self, packets: &[u8]) -> Result<(), Error> {
         let (at, length) = (packets.as_ptr(), packets.len());
         // SAFETY: as above.
         let number = unsafe { reamertan_block_decoder_add_packets(self.0.as_ptr(), at, length) };
@@ -220,7 +220,7 @@ impl Coder<BlockDecoder> {
     }
 
     /// How many packets more the block needs at least.
-    pub fn missing(&mut self) -> Result<u32, Refusal> {
+    pub fn missing(&mut self) -> Result<u32, Error> {
         let mut packets = 0;
         // SAFETY: as above.
         let number = unsafe { reamertan_block_decoder_missing(self.0.as_ptr(), &mut packets) };
@@ -228,7 +228,7 @@ impl Coder<BlockDecoder> {
     }
 
     /// The block, of so many bytes.
-    pub fn block(&mut self, length: usize) -> Result<Vec<u8>, Refusal> {
+    pub fn block(&mut self, length: usize) -> Result<Vec<u8>, Error> {
         // SAFETY: as above.
         unsafe {
             filled(length, |at| {
