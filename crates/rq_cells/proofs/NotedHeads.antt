@@ -68,7 +68,7 @@ module _ (w : Wish) (bytes rest : List ℕ) (note : Note) (long : head_size ≤ 
         (same_cell_behind w.key h bytes rest lengths.0 lengths.1 whole ∙ is)
 
     by_length : is_wanted w h ≡ true → (s : Bool) → nat_lt (length bytes) (cell_size h.configuration.symbol_size) ≡ s → WasNoted w (bytes ++ rest) note
-    by_length wanted true short = is_it (N.Begun h) (noted_by w bytes long h headed true true wanted short) still
+    by_length wanted true short = is_it (N.Begun h) (noted_by w bytes long h headed true true wanted short) (still, wanted)
     by_length wanted false whole =
         is_it N.Damaged (noted_by w bytes long h headed true false wanted whole)
         (by_cell wanted (ltb-false (length bytes) (cell_size h.configuration.symbol_size) whole) (cell_behind w.key h bytes) refl)

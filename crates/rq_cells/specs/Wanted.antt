@@ -82,7 +82,7 @@ pub record IsNoted (w : Wish) (bytes : List ℕ) (note : Note) : Type 0 where
 
 -- This was known of the head when the bytes were fewer.
 abbrev pub WasNoted : Wish → List ℕ → Note → Type 0
-WasNoted w bytes (N.Begun h) = head_at w.key bytes ≡ Some h
+WasNoted w bytes (N.Begun h) = (head_at w.key bytes ≡ Some h) × (is_wanted w h ≡ true)
 WasNoted w bytes N.Damaged = IsNoted w bytes N.Damaged
 WasNoted w bytes N.Other = IsNoted w bytes N.Other
 

@@ -134,22 +134,21 @@ fn walk_known(
     bytes: &[u8],
     looked: usize,
     known: &[Noted],
-    walk: &mut Walk,
-) -> Result<Option<Head>, Error>
-    requires known { Continues (wish_of wanted.now) bytes.now looked known.now }
-    requires fresh { IsFresh walk.old }
-    ensures finds { IfOk result (Finds (wish_of wanted.now) bytes.now walk.new) }
+) -> Result<(Walk, Option<Head>), Error>
+    requires { Continues (wish_of wanted.now) bytes.now looked known.now }
+    ensures finds { IfOk result (λ found. Finds (wish_of wanted.now) bytes.now found.0 found.1) }
     ensures memory { IfErr result (λ e. e ≡ Error.OutOfMemory) }
 {
+    let mut walk = Walk::new(alloc);
     for noted in known {
         walk.at = noted.at;
         match sight_again(alloc, wanted, &noted.note, &bytes[noted.at..])? {
             Sight::Noted(note) => walk.note(note)?,
-            Sight::Found(head) => return Ok(Some(head)),
+            Sight::Found(head) => return Ok((walk, Some(head))),
         }
     }
     walk.at = looked;
-    Ok(None)
+    Ok((walk, None))
 }
 
 // Goes over the places that are left.
@@ -186,8 +185,8 @@ fn walk_over(
     ensures walked { IfOk result (IsWalked (wish_of wanted.now) bytes.now) }
     ensures memory { IfErr result (λ e. e ≡ Error.OutOfMemory) }
 {
-    let mut walk = Walk::new(alloc);
-    if let Some(head) = walk_known(alloc, wanted, bytes, looked, known, &mut walk)? {
+    let (mut walk, found) = walk_known(alloc, wanted, bytes, looked, known)?;
+    if let Some(head) = found {
         return Ok(walk.found(alloc, head));
     }
     if let Some(head) = walk_on(alloc, wanted, bytes, &mut walk)? {
@@ -264,7 +263,8 @@ impl<'a> CellSearch<'a> {
 
     /// Takes bytes that come behind the earlier ones, and answers as [`first_wanted`] does of those that
     /// are there. Those before the first wanted cell are let go, or those before which none can begin
-    /// any more. Refuses [`Error::OutOfMemory`] alone.
+    /// any more. Refuses [`Error::OutOfMemory`] alone: it holds what it held then, and maybe the new bytes
+    /// behind it.
     pub fn feed(&mut self, alloc: Global, piece: &[u8]) -> Result<Search, Error>
         ensures search { IfOk result (IsSearch self.old.wish (self.old.bytes ++ piece.now)) }
         ensures left { IfOk result (λ search. self.new ≡ left_behind self.old piece.now search) }

@@ -1,5 +1,5 @@
 //! Which cells a receiver takes first.
-ghost use Rattle.std.specs.Prelude.{◌≡◌, IfOk, IfErr, Some};
+ghost use Rattle.std.specs.Prelude.{◌≡◌, IfOk, IfErr, Some, true};
 ghost use Rattle.rq_cells.specs.Cells.{head_at};
 ghost use Rattle.rq_cells.specs.Wanted.{wish_of, is_wanted, IsSight, WasNoted};
 
@@ -78,6 +78,27 @@ pub enum Search {
     },
 }
 
+// What stands where these bytes begin with a wanted head.
+fn sight_behind(
+    alloc: Global,
+    wanted: &Wanted<'_>,
+    head: Head,
+    bytes: &[u8],
+) -> Result<Sight, Error>
+    requires head { head_at wanted.now.key.now bytes.now ≡ Some head }
+    requires wanted { is_wanted (wish_of wanted.now) head ≡ true }
+    ensures sight { IfOk result (IsSight (wish_of wanted.now) bytes.now) }
+    ensures memory { IfErr result (λ e. e ≡ Error.OutOfMemory) }
+{
+    if bytes.len() < head.cell_length() {
+        return Ok(Sight::Noted(Note::Begun(head)));
+    }
+    Ok(match Cell::read(alloc, wanted.key, bytes)? {
+        Some(cell) => Sight::Found(cell.head),
+        None => Sight::Noted(Note::Damaged),
+    })
+}
+
 /// What stands where these bytes begin with a head.
 pub(crate) fn sight_of(
     alloc: Global,
@@ -92,13 +113,7 @@ pub(crate) fn sight_of(
     if !wanted.wants(&head) {
         return Ok(Sight::Noted(Note::Other));
     }
-    if bytes.len() < head.cell_length() {
-        return Ok(Sight::Noted(Note::Begun(head)));
-    }
-    Ok(match Cell::read(alloc, wanted.key, bytes)? {
-        Some(cell) => Sight::Found(cell.head),
-        None => Sight::Noted(Note::Damaged),
-    })
+    sight_behind(alloc, wanted, head, bytes)
 }
 
 /// What stands where these bytes begin, of whose head this was known when they were fewer.
@@ -113,7 +128,7 @@ pub(crate) fn sight_again(
     ensures memory { IfErr result (λ e. e ≡ Error.OutOfMemory) }
 {
     match note {
-        Note::Begun(head) => sight_of(alloc, wanted, *head, bytes),
+        Note::Begun(head) => sight_behind(alloc, wanted, *head, bytes),
         Note::Damaged | Note::Other => Ok(Sight::Noted(*note)),
     }
 }
