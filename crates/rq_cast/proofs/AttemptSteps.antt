@@ -23,11 +23,10 @@ use Rattle.rq_cells.specs.declared.head.Head.{Head}
 use Rattle.rq_cells.specs.Cells.{digest_of}
 use Rattle.rq_cast.specs.declared.attempt.Attempt.{Attempt}
 use Rattle.rq_cast.specs.declared.digests.KnownDigests.{KnownDigests}
-use Rattle.rq_cast.specs.Parts.{IsNoStream}
 use Rattle.rq_cast.specs.Digests.{Notes}
-use Rattle.rq_cast.specs.Taken.{is_known, known_packets}
+use Rattle.rq_cast.specs.Taken.{is_known, known_packets, IsNotNamed}
 use Rattle.rq_cast.specs.PartReceiving.{IsAttempt, IsUnlooked, LooksAt, GoesOn, IsForeign, TakesOrFails}
-use Rattle.rq_cast.proofs.Attempts.{known_one, unknown_one, stream_stays, refused_is_foreign}
+use Rattle.rq_cast.proofs.Attempts.{known_one, unknown_one, object_stays, refused_is_foreign}
 use Rattle.rq_cast.proofs.KnownSymbols.{knows_more}
 use Rattle.rq_cast.proofs.Shaped.{shaped}
 
@@ -53,7 +52,7 @@ module _ (h : Head) (old : Attempt) (is : IsAttempt h old) (p : Packet) where
 
     -- one that is refused, but for want of memory
     pub refused : (new : Decoder) (e : Error) → TakesInTurn old.decoder p (Err e) new → e ≢ OutOfMemory → IsForeign h old p
-    refused new e takes not_memory table object bytes packets follows stream run =
+    refused new e takes not_memory table object packets follows named run =
         refused_is_foreign table c packets (state_of old.decoder) (state_of new) p e is.configuration follows
         (turns_take old.decoder new p (Err e) takes) not_memory object (subst (IsHonestRun table c object) (same_packets packets) run)
 
@@ -78,7 +77,7 @@ module _ (h : Head) (old : Attempt) (is : IsAttempt h old) (p : Packet) where
             few = is.few;
             configuration = adds.elsewhere.configuration ∙ is.configuration;
             knows = knows_more (state_of old.decoder) (state_of new) p adds old.known k notes few_ids shape.0 shape.1 is.knows;
-            stream = stream_stays (state_of old.decoder) (state_of new) p adds h (option_map vec_items old.stream) is.stream;
+            object = object_stays (state_of old.decoder) (state_of new) p adds h (option_map vec_items old.object) is.object;
           }
 
       follows_more : (table : List TableRow) (packets : List Packet) → FollowsRun table packets (state_of old.decoder)
@@ -94,12 +93,12 @@ module _ (h : Head) (old : Attempt) (is : IsAttempt h old) (p : Packet) where
             subst (λ (d : Decoder). FollowsRun table (packets ++ known_packets c (p ∷ [])) (state_of d)) (sym same) (follows_more table packets follows);
       }
 
-      -- what they determine is no stream
-      foreign : (answer : List ℕ) → result_of (state_of new) ≡ Some answer → IsNoStream h (Some answer) → IsForeign h old p
-      foreign answer answered none table object bytes packets follows stream run =
+      -- what they determine isn't named as the head says
+      foreign : (answer : List ℕ) → result_of (state_of new) ≡ Some answer → IsNotNamed h (Some answer) → IsForeign h old p
+      foreign answer answered none table object packets follows named run =
           let configured : (state_of new).configuration ≡ c = adds.elsewhere.configuration ∙ is.configuration in
           let exact = answers_exactly table c (packets ++ known_packets c (p ∷ [])) (state_of new) configured (follows_more table packets follows) object run in
-          none object bytes (sym answered ∙ exact.whole (exact.only (ap is_some answered))) stream
+          none object (sym answered ∙ exact.whole (exact.only (ap is_some answered))) named
 
       pub looked : (last : Attempt) (b : Bool) → LooksAt h mid last b → TakesOrFails h old p last b
       looked last true (attempt, same) = on last attempt same

@@ -1,5 +1,5 @@
 -- An attempt at a part takes its packets.
-use Rattle.std.proofs.Common.{◌≡◌, ◌≢◌, ℕ, zero, suc, ◌<◌, ◌≤◌, List, [], ◌∷◌, ◌++◌, Bool, true, false, if◌then◌else◌, Option, Some, None, refl, sym, ap, subst, ◌∙◌, arith, length, take, inl, inr}
+use Rattle.std.proofs.Common.{◌≡◌, ◌≢◌, ℕ, zero, suc, ◌<◌, ◌≤◌, List, [], ◌∷◌, ◌++◌, Bool, true, false, if◌then◌else◌, Option, Some, None, refl, sym, ap, subst, ◌∙◌, arith, take, inl, inr}
 use Rattle.std.specs.Prelude.{IfSome, IsSome, option_map, is_some, ◌==◌}
 use Rattle.std.proofs.Math.Seq.{take-nil}
 use Rattle.std.proofs.lemmas.Bool.{cases_eq}
@@ -21,10 +21,8 @@ use Rattle.raptorq.proofs.Lists.{next_honest}
 use Rattle.raptorq.proofs.Stops.{honest_is_taken}
 use Rattle.rq_cells.specs.declared.head.Head.{Head}
 use Rattle.rq_cast.specs.declared.digests.KnownDigests.{KnownDigests}
-use Rattle.rq_cast.specs.Parts.{IsNoStream, IsStreamIn}
 use Rattle.rq_cast.specs.Digests.{known, KnowsNone, KnowsSymbol, KnowsAll, KnowsDigests}
-use Rattle.rq_cast.specs.Taken.{is_known, known_packets}
-use Rattle.rq_cast.proofs.Sealed.{sealed_is_long}
+use Rattle.rq_cast.specs.Taken.{is_known, known_packets, IsNotNamed, IsNamedIn}
 
 -- ---- before any packet
 
@@ -56,12 +54,9 @@ module _ (table : List TableRow) (c : Configuration) (s : State) (new : IsNewSta
       mapped_empty s.configuration.transfer_length (first_blocks s.configuration.source_blocks s.answer)
       (subst (λ (k : Configuration). IsEmpty (first_blocks k.source_blocks s.answer)) (sym new.configuration) (blocks_empty c.source_blocks (omega arith)))
 
-  -- what is answered then is no stream, since it has no bytes
-  pub no_stream_yet : (h : Head) → IsNoStream h (result_of s)
-  no_stream_yet h object bytes is stream =
-      let none : object ≡ [] = subst IsEmpty is result_empty in
-      let size = ap length none in
-      absurd (omega (arith, sealed_is_long object bytes stream.ended, size))
+  -- what is answered then is no part's object, since it has no bytes
+  pub not_named_yet : (h : Head) → IsNotNamed h (result_of s)
+  not_named_yet h object is named = absurd (named.some (subst IsEmpty is result_empty))
 
   -- and no digest is known
   module _ (k : KnownDigests) (none : KnowsNone k) where
@@ -112,11 +107,11 @@ module _ (old new : State) (p : Packet) (adds : Adds old p new) where
       ∙ ap (option_map (take c.transfer_length))
       (same_blocks old.answer new.answer c.source_blocks (λ b below. answer_stays b below (each b below)))
 
-  -- and the stream that it is
-  pub stream_stays : (h : Head) (stream : Option (List ℕ)) → IsStreamIn h (result_of old) stream
-      → IfSome stream (λ bytes. IsStreamIn h (result_of new) (Some bytes))
-  stream_stays h None is = tt
-  stream_stays h (Some bytes) (object, answer, is) = (object, result_stays (ap is_some answer) ∙ answer, is)
+  -- and the object that is named
+  pub object_stays : (h : Head) (object : Option (List ℕ)) → IsNamedIn h (result_of old) object
+      → IfSome object (λ xs. IsNamedIn h (result_of new) (Some xs))
+  object_stays h None is = tt
+  object_stays h (Some xs) (answer, is) = (result_stays (ap is_some answer) ∙ answer, is)
 
 -- the packet of a block that a part has, or of another one
 pub known_one : (c : Configuration) (p : Packet) → is_known c p ≡ true → known_packets c (p ∷ []) ≡ p ∷ []

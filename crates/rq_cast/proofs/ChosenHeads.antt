@@ -6,7 +6,8 @@ use Rattle.rq_standard.specs.declared.row.TableRow.{TableRow}
 use Rattle.rq_cells.specs.declared.head.Head.{Head}
 use Rattle.rq_cast.specs.declared.choice.Choice.{Choice}
 use Rattle.rq_cast.specs.declared.choice.Rival.{Rival}
-use Rattle.rq_cast.specs.PartReceiving.{IsTakenHead, EachHead, IsHeadBehind}
+use Rattle.rq_cast.specs.Taken.{IsTakenHead}
+use Rattle.rq_cast.specs.PartReceiving.{EachHead, IsHeadBehind}
 
 pub not_refused : (r : Result (Unit {0}) Error) → is_err r ≡ false → r ≡ Ok tt
 not_refused (Ok u) is = refl

@@ -1,286 +1,176 @@
--- How a run ends.
-use Rattle.std.proofs.Common.{◌≡◌, inl, inr, ℕ, List, [], ◌++◌, take, drop, refl, sym, ap, subst, ◌∙◌, Option, Some, None, Bool, true, false, if◌then◌else◌, Result, Ok, Err, append-nil, append_assoc, arith, length, length-append, Vec, Global}
-use Rattle.std.specs.Prelude.{is_ok, nat_eq, option_map, option_and_then, vec_items}
-use Rattle.std.specs.Io.KnownBytes.{Consumes, Appends}
-use Rattle.std.specs.List.{starts_with}
-use Rattle.std.proofs.KnownBytes.{Consumes-trans, Keeps-refl}
-use Rattle.std.proofs.lemmas.Bool.{and_parts, true≢false}
-use Rattle.std.proofs.lemmas.Option.{none-some, same_Some}
-use Rattle.rq_bytes.specs.declared.error.Error.{Error}
-use Rattle.rq_bytes.specs.declared.error.Error.TheVariants.{OutOfMemory}
-use Rattle.rq_bytes.specs.Refusals.{IsRefusal}
+-- What is settled of what came, and what was seen.
+use Rattle.std.proofs.Common.{◌≡◌, ℕ, List, [], ◌++◌, length, refl, sym, ap, subst, ◌∙◌, Option, Some, None, append-nil, arith}
+use Rattle.std.specs.Prelude.{MatchOption, IfSome, unwrap_or, option_map, false}
+use Rattle.std.proofs.lemmas.List.{length-map}
 use Rattle.rq_standard.specs.declared.row.TableRow.{TableRow}
-use Rattle.rq_standard.specs.TableRows.{greatest_size}
-use Rattle.rq_standard.specs.DecoderState.{result_of}
-use Rattle.rq_base.specs.RefusedInput.{checked_configuration}
-use Rattle.raptorq.specs.Decoder.{state_of}
-use Rattle.rq_streams.specs.Ends.{Ends}
-use Rattle.rq_streams.specs.declared.run.Outcome.{Outcome}
-use Rattle.rq_streams.specs.declared.run.Outcome.TheVariants.{Written, Incomplete}
-use Rattle.rq_streams.specs.declared.run.Stop.{Stop}
-use Rattle.rq_streams.specs.declared.run.Stop.TheVariants.{Fault, Refused}
 use Rattle.rq_cells.specs.declared.head.Head.{Head}
 use Rattle.rq_cells.specs.declared.cell.Cell.{Cell}
-use Rattle.rq_cells.specs.Cells.{Key, cell_at}
 use Rattle.rq_cells.specs.Found.{Source, source_of, cells_in, damaged_in, others_in}
-use Rattle.rq_cells.specs.Wanted.{Wish, is_wanted, wanted_at}
-use Rattle.rq_cast.specs.declared.reading.Found.{Found}
+use Rattle.rq_cells.specs.Wanted.{Wish}
 use Rattle.rq_cast.specs.declared.receiver.Receiver.{Receiver}
-use Rattle.rq_cast.specs.declared.receiver.Seen.{Seen}
-use Rattle.rq_cast.specs.Parts.{IsStream, IsStreamIn}
-use Rattle.rq_cast.specs.Taken.{IsOneSender}
-use Rattle.rq_cast.specs.Missing.{TellsMissingPackets}
-use Rattle.rq_cast.specs.Reading.{IsStopOfReads}
-use Rattle.rq_cast.specs.Searching.{SeesNoneYet, FindsFirst}
-use Rattle.rq_cast.specs.PartReceiving.{HasTaken}
-use Rattle.rq_cast.specs.Receiving.{SeesAll, HasSeen, HoldNone, HasReadAll, IsLast, EndsDetermined, EndsUndetermined, SeesBehind}
-use Rattle.rq_cast.specs.Received.{wish_over, IsReceived, cells_from, IsSeen, SeesSoFar, AnswersHead, DeterminesNone, WasntBefore, Determines, DoesntDetermine, EndsReceiving}
-use Rattle.rq_cast.proofs.Answering.{packets, answered_by, needs_by}
+use Rattle.rq_cast.specs.declared.run.Ending.{Ending}
+use Rattle.rq_cast.specs.declared.run.Ending.TheVariants.{Written, Incomplete}
+use Rattle.rq_cast.specs.declared.seen.Seen.{Seen}
+use Rattle.rq_cast.specs.declared.stream_receiver.StreamReceiver.{StreamReceiver}
+use Rattle.rq_cast.specs.Searching.{SeesBefore}
+use Rattle.rq_cast.specs.Windows.{Settled, bytes_of, has_last, HasTaken, IsSoundWindow, Lacks, TellsLacks}
+use Rattle.rq_cast.specs.Receiving.{SeesAll, IsReceiving, HasFed, has_ended, ready_of, Shows, IsSoundReceiver, TellsLacked, TellsEnding}
+use Rattle.rq_cast.specs.Received.{IsReceived, from_first, cells_from, IsSeen, Receives, ReceivesSoFar, EndsWith}
+use Rattle.rq_cast.proofs.Fed.{searching_of, receiving_of}
 
--- ---- coders take what was found
+-- ---- of a stream that was found
 
--- the head of a wanted cell is wanted
-is_wanted_at : (w : Wish) (bytes : List ℕ) (h : Head) → wanted_at w bytes ≡ Some h → is_wanted w h ≡ true
-is_wanted_at w bytes h = by_cell (cell_at w.key bytes)
-  where
-    by_test : (c : Cell) (b : Bool) → is_wanted w c.head ≡ b → (if b then Some c.head else None) ≡ Some h → is_wanted w h ≡ true
-    by_test c true e is = ap (is_wanted w) (sym (same_Some c.head h is)) ∙ e
-    by_test c false e is = absurd (none-some h is)
-
-    by_cell : (o : Option Cell) → option_and_then (λ (c : Cell). if is_wanted w c.head then Some c.head else None) o ≡ Some h → is_wanted w h ≡ true
-    by_cell None is = absurd (none-some h is)
-    by_cell (Some c) is = by_test c (is_wanted w c.head) refl is
-
-accepted : (r : Result (Unit {0}) Error) → is_ok r ≡ true → r ≡ Ok tt
-accepted (Ok u) e = refl
-accepted (Err w) e = absurd (true≢false (sym e))
-
-taken_by : (w : Wish) (bytes : List ℕ) (h : Head) → wanted_at w bytes ≡ Some h → checked_configuration w.greatest h.configuration ≡ Ok tt
-taken_by w bytes h found =
-    let both = and_parts (is_ok (checked_configuration w.greatest h.configuration)) (starts_with nat_eq h.stream w.name) (is_wanted_at w bytes h found) in
-    accepted (checked_configuration w.greatest h.configuration) both.0
-
-pub only_memory : (table : List TableRow) (key : Key) (name : List ℕ) (before after : Option (List ℕ)) (found : Found) (n : ℕ)
-    → FindsFirst (wish_over table key name) before after n found.head found.bytes.items found.seen
-    → (e : Error) → IsRefusal e (checked_configuration (greatest_size table) found.head.configuration) → e ≡ OutOfMemory
-only_memory table key name before after found n f e refused =
-    let taken = taken_by (wish_over table key name) (drop f.at (f.earlier ++ f.last)) found.head f.first.found in
-    subst (IsRefusal e) taken refused
-
--- ---- what was found, and what is read behind it
-
-module _ (table : List TableRow) (key : Key) (name : List ℕ) (before mid : Option (List ℕ)) (found : Found) (n : ℕ)
-    (f : FindsFirst (wish_over table key name) before mid n found.head found.bytes.items found.seen) where
-  abbrev w : Wish
-  w = wish_over table key name
+module _ (table : List TableRow) (w : Wish) (width most : ℕ) (past given : List ℕ) (now : StreamReceiver)
+    (r : IsReceiving table w width most past given now) where
+  abbrev first : Head
+  first = r.found.head
 
   abbrev s : Source
-  s = source_of key found.head
+  s = source_of w.key first
 
-  -- what was read until the first wanted cell was whole
-  abbrev front : List ℕ
-  front = f.earlier ++ f.last
-
-  abbrev received : (more : List ℕ) → IsReceived w (front ++ more) found.head
-  received more = record {
-    earlier = f.earlier;
-    last = f.last;
-    later = more;
-    cut = refl;
-    few = omega (arith, f.few, f.brought);
-    none_earlier = f.none_earlier;
-    at = f.at;
-    is_first = f.first;
+  abbrev pub received : IsReceived w most past first
+  received = record {
+    earlier = r.earlier;
+    last = r.last;
+    later = r.later;
+    cut = r.cut;
+    few = r.is_found.few;
+    none_earlier = r.is_found.none_earlier;
+    at = r.is_found.at;
+    is_first = r.is_found.first;
   }
 
-  -- its cells from the first one on
-  abbrev cells : List ℕ → List Cell
-  cells more = cells_from w (front ++ more) found.head (received more)
+  -- the stream's cells
+  abbrev pub cells : List Cell
+  cells = cells_from w most past first received
 
-  all_there : (more : List ℕ) → found.bytes.items ++ more ≡ drop f.at front ++ more
-  all_there more = ap (λ xs. xs ++ more) f.from_there
+  all_there : r.found.bytes.items ++ r.later ≡ from_first received
+  all_there = ap (λ xs. xs ++ r.later) r.is_found.from_there
 
-  module _ (more : List ℕ) (now : Receiver) (came : List Cell) (has : HasSeen table key found (found.bytes.items ++ more) came now)
-      (none : HoldNone s now.bytes.items) where
-    cells_came : came ≡ cells more
-    cells_came =
-        sym (append-nil came) ∙ ap (λ cs. came ++ cs) (sym none.no_cells ∙ ap (cells_in s) (sym (append-nil now.bytes.items)))
-        ∙ sym (has.cells_found []) ∙ ap (cells_in s) (append-nil (found.bytes.items ++ more) ∙ all_there more)
+  cells_came : r.read.read.came ≡ cells
+  cells_came =
+      let came = r.read.read.came in
+      sym (append-nil came) ∙ ap (λ cs. came ++ cs) (sym r.read.none.no_cells ∙ ap (cells_in s) (sym (append-nil now.bytes.items)))
+      ∙ sym (r.read.read.seen.cells_found []) ∙ ap (cells_in s) (append-nil (r.found.bytes.items ++ r.later) ∙ all_there)
 
-    -- what was seen
-    seen_all : (seen : Seen) → SeesAll now seen → IsSeen table w (front ++ more) found.head (received more) seen
-    seen_all seen sees =
-        let came_is = ap length cells_came in
-        let damaged_is = ap (damaged_in s) (all_there more) in
-        let others_is = ap (others_in s) (all_there more) in
-        let flat_damaged = ap (damaged_in s) (append-nil (found.bytes.items ++ more)) in
-        let flat_others = ap (others_in s) (append-nil (found.bytes.items ++ more)) in
-        let left_damaged = ap (damaged_in s) (append-nil now.bytes.items) in
-        let left_others = ap (others_in s) (append-nil now.bytes.items) in
-        let here = ap (λ (k : Source). others_in k now.bytes.items) has.scans in
-        record {
-          cells = omega (arith, sees.cells, has.cells, f.seen.no_cells, came_is);
-          damaged = omega (arith, sees.damaged, has.damaged, f.seen.damaged, has.damaged_found [], none.no_damaged, damaged_is, flat_damaged, left_damaged);
-          others = omega (arith, sees.others, has.others, f.seen.others, has.others_found [], others_is, flat_others, left_others, here);
-          one_sender = λ one. sees.restarted ∙ has.one_sender (subst (IsOneSender table found.head) (sym cells_came) one);
-        }
+  pub taken : HasTaken table first.stream width cells given now.window
+  taken = subst (λ cs. HasTaken table first.stream width cs given now.window) cells_came r.read.read.taken
 
-  -- ---- what is answered
-
-  module _ (more : List ℕ) (now : Receiver) (has : HasReadAll table key found (found.bytes.items ++ more) now) where
-    taken : HasTaken table found.head (cells more) now.part
-    taken = subst (λ cs. HasTaken table found.head cs now.part) (cells_came more now has.read.came has.read.seen has.none) has.read.taken
-
-    abbrev h : Head
-    h = now.part.choice.head
-
-    answers_head : AnswersHead table w (front ++ more) found.head (received more) h (result_of (state_of now.part.attempt.decoder))
-    answers_head = record {
-      packets = packets table found.head (cells more) now.part taken;
-      rests = record {
-        headed = taken.heads.0;
-        begun = taken.begun;
-        are = refl;
-        one_sender = λ one. let was = taken.one_sender one in (was.0, was.1);
-      };
-      answered = answered_by table found.head (cells more) now.part taken;
-    }
-
-    -- no stream
-    none_determined : now.part.attempt.stream ≡ None → DeterminesNone table w (front ++ more) found.head (received more)
-    none_determined none = record {
-      head = h;
-      answer = result_of (state_of now.part.attempt.decoder);
-      answers = answers_head;
-      none = subst (λ (o : Option (Vec ℕ Global)). IsStreamIn h (result_of (state_of now.part.attempt.decoder)) (option_map vec_items o)) none
-          taken.sound.attempt.stream;
-    }
-
-    -- or a stream's bytes
-    module _ (v : Vec ℕ Global) (some : now.part.attempt.stream ≡ Some v) where
-      stream_is : IsStreamIn h (result_of (state_of now.part.attempt.decoder)) (Some v.items)
-      stream_is = subst (λ (o : Option (Vec ℕ Global)). IsStreamIn h (result_of (state_of now.part.attempt.decoder)) (option_map vec_items o)) some
-          taken.sound.attempt.stream
-
-      abbrev object : List ℕ
-      object = stream_is.0
-
-      answers_object : AnswersHead table w (front ++ more) found.head (received more) h (Some object)
-      answers_object = subst (AnswersHead table w (front ++ more) found.head (received more) h) stream_is.1 answers_head
-
-  -- ---- how it ends
-
-  module _ (after : Option (List ℕ)) (n' : ℕ) (now : Receiver) (seen : Seen) (sees : SeesAll now seen) where
-    all_read : (more : List ℕ) → Consumes mid after more → Consumes before after (front ++ more)
-    all_read more read = Consumes-trans before mid after front more f.read read
-
-    pub undetermined : (missing : ℕ) → TellsMissingPackets now.part.attempt.decoder missing → now.part.attempt.stream ≡ None
-        → EndsUndetermined table key found found.bytes.items now mid after → DoesntDetermine table w before after missing seen
-    unfolding none_determined taken answers_head
-    undetermined missing told none e = record {
-      past = front ++ e.past;
-      first = found.head;
-      read = all_read e.past e.read;
-      received = received e.past;
-      none = none_determined e.past now e.taken none;
-      needs = needs_by table found.head (cells e.past) now.part (taken e.past now e.taken) missing told;
-      ended = elim e.ended [
-        | inl at_end ↦ inl at_end
-        | inr many ↦ inr (omega (arith, many, length-append front e.past))
-      ];
-      seen = seen_all e.past now e.taken.read.came e.taken.read.seen e.taken.none seen sees;
-    }
-
-    module _ (e : EndsDetermined table key found found.bytes.items now mid after n n') where
-      abbrev more : List ℕ
-      more = e.earlier ++ e.last
-
-      not_earlier : IsLast table key found found.bytes.items e.earlier e.last n n' → WasntBefore table w found.head (front ++ more) n'
-      not_earlier (inl (nothing, same)) = record {
-        earlier = f.earlier;
-        last = f.last;
-        cut = ap (λ xs. front ++ xs) nothing ∙ append-nil front;
-        brought = f.brought ∙ sym same;
-        some = omega (arith, f.some, same);
-        few = omega (arith, f.few, same);
-        wasnt = inl f.none_earlier;
-      }
-      not_earlier (inr was) = record {
-        earlier = front ++ e.earlier;
-        last = e.last;
-        cut = sym (append_assoc front e.earlier e.last);
-        brought = was.brought;
-        some = was.some;
-        few = was.few;
-        wasnt = inr (received e.earlier, none_determined e.earlier was.mid was.taken was.undetermined);
+  sees_all : (seen : Seen) → SeesAll now seen → IsSeen table w most past first received seen
+  sees_all seen sees =
+      let has = r.read.read.seen in
+      let found = r.is_found.seen in
+      let came_is = ap length cells_came in
+      let damaged_is = ap (damaged_in s) all_there in
+      let others_is = ap (others_in s) all_there in
+      let flat_damaged = ap (damaged_in s) (append-nil (r.found.bytes.items ++ r.later)) in
+      let flat_others = ap (others_in s) (append-nil (r.found.bytes.items ++ r.later)) in
+      let left_damaged = ap (damaged_in s) (append-nil now.bytes.items) in
+      let left_others = ap (others_in s) (append-nil now.bytes.items) in
+      let here = ap (λ (k : Source). others_in k now.bytes.items) has.scans in
+      record {
+        cells = omega (arith, sees.cells, has.cells, found.no_cells, came_is);
+        damaged = omega (arith, sees.damaged, has.damaged, found.damaged, has.damaged_found [], r.read.none.no_damaged, damaged_is, flat_damaged, left_damaged);
+        others = omega (arith, sees.others, has.others, found.others, has.others_found [], others_is, flat_others, left_others, here);
+        one_sender = λ parts senders. sees.restarted ∙ (taken.standing parts senders).2.restarted;
       }
 
-      pub determined : (v : Vec ℕ Global) → now.part.attempt.stream ≡ Some v
-          → (object : List ℕ) × Determines table w before after n' now.part.choice.head object seen × IsStream now.part.choice.head object v.items
-      determined v some = (
-        object more now e.taken v some,
+  pub receives : (seen : Seen) → SeesAll now seen → Receives table w width most past first taken.parts seen
+  receives seen sees = record { received = received; settles = taken.settles; sees = sees_all seen sees }
+
+-- ---- of a receiver
+
+module _ (table : List TableRow) (w : Wish) (width most : ℕ) (past given : List ℕ) (r : Receiver) (fed : HasFed table w width most past given r)
+    (seen : Seen) (shows : Shows r seen) where
+  -- parts are settled: those that were handed out, and what is ready
+  pub record SoFar (parts : List Settled) : Type 0 where
+    pub out : bytes_of parts ≡ given ++ ready_of r
+    pub ended : has_last parts ≡ has_ended r
+
+  none_so_far : r.stream ≡ None → ReceivesSoFar table w width most past [] seen × SoFar []
+  none_so_far is =
+      let (u, nothing) = searching_of table w width most past given r is fed in
+      let same : seen ≡ r.seen = subst (λ (o : Option StreamReceiver). MatchOption o (seen ≡ r.seen) (λ k. SeesAll k seen)) is shows in (
+        (None, (record { none = u.none; seen_there = subst (SeesBefore w past (length past)) (sym same) u.all_seen }, refl)),
         record {
-          past = front ++ more;
-          first = found.head;
-          read = all_read more e.read;
-          received = received more;
-          answers = answers_object more now e.taken v some;
-          not_earlier = not_earlier e.not_earlier;
-          seen = seen_all more now e.taken.read.came e.taken.read.seen e.taken.none seen sees;
+          out = ap (λ xs. xs ++ []) (sym nothing) ∙ ap (λ (o : Option StreamReceiver). given ++ unwrap_or (option_map (λ k. k.window.ready.items) o) []) (sym is);
+          ended = ap (λ (o : Option StreamReceiver). unwrap_or (option_map (λ k. k.window.ended) o) false) (sym is);
         },
-        (stream_is more now e.taken v some).2,
       )
 
-    -- what was seen before the last read
-    pub seen_so_far : SeesBehind table key found found.bytes.items now mid after n' → SeesSoFar table w before after n' seen
-    seen_so_far e = record {
-      past = front ++ e.past;
-      last = e.last;
-      read = subst (Consumes before after) (sym (append_assoc front e.past e.last)) (all_read (e.past ++ e.last) e.read);
-      brought = e.brought;
-      seen_there = inr (found.head, received e.past, seen_all e.past now e.came e.seen e.none seen sees);
-    }
+  module _ (now : StreamReceiver) (is : r.stream ≡ Some now) where
+    abbrev receiving : IsReceiving table w width most past given now
+    receiving = receiving_of table w width most past given r now is fed
 
--- ---- a run that is stopped
+    abbrev parts_of : List Settled
+    parts_of = (taken table w width most past given now receiving).parts
 
-module _ (table : List TableRow) (key : Key) (name : List ℕ) (before after : Option (List ℕ)) (seen : Seen) (n : ℕ) where
-  -- at any read nothing is written
-  pub stopped : SeesSoFar table (wish_over table key name) before after n seen → (there : Option (List ℕ)) (stop : Stop) → IsStopOfReads stop
-      → EndsReceiving table key name (Err stop) seen before after n there there
-  stopped sees there Fault stops = inl (sees, Keeps-refl there)
-  stopped sees there (Refused e) (inl fault) = absurd (cc fault)
-  stopped sees there (Refused e) (inr memory) = let same : e ≡ OutOfMemory = cc memory in (same, sees, Keeps-refl there)
+    sees : SeesAll now seen
+    sees = subst (λ (o : Option StreamReceiver). MatchOption o (seen ≡ r.seen) (λ k. SeesAll k seen)) is shows
 
-  pub sees_none : SeesNoneYet (wish_over table key name) before after n seen → SeesSoFar table (wish_over table key name) before after n seen
-  sees_none sees =
-      record { past = sees.past; last = sees.last; read = sees.read; brought = sees.brought; seen_there = inl sees.sees }
+    some_so_far : (ReceivesSoFar table w width most past parts_of seen) × SoFar parts_of
+    some_so_far =
+        let t = taken table w width most past given now receiving in (
+          (Some receiving.found.head, receives table w width most past given now receiving seen sees),
+          record {
+            out = t.out ∙ ap (λ (o : Option StreamReceiver). given ++ unwrap_or (option_map (λ k. k.window.ready.items) o) []) (sym is);
+            ended = sym t.ended ∙ ap (λ (o : Option StreamReceiver). unwrap_or (option_map (λ k. k.window.ended) o) false) (sym is);
+          },
+        )
 
--- ---- what is written of the stream
+  pub so_far : (parts : List Settled) × ReceivesSoFar table w width most past parts seen × SoFar parts
+  so_far = by r.stream refl
+    where
+      by : (o : Option StreamReceiver) → r.stream ≡ o → (parts : List Settled) × ReceivesSoFar table w width most past parts seen × SoFar parts
+      by None is = ([], (none_so_far is).0, (none_so_far is).1)
+      by (Some now) is = (parts_of now is, (some_so_far now is).0, (some_so_far now is).1)
 
-module _ (bytes : List ℕ) (there new : Option (List ℕ)) where
-  pub written : (o : Outcome) → Ends (Ok o) there new (Ok (Some bytes)) → Appends there new bytes
-  written Written (xs, wanted, more) =
-      let same : Some bytes ≡ Some xs = cc wanted in
-      subst (Appends there new) (sym (same_Some bytes xs same)) more
-  written Incomplete (wanted, kept) = absurd (cc wanted)
+  -- and how a run ends that reads no more
+  pub record Ends (ending : Ending) : Type 0 where
+    pub parts : List Settled
+    pub receives_parts : ReceivesSoFar table w width most past parts seen
+    pub far : SoFar parts
+    pub ends_with : EndsWith table w width most past parts seen receives_parts ending
 
-  module _ (table : List TableRow) (key : Key) (name : List ℕ) (before after : Option (List ℕ)) (n : ℕ) (h : Head) (object : List ℕ) (seen : Seen)
-      (d : Determines table (wish_over table key name) before after n h object seen) where
-    -- what was seen in all that was read
-    all_seen : SeesSoFar table (wish_over table key name) before after n seen
-    all_seen = record {
-      past = d.past;
-      last = [];
-      read = subst (Consumes before after) (sym (append-nil d.past)) d.read;
-      brought = inl refl;
-      seen_there = inr (d.first, d.received, d.seen);
-    }
+  lacked : (o : Option StreamReceiver) → r.stream ≡ o → (number : ℕ) (missing : Option ℕ) → TellsLacked r number missing
+      → MatchOption o ((number ≡ 0) × (missing ≡ None)) (λ k. (number ≡ k.window.names.count) × TellsLacks k.window missing)
+  lacked o is number missing = subst
+      (λ (k : Option StreamReceiver). MatchOption k ((number ≡ 0) × (missing ≡ None)) (λ s. (number ≡ s.window.names.count) × TellsLacks s.window missing)) is
 
-    pub not_written : IsStream h object bytes → (stop : Stop) → Ends (Err stop) there new (Ok (Some bytes))
-        → EndsReceiving table key name (Err stop) seen before after n there new
-    not_written is (Refused e) (inl memory, kept) = (memory, all_seen, kept)
-    not_written is (Refused e) (inr wanted, kept) = absurd (cc wanted)
-    not_written is Fault (inl kept) = inl (all_seen, kept)
-    not_written is Fault (inr (xs, count, wanted, more)) =
-        let same : Some bytes ≡ Some xs = cc wanted in
-        inr (h, object, bytes, d, is, (count, subst (λ ys. Appends there new (take count ys)) (sym (same_Some bytes xs same)) more))
+  sound_window : IsSoundReceiver r → (now : StreamReceiver) → r.stream ≡ Some now → IsSoundWindow table now.window
+  sound_window sound now is =
+      subst (λ k. IsSoundWindow k now.window) fed.table_is
+      (subst (λ (o : Option StreamReceiver). IfSome o (λ k. IsSoundWindow r.wanted.table.now k.window)) is sound)
+
+  none_with : (is : r.stream ≡ None) (e : Ending) → TellsEnding r e → EndsWith table w width most past [] seen (none_so_far is).0 e
+  unfolding none_so_far
+  none_with is Written ended = (none_so_far is).1.ended ∙ ended
+  none_with is (Incomplete number missing) (open_still, lacks) =
+      let l = lacked None is number missing lacks in ((none_so_far is).1.ended ∙ open_still, l.0, l.1)
+
+  some_with : IsSoundReceiver r → (now : StreamReceiver) (is : r.stream ≡ Some now) (e : Ending) → TellsEnding r e
+      → EndsWith table w width most past (parts_of now is) seen (some_so_far now is).0 e
+  unfolding some_so_far receives
+  some_with sound now is Written ended = (some_so_far now is).1.ended ∙ ended
+  some_with sound now is (Incomplete number missing) (open_still, lacks) =
+      let l = lacked (Some now) is number missing lacks in
+      let t = taken table w width most past given now (receiving now is) in
+      let counted : now.window.names.count ≡ length (parts_of now is) = t.names.count ∙ length-map (parts_of now is) (λ (p : Settled). p.head.name) in (
+        (some_so_far now is).1.ended ∙ open_still,
+        l.0 ∙ counted,
+        subst (λ k. Lacks table (receiving now is).found.head.stream width (cells table w width most past given now (receiving now is)) k missing) counted
+            (l.1 table (receiving now is).found.head.stream width (cells table w width most past given now (receiving now is)) given
+            (sound_window sound now is) (ap (λ (o : Option StreamReceiver). unwrap_or (option_map (λ k. k.window.ended) o) false) (sym is) ∙ open_still) t),
+      )
+
+  pub ends : IsSoundReceiver r → (ending : Ending) → TellsEnding r ending → Ends ending
+  ends sound ending told = by r.stream refl
+    where
+      by : (o : Option StreamReceiver) → r.stream ≡ o → Ends ending
+      by None is = record { parts = []; receives_parts = (none_so_far is).0; far = (none_so_far is).1; ends_with = none_with is ending told }
+      by (Some now) is = record {
+        parts = parts_of now is;
+        receives_parts = (some_so_far now is).0;
+        far = (some_so_far now is).1;
+        ends_with = some_with sound now is ending told;
+      }

@@ -14,11 +14,10 @@ use Rattle.rq_cells.specs.declared.cell.Cell.{Cell}
 use Rattle.rq_cast.specs.declared.choice.Choice.{Choice}
 use Rattle.rq_cast.specs.declared.choice.Rival.{Rival}
 use Rattle.rq_cast.specs.declared.part_receiver.PartReceiver.{PartReceiver}
-use Rattle.rq_cast.specs.Parts.{IsStream}
-use Rattle.rq_cast.specs.Taken.{has_head, known_packets, received_packets, IsOneSender}
-use Rattle.rq_cast.specs.PartReceiving.{IsTakenHead, EachHead, IsHeadBehind, IsAttempt, IsSound, IsForeign, BeginsAnew, GoesOnWith, AddsPacket, HasTaken}
+use Rattle.rq_cast.specs.Taken.{has_head, IsTakenHead, known_packets, received_packets, IsOneSender}
+use Rattle.rq_cast.specs.PartReceiving.{EachHead, IsHeadOf, IsHeadBehind, IsAttempt, IsSound, IsUnused, IsForeign, BeginsAnew, GoesOnWith, AddsPacket, HasReceived, HasReceivedAll}
 use Rattle.rq_cast.proofs.SameHead.{own_head}
-use Rattle.rq_cast.proofs.TakenPackets.{received_own, received_other, received_since, received_since_all, one_sender_first, last_head}
+use Rattle.rq_cast.proofs.TakenPackets.{received_both, received_own, received_other, received_since, received_since_all, last_head}
 
 -- ---- heads
 
@@ -46,34 +45,34 @@ module _ (P : Head → Type 0) (table : List TableRow) (old : Choice) (h : Head)
   pub each_behind : (new : Choice) → EachHead (IsHeadBehind table old h) new → EachHead P new
   each_behind new = each_all (IsHeadBehind table old h) P one_behind new
 
--- ---- heads that coders take, and the attempt
+-- ---- heads of the part that coders take, and the attempt
 
-module _ (table : List TableRow) (old : PartReceiver) where
+module _ (table : List TableRow) (index : ℕ) (old : PartReceiver) where
   -- a receiver with other heads
   abbrev pub with_choice : Choice → PartReceiver
   with_choice choice = record old { choice = choice }
 
-  pub sound_choice : (choice : Choice) → EachHead (IsTakenHead table) choice → choice.head ≡ old.choice.head → IsSound table old
-      → IsSound table (with_choice choice)
+  pub sound_choice : (choice : Choice) → EachHead (IsHeadOf table index) choice → choice.head ≡ old.choice.head → IsSound table index old
+      → IsSound table index (with_choice choice)
   sound_choice choice heads same sound =
       record { heads = heads; attempt = subst (λ (h : Head). IsAttempt h old.attempt) (sym same) sound.attempt }
 
-  pub sound_begun : (new : PartReceiver) → EachHead (IsTakenHead table) old.choice → BeginsAnew table old new → IsSound table new
+  pub sound_begun : (new : PartReceiver) → EachHead (IsHeadOf table index) old.choice → BeginsAnew table old new → IsSound table index new
   sound_begun new heads anew = record {
-    heads = subst (EachHead (IsTakenHead table)) (sym anew.choice) heads;
-    attempt = subst (λ (c : Choice). IsAttempt c.head new.attempt) (sym anew.choice) anew.attempt;
+    heads = each_same (IsHeadOf table index) old.choice new.choice anew.head anew.rival heads;
+    attempt = subst (λ (h : Head). IsAttempt h new.attempt) (sym anew.head) anew.attempt;
   }
 
-  pub sound_added : (p : Packet) (new : PartReceiver) → IsSound table old → AddsPacket table old p new → IsSound table new
+  pub sound_added : (p : Packet) (new : PartReceiver) → IsSound table index old → AddsPacket table old p new → IsSound table index new
   sound_added p new sound (inl on) = record {
-    heads = subst (EachHead (IsTakenHead table)) (sym on.choice) sound.heads;
+    heads = subst (EachHead (IsHeadOf table index)) (sym on.choice) sound.heads;
     attempt = subst (λ (c : Choice). IsAttempt c.head new.attempt) (sym on.choice) on.attempt.is;
   }
-  sound_added p new sound (inr (foreign, anew)) = sound_begun new sound.heads anew
+  sound_added p new sound (inr (foreign, up)) = sound_begun new sound.heads up.anew
 
 -- ---- which heads came
 
-abbrev head_of : Cell → Head
+abbrev pub head_of : Cell → Head
 head_of c = c.head
 
 -- the first head, and those of the cells that came
@@ -96,29 +95,40 @@ module _ (first : Head) (came : List Cell) (cell : Cell) where
   longer : length with_cell ≡ length came + 1
   longer = length-append came (cell ∷ [])
 
--- ---- before any cell
+-- ---- before its first cell
 
-pub taken_none : (table : List TableRow) (first : Head) (p : PartReceiver) → IsSound table p → p.choice.head ≡ first → p.choice.rival ≡ None
-    → FollowsRun table [] (state_of p.attempt.decoder) → p.restarted ≡ 0 → HasTaken table first [] p
-taken_none table first p sound head alone follows restarted = record {
-  sound = sound;
-  heads = (
-    (0, omega arith, sym head),
-    subst (λ (o : Option Rival). IfSome o (λ r. Contains (first ∷ []) r.head)) (sym alone) tt,
-  );
-  begun = 0;
-  within = omega arith;
-  follows = follows;
-  one_sender = λ one. (head, refl, restarted);
-}
+module _ (table : List TableRow) (h : Head) (p : PartReceiver) (unused : IsUnused table h p) where
+  pub unused_received : (came : List Cell) → HasReceived table h came p
+  unused_received came = record {
+    heads = (
+      (0, omega arith, sym unused.head),
+      subst (λ (o : Option Rival). IfSome o (λ r. Contains (heads_of h came) r.head)) (sym unused.alone) tt,
+    );
+    begun = length came;
+    within = omega arith;
+    follows = subst (λ ps. FollowsRun table ps (state_of p.attempt.decoder)) (sym (received_since_all p.choice.head came)) unused.follows;
+  }
+
+  pub unused_all : HasReceivedAll table h [] p
+  unused_all = record { head = unused.head; follows = unused.follows; restarted = unused.restarted }
+
+-- ---- begun anew
+
+module _ (table : List TableRow) (first : Head) (came : List Cell) (old new : PartReceiver) (anew : BeginsAnew table old new) where
+  pub begun_received : EachHead (Contains (heads_of first came)) old.choice → HasReceived table first came new
+  begun_received heads = record {
+    heads = each_same (Contains (heads_of first came)) old.choice new.choice anew.head anew.rival heads;
+    begun = length came;
+    within = omega arith;
+    follows = subst (λ ps. FollowsRun table ps (state_of new.attempt.decoder)) (sym (received_since_all new.choice.head came)) anew.follows;
+  }
 
 -- ---- a cell with the head in use
 
 module _ (table : List TableRow) (first : Head) (came : List Cell) (cell : Cell) (old new : PartReceiver) (own : has_head old.choice.head cell ≡ true)
-    (sound : IsSound table new) (heads : EachHead (Contains (heads_of first (with_cell first came cell))) old.choice)
+    (heads : EachHead (Contains (heads_of first (with_cell first came cell))) old.choice)
     (begun : ℕ) (within : begun ≤ length came)
-    (follows : FollowsRun table (received_packets old.choice.head (drop begun came)) (state_of old.attempt.decoder))
-    (one_sender : IsOneSender table first (with_cell first came cell) → (old.choice.head ≡ first) × (begun ≡ 0) × (old.restarted ≡ 0)) where
+    (follows : FollowsRun table (received_packets old.choice.head (drop begun came)) (state_of old.attempt.decoder)) where
   abbrev h : Head
   h = old.choice.head
 
@@ -131,48 +141,22 @@ module _ (table : List TableRow) (first : Head) (came : List Cell) (cell : Cell)
   more : received_packets h (drop begun all) ≡ packets ++ known_packets h.configuration (cell.packet ∷ [])
   more = received_since h begun came (cell ∷ []) within ∙ ap (λ ps. packets ++ ps) (received_own h cell own)
 
-  -- one sender's packets aren't foreign
-  not_foreign : IsForeign h old.attempt cell.packet → IsOneSender table first all → ⊥
-  not_foreign foreign one =
-      let was = one_sender one in
-      let run : IsHonestRun table h.configuration one.object (received_packets h all) =
-      subst (λ (k : Head). IsHonestRun table k.configuration one.object (received_packets k all)) (sym was.0) one.honest in
-      let stream : IsStream h one.object one.bytes = subst (λ (k : Head). IsStream k one.object one.bytes) (sym was.0) one.stream in
-      let same : received_packets h all ≡ packets ++ known_packets h.configuration (cell.packet ∷ []) =
-      ap (λ n. received_packets h (drop n all)) (sym was.1) ∙ more in
-      foreign table one.object one.bytes packets follows stream (subst (IsHonestRun table h.configuration one.object) same run)
-
-  heads_now : new.choice ≡ old.choice → EachHead (Contains (heads_of first all)) new.choice
-  heads_now same = subst (EachHead (Contains (heads_of first all))) (sym same) heads
-
-  goes_on : GoesOnWith old cell.packet new → HasTaken table first all new
+  goes_on : GoesOnWith old cell.packet new → HasReceived table first all new
   goes_on on = record {
-    sound = sound;
-    heads = heads_now on.choice;
+    heads = subst (EachHead (Contains (heads_of first all))) (sym on.choice) heads;
     begun = begun;
     within = omega (arith, within, longer first came cell);
     follows = subst (λ (c : Choice). FollowsRun table (received_packets c.head (drop begun all)) (state_of new.attempt.decoder)) (sym on.choice)
         (subst (λ ps. FollowsRun table ps (state_of new.attempt.decoder)) (sym more) (on.attempt.follows table packets follows));
-    one_sender = λ one. let was = one_sender one in (ap (λ (c : Choice). c.head) on.choice ∙ was.0, was.1, on.restarted ∙ was.2);
   }
 
-  given_up : IsForeign h old.attempt cell.packet → BeginsAnew table old new → HasTaken table first all new
-  given_up foreign anew = record {
-    sound = sound;
-    heads = heads_now anew.choice;
-    begun = length all;
-    within = omega arith;
-    follows = subst (λ ps. FollowsRun table ps (state_of new.attempt.decoder)) (sym (received_since_all new.choice.head all)) anew.follows;
-    one_sender = λ one. absurd (not_foreign foreign one);
-  }
-
-  pub added : AddsPacket table old cell.packet new → HasTaken table first all new
+  pub added : AddsPacket table old cell.packet new → HasReceived table first all new
   added (inl on) = goes_on on
-  added (inr (foreign, anew)) = given_up foreign anew
+  added (inr (foreign, up)) = begun_received table first all old new up.anew heads
 
--- ---- the next cell
+-- ---- the next cell, whoever sent it
 
-module _ (table : List TableRow) (first : Head) (came : List Cell) (cell : Cell) (old : PartReceiver) (has : HasTaken table first came old) where
+module _ (table : List TableRow) (first : Head) (came : List Cell) (cell : Cell) (old : PartReceiver) (has : HasReceived table first came old) where
   abbrev among : Head → Type 0
   among = Contains (heads_of first (with_cell first came cell))
 
@@ -180,56 +164,85 @@ module _ (table : List TableRow) (first : Head) (came : List Cell) (cell : Cell)
   still = each_all (Contains (heads_of first came)) among (still_among first came cell) old.choice has.heads
 
   -- it has the head in use
-  pub taken_own : has_head old.choice.head cell ≡ true → (choice : Choice) → choice.head ≡ old.choice.head → choice.rival ≡ old.choice.rival
-      → (new : PartReceiver) → AddsPacket table (with_choice table old choice) cell.packet new → HasTaken table first (with_cell first came cell) new
-  taken_own own choice head rival new adds =
-      let sound = sound_choice table old choice (each_same (IsTakenHead table) old.choice choice head rival has.sound.heads) head has.sound in
-      added table first came cell (with_choice table old choice) new (subst (λ (h : Head). has_head h cell ≡ true) (sym head) own)
-      (sound_added table (with_choice table old choice) cell.packet new sound adds) (each_same among old.choice choice head rival still)
-      has.begun has.within (subst (λ (h : Head). FollowsRun table (received_packets h (drop has.begun came)) (state_of old.attempt.decoder)) (sym head) has.follows)
-      (λ one. let was = has.one_sender (one_sender_first first table came (cell ∷ []) one) in (head ∙ was.0, was.1, was.2)) adds
+  pub received_same : has_head old.choice.head cell ≡ true → (choice : Choice) → choice.head ≡ old.choice.head → choice.rival ≡ old.choice.rival
+      → (new : PartReceiver) → AddsPacket table (record old { choice = choice }) cell.packet new → HasReceived table first (with_cell first came cell) new
+  received_same own choice head rival new adds =
+      added table first came cell (record old { choice = choice }) new (subst (λ (h : Head). has_head h cell ≡ true) (sym head) own)
+      (each_same among old.choice choice head rival still) has.begun has.within
+      (subst (λ (h : Head). FollowsRun table (received_packets h (drop has.begun came)) (state_of old.attempt.decoder)) (sym head) has.follows) adds
 
   -- it has another one
   module _ (other : has_head old.choice.head cell ≡ false) where
-    -- of one sender there is none
-    no_other : IsOneSender table first (with_cell first came cell) → ⊥
-    no_other one =
-        let was = has.one_sender (one_sender_first first table came (cell ∷ []) one) in
-        let same : cell.head ≡ old.choice.head = last_head first table came cell one ∙ sym was.0 in
-        true≢false (sym (subst (λ (k : Head). has_head k cell ≡ true) same (own_head cell)) ∙ other)
-
     nothing_more : received_packets old.choice.head (drop has.begun (with_cell first came cell)) ≡ received_packets old.choice.head (drop has.begun came)
     nothing_more =
         received_since old.choice.head has.begun came (cell ∷ []) has.within
         ∙ ap (λ ps. received_packets old.choice.head (drop has.begun came) ++ ps) (received_other old.choice.head cell other)
         ∙ append-nil (received_packets old.choice.head (drop has.begun came))
 
-    module _ (choice : Choice) (heads : EachHead (IsHeadBehind table old.choice cell.head) choice) where
-      heads_taken : EachHead (IsTakenHead table) choice
-      heads_taken = each_behind (IsTakenHead table) table old.choice cell.head has.sound.heads (λ taken. taken) choice heads
+    passed_with : (choice : Choice) → EachHead among choice → choice.head ≡ old.choice.head
+        → HasReceived table first (with_cell first came cell) (record old { choice = choice })
+    passed_with choice heads same = record {
+      heads = heads;
+      begun = has.begun;
+      within = omega (arith, has.within, longer first came cell);
+      follows = subst (λ (k : Head). FollowsRun table (received_packets k (drop has.begun (with_cell first came cell))) (state_of old.attempt.decoder)) (sym same)
+          (subst (λ ps. FollowsRun table ps (state_of old.attempt.decoder)) (sym nothing_more) has.follows);
+    }
 
+    -- which isn't looked at
+    pub received_passed : HasReceived table first (with_cell first came cell) old
+    received_passed = passed_with old.choice still refl
+
+    module _ (choice : Choice) (heads : EachHead (IsHeadBehind table old.choice cell.head) choice) where
       heads_among : EachHead among choice
       heads_among = each_behind among table old.choice cell.head still (λ taken. cell_among first came cell) choice heads
 
       -- which is counted
-      pub taken_passed : choice.head ≡ old.choice.head → HasTaken table first (with_cell first came cell) (with_choice table old choice)
-      taken_passed same = record {
-        sound = sound_choice table old choice heads_taken same has.sound;
-        heads = heads_among;
-        begun = has.begun;
-        within = omega (arith, has.within, longer first came cell);
-        follows = subst (λ (k : Head). FollowsRun table (received_packets k (drop has.begun (with_cell first came cell))) (state_of old.attempt.decoder)) (sym same)
-            (subst (λ ps. FollowsRun table ps (state_of old.attempt.decoder)) (sym nothing_more) has.follows);
-        one_sender = λ one. absurd (no_other one);
-      }
+      pub received_counted : choice.head ≡ old.choice.head → HasReceived table first (with_cell first came cell) (record old { choice = choice })
+      received_counted same = passed_with choice heads_among same
 
       -- or is in use now
-      pub taken_anew : choice.head ≡ cell.head → (mid : PartReceiver) → BeginsAnew table (with_choice table old choice) mid
-          → (new : PartReceiver) → AddsPacket table mid cell.packet new → HasTaken table first (with_cell first came cell) new
-      taken_anew same mid anew new adds =
-          let head : mid.choice.head ≡ cell.head = ap (λ (c : Choice). c.head) anew.choice ∙ same in
+      pub received_anew : choice.head ≡ cell.head → (mid : PartReceiver) → BeginsAnew table (record old { choice = choice }) mid
+          → (new : PartReceiver) → AddsPacket table mid cell.packet new → HasReceived table first (with_cell first came cell) new
+      received_anew same mid anew new adds =
+          let head : mid.choice.head ≡ cell.head = anew.head ∙ same in
           added table first came cell mid new (subst (λ (h : Head). has_head h cell ≡ true) (sym head) (own_head cell))
-          (sound_added table mid cell.packet new (sound_begun table (with_choice table old choice) mid heads_taken anew) adds)
-          (subst (EachHead among) (sym anew.choice) heads_among) (length came) (omega arith)
-          (subst (λ ps. FollowsRun table ps (state_of mid.attempt.decoder)) (sym (received_since_all mid.choice.head came)) anew.follows)
-          (λ one. absurd (no_other one)) adds
+          (each_same among choice mid.choice anew.head anew.rival heads_among) (length came) (omega arith)
+          (subst (λ ps. FollowsRun table ps (state_of mid.attempt.decoder)) (sym (received_since_all mid.choice.head came)) anew.follows) adds
+
+-- ---- the next cell of one sender
+
+module _ (table : List TableRow) (h : Head) (came : List Cell) (cell : Cell) (old : PartReceiver) (one : IsOneSender table h (came ++ cell ∷ []))
+    (has : HasReceivedAll table h came old) where
+  own : has_head h cell ≡ true
+  own = subst (λ (k : Head). has_head k cell ≡ true) (last_head h came cell one.heads) (own_head cell)
+
+  -- it has the head in use
+  pub no_other : has_head old.choice.head cell ≡ false → ⊥
+  no_other other = true≢false (sym own ∙ subst (λ (k : Head). has_head k cell ≡ false) has.head other)
+
+  more_of_one : received_packets h (came ++ cell ∷ []) ≡ received_packets h came ++ known_packets h.configuration (cell.packet ∷ [])
+  more_of_one = received_both h came (cell ∷ []) ∙ ap (λ ps. received_packets h came ++ ps) (received_own h cell own)
+
+  module _ (choice : Choice) (head : choice.head ≡ old.choice.head) (new : PartReceiver) where
+    same : choice.head ≡ h
+    same = head ∙ has.head
+
+    goes_on_all : GoesOnWith (record old { choice = choice }) cell.packet new → HasReceivedAll table h (came ++ cell ∷ []) new
+    goes_on_all on = record {
+      head = ap (λ (c : Choice). c.head) on.choice ∙ same;
+      follows = subst (λ ps. FollowsRun table ps (state_of new.attempt.decoder)) (sym more_of_one)
+          (subst (λ (k : Head). FollowsRun table (received_packets h came ++ known_packets k.configuration (cell.packet ∷ [])) (state_of new.attempt.decoder))
+          same (on.attempt.follows table (received_packets h came) has.follows));
+      restarted = on.restarted ∙ has.restarted;
+    }
+
+    -- and its packet isn't foreign
+    not_foreign : IsForeign choice.head old.attempt cell.packet → ⊥
+    not_foreign foreign =
+        let run = subst (IsHonestRun table h.configuration one.object) more_of_one one.honest in
+        subst (λ (k : Head). IsForeign k old.attempt cell.packet) same foreign table one.object (received_packets h came) has.follows one.named run
+
+    pub added_all : AddsPacket table (record old { choice = choice }) cell.packet new → HasReceivedAll table h (came ++ cell ∷ []) new
+    added_all (inl on) = goes_on_all on
+    added_all (inr (foreign, up)) = absurd (not_foreign foreign)

@@ -1,63 +1,51 @@
 -- An object that is made ready to be sent.
-use Rattle.std.proofs.Common.{◌≡◌, inl, inr, ℕ, ◌-◌, ◌^◌, ◌<◌, min, List, length, Bool, true, false, if◌then◌else◌, arith, Option, Some, None, Result, Ok, Err, IfOk, OnOk, IfErr, IfSome, sym, subst, ◌∙◌, ap}
+use Rattle.std.proofs.Common.{◌≡◌, inl, inr, ℕ, ◌+◌, ◌-◌, ◌/◌, ◌%◌, ◌^◌, ◌<◌, min, refl, List, length, Bool, true, false, if◌then◌else◌, arith, Result, Ok, Err, IfOk, IfErr, sym, subst, ◌∙◌, ap}
 use Rattle.std.specs.Prelude.{◌⊎◌, ◌≢◌, ◌==◌, nat_lt}
-use Rattle.std.proofs.lemmas.Bool.{cases_lt, lt-ltb}
+use Rattle.std.proofs.lemmas.Bool.{cases_lt, lt-ltb, eq-eqb, ne_eqb}
 use Rattle.rq_bytes.specs.declared.error.Error.{Error}
 use Rattle.rq_bytes.specs.declared.error.Error.TheVariants.{OutOfMemory, PacketSizeZero, TransferLengthZero, TransferTooLong, MemoryRequirementTooSmall, TooManyBlocks}
 use Rattle.rq_standard.specs.declared.row.TableRow.{TableRow}
 use Rattle.rq_standard.specs.Configuration.{Configuration, largest_block}
-use Rattle.rq_standard.specs.Headline.{HasNonsingularRows}
 use Rattle.rq_standard.specs.Parameters.{fitting_block, most_sub_blocks, blocks_for, parameters_for}
 use Rattle.rq_standard.specs.TableRows.{built_in_rows}
 use Rattle.rq_tables.specs.SystematicTable.{wanted_table}
 use Rattle.rq_rows.specs.declared.further_rows.TheConstants.{FURTHER_ROWS}
 use Rattle.rq_base.specs.RefusedInput.{greatest_transfer_length}
 use Rattle.rq_streams.specs.Sent.{default_parameters}
-use Rattle.raptorq.specs.Encoder.{IsEncoderOf}
-use Rattle.rq_streams.specs.declared.run.Stop.{Stop}
-use Rattle.rq_streams.specs.declared.run.Stop.TheVariants.{Refused}
+use Rattle.raptorq.specs.Refused.{RefusesEncoder}
 use Rattle.rq_cast.specs.declared.order.Order.{Order}
 use Rattle.rq_cast.specs.declared.sending.Sender.{Sender}
 use Rattle.rq_cells.specs.Cells.{Key}
-use Rattle.rq_cast.specs.Parts.{sealed, only_head}
-use Rattle.rq_cast.specs.Sent.{Sending, sending_of, IsSeriesOf}
-use Rattle.rq_cast.specs.Preparing.{IsFitting, RefusesFitting, IsPrepared, RefusesObject, StopsPreparing}
+use Rattle.rq_cast.specs.declared.names.Names.{Names}
+use Rattle.rq_cast.specs.Names.{AreNames}
+use Rattle.rq_cast.specs.Parts.{greatest_count, object_of}
+use Rattle.rq_cast.specs.Sent.{sending_of, IsSendingOf, IsSeriesOf}
+use Rattle.rq_cast.specs.Preparing.{IsFitting, RefusesFitting, IsPrepared, RefusesObject, object_length, FitParts, RefusesParts}
 
 -- a sender over a configuration that fits
-pub prepared_by : (order : Order) (key : Key) (object : List ℕ) (table : List TableRow) (c : Configuration) (r : Result Sender Error)
-    → IsFitting (length object) order.symbol_size table c
-    → OnOk r (HasNonsingularRows table c) → IfOk r (λ s. IsEncoderOf table object (sending_of s).encoded)
-    → IfOk r (λ s. (sending_of s).encoded.configuration ≡ c)
-    → IfOk r (λ s. (sending_of s).key ≡ key)
-    → IfOk r (λ s. (sending_of s).head ≡ only_head c object)
-    → IfOk r (λ s. IsSeriesOf order.ids.first order.ids.step (largest_block c) order.repair (sending_of s).series)
-    → IfOk r (λ s. (bytes : List ℕ) → object ≡ sealed bytes → IsPrepared order key bytes (sending_of s))
-prepared_by order key object table c (Err e) fits nonsingular encoder is keyed head series = tt
-prepared_by order key object table c (Ok s) fits nonsingular encoder is keyed head series = λ bytes of_bytes. record {
-  table = table;
-  fitting = subst (λ o. IsFitting (length o) order.symbol_size table (sending_of s).encoded.configuration) of_bytes
-      (subst (IsFitting (length object) order.symbol_size table) (sym is) fits);
-  nonsingular = subst (HasNonsingularRows table) (sym is) nonsingular;
-  encoder = subst (λ o. IsEncoderOf table o (sending_of s).encoded) of_bytes encoder;
-  keyed = keyed;
-  head = head ∙ (λ i. only_head (sym is i) (of_bytes i));
-  series = subst (λ k. IsSeriesOf order.ids.first order.ids.step (largest_block k) order.repair (sending_of s).series) (sym is) series;
-}
+module _ (order : Order) (key : Key) (is_last : Bool) (n : Names) (bytes object : List ℕ) (table : List TableRow) (c : Configuration)
+    (fits : IsFitting (length object) order.symbol_size table c)
+    (is_object : (before : List (List ℕ)) → AreNames before n → object ≡ object_of is_last before bytes) where
+  pub prepared_by : (r : Result Sender Error)
+      → IfOk r (λ s. (before : List (List ℕ)) → AreNames before n → IsSendingOf table is_last before object (sending_of s))
+      → IfOk r (λ s. (sending_of s).encoded.configuration ≡ c)
+      → IfOk r (λ s. (sending_of s).key ≡ key)
+      → IfOk r (λ s. IsSeriesOf order.ids.first order.ids.step (largest_block c) order.repair (sending_of s).series)
+      → IfOk r (λ s. (before : List (List ℕ)) → AreNames before n → IsPrepared order key is_last before bytes (sending_of s))
+  prepared_by (Err e) sends is keyed series = tt
+  prepared_by (Ok s) sends is keyed series = λ before are. record {
+    table = table;
+    fitting = subst (λ o. IsFitting (length o) order.symbol_size table (sending_of s).encoded.configuration) (is_object before are)
+        (subst (IsFitting (length object) order.symbol_size table) (sym is) fits);
+    sends = subst (λ o. IsSendingOf table is_last before o (sending_of s)) (is_object before are) (sends before are);
+    keyed = keyed;
+    series = subst (λ k. IsSeriesOf order.ids.first order.ids.step (largest_block k) order.repair (sending_of s).series) (sym is) series;
+  }
 
--- the sender of what was read
-pub prepared_of : (order : Order) (key : Key) (object bytes : List ℕ) (s : Sending) (input : Option (List ℕ))
-    → ((read : List ℕ) → object ≡ sealed read → IsPrepared order key read s) → object ≡ sealed bytes
-    → IfSome input (λ read. bytes ≡ read) → IfSome input (λ read. IsPrepared order key read s)
-prepared_of order key object bytes s None prepared of_bytes read = tt
-prepared_of order key object bytes s (Some there) prepared of_bytes read = prepared there (of_bytes ∙ ap sealed read)
-
--- a refusal of what was read
-pub stops_preparing : {X : Type 0} (order : Order) (object bytes : List ℕ) (e : Error) (input : Option (List ℕ)) (r : Result X Stop) → r ≡ Err (Refused e)
-    → RefusesObject order object e → object ≡ sealed bytes → IfSome input (λ read. bytes ≡ read)
-    → IfErr r (λ stop. IfSome input (λ read. StopsPreparing order read stop))
-stops_preparing order object bytes e None r is refused of_bytes read = subst (λ r. IfErr r (λ stop. IfSome None (λ read. StopsPreparing order read stop))) (sym is) tt
-stops_preparing order object bytes e (Some there) r is refused of_bytes read =
-    subst (λ r. IfErr r (λ stop. StopsPreparing order there stop)) (sym is) (inr (subst (λ o. RefusesObject order o e) (of_bytes ∙ ap sealed read) refused))
+  pub refused_by : (r : Result Sender Error) → IfErr r (RefusesEncoder table c (length object))
+      → IfErr r (λ e. (before : List (List ℕ)) → AreNames before n → (e ≡ OutOfMemory) ⊎ RefusesObject order (object_of is_last before bytes) e)
+  refused_by (Ok s) refuses = tt
+  refused_by (Err e) refuses = λ before are. inr (subst (λ o. RefusesObject order o e) (is_object before are) (inr (table, c, fits, refuses)))
 
 -- ---- lengths beyond 64 bits
 
@@ -103,3 +91,36 @@ module _ (n cut size : ℕ) (is : cut ≡ min n (2 ^ 64 - 1)) where
 
   pub refuses_uncut : (e : Error) → RefusesFitting cut size e → RefusesFitting n size e
   refuses_uncut e refuses = subst (λ f. RefusesBy f e) (λ i rows. same_parameters n cut size is rows i) refuses
+
+-- ---- lengths of parts
+
+module _ (order : Order) (n : ℕ) where
+  abbrev last : ℕ
+  last = n / order.part
+
+  length_of_last : object_length order.part n last ≡ n % order.part + 32
+  length_of_last = ap (λ (b : Bool). if b then n % order.part + 32 else order.part) (eq-eqb last last refl)
+
+  length_of_whole : (index : ℕ) → index < last → object_length order.part n index ≡ order.part
+  length_of_whole index below = ap (λ (b : Bool). if b then n % order.part + 32 else order.part) (ne_eqb index last (λ same. omega (arith, below, same)))
+
+  -- an object of so many bytes has a configuration
+  abbrev pub Fits : ℕ → Type 0
+  Fits m = (table : List TableRow) × (c : Configuration) × IsFitting m order.symbol_size table c
+
+  pub fit_parts : last < greatest_count → (0 < last → Fits order.part) → Fits (n % order.part + 32) → FitParts order n
+  fit_parts few first ending = record {
+    numbered = omega (arith, few);
+    each = λ index within. elim (cases_lt index last) [
+      | inl below ↦ subst Fits (sym (length_of_whole index below)) (first (omega (arith, below)))
+      | inr past ↦
+          let here : last ≡ index = omega (arith, within, past) in
+          subst (λ i. Fits (object_length order.part n i)) here (subst Fits (sym length_of_last) ending)
+    ];
+  }
+
+  pub refuses_whole : (e : Error) → 0 < last → RefusesFitting order.part order.symbol_size e → RefusesParts order n e
+  refuses_whole e some refuses = inl (0, omega arith, subst (λ m. RefusesFitting m order.symbol_size e) (sym (length_of_whole 0 some)) refuses)
+
+  pub refuses_last : (e : Error) → RefusesFitting (n % order.part + 32) order.symbol_size e → RefusesParts order n e
+  refuses_last e refuses = inl (last, omega arith, subst (λ m. RefusesFitting m order.symbol_size e) (sym length_of_last) refuses)

@@ -1,19 +1,16 @@
--- No wanted cell is whole yet in what was read.
-use Rattle.std.proofs.Common.{◌≡◌, ℕ, ◌+◌, ◌-◌, ◌^◌, ◌<◌, ◌≤◌, List, [], ◌++◌, length, drop, arith, refl, sym, ap, subst, ◌∙◌, Option, None, ◌⊎◌, inl, inr, length-append, append_assoc, drop-drop}
-use Rattle.std.specs.Io.KnownBytes.{Consumes}
-use Rattle.std.proofs.KnownBytes.{Consumes-nil, Consumes-trans}
+-- No wanted cell is whole yet in what came.
+use Rattle.std.proofs.Common.{◌≡◌, ℕ, ◌+◌, ◌-◌, ◌<◌, ◌≤◌, List, [], ◌++◌, length, drop, arith, refl, sym, ap, subst, ◌∙◌, None, ◌⊎◌, inl, inr, length-append, append_assoc, drop-drop}
 use Rattle.std.proofs.lemmas.List.{length-drop, drop-append-le}
 use Rattle.std.proofs.lemmas.Bool.{cases_lt}
-use Rattle.rq_cells.specs.declared.head.Head.{Head}
 use Rattle.rq_cells.specs.declared.wanted.Heads.{Heads}
 use Rattle.rq_cells.specs.declared.wanted.Search.{Search}
 use Rattle.rq_cells.specs.Wanted.{Wish, wanted_at, is_wanted_damaged, is_unwanted, AreHeads, IsFirstWanted, HasNoWanted, NoneBefore, IsSearch}
 use Rattle.rq_cells.specs.Search.{Searching, place_of, left_behind}
 use Rattle.rq_cells.proofs.WantedCells.{count_further}
-use Rattle.rq_cast.specs.Reading.{chunk_length, ReadsOnce}
-use Rattle.rq_cast.specs.declared.receiver.Seen.{Seen}
-use Rattle.rq_cast.specs.Receiving.{SeesHeads}
-use Rattle.rq_cast.specs.Searching.{SeesBefore, SeesNoneYet, FindsFirst, FindsNone}
+use Rattle.rq_cast.specs.declared.seen.Seen.{Seen}
+use Rattle.rq_cast.specs.declared.stream_receiver.Found.{Found}
+use Rattle.rq_cast.specs.Searching.{SeesBefore}
+use Rattle.rq_cast.specs.Receiving.{SeesHeads, IsSearching, IsFoundIn}
 
 -- the heads at the places from one on, behind those before it
 pub sees_more : (w : Wish) (bytes : List ℕ) (from n : ℕ) (old new : Seen) (heads : Heads)
@@ -29,20 +26,6 @@ sees_more w bytes from n old new heads before are sees =
       others = omega (arith, sees.others, before.others, are.others, others);
     }
 
--- So many reads were made, and of what they brought the bytes from a place on are kept, before which no wanted cell begins, whatever comes behind.
--- What was seen before that place, and in all.
-pub record IsUnfound (w : Wish) (before after : Option (List ℕ)) (reads : ℕ) (kept : List ℕ) (settled every : Seen) : Type 0 where
-  pub past : List ℕ
-  pub brought : reads ≤ length past
-  pub read : Consumes before after past
-  pub from : ℕ
-  pub within : from ≤ length past
-  pub from_there : kept ≡ drop from past
-  pub never : (rest : List ℕ) (i : ℕ) → i < from → wanted_at w (drop i past ++ rest) ≡ None
-  pub none : NoneBefore w past (length past)
-  pub seen : (rest : List ℕ) → SeesBefore w (past ++ rest) from settled
-  pub all_seen : SeesBefore w past (length past) every
-
 -- what a search that goes on finds, where a wish and a piece are these
 pub fed : (w : Wish) (s new : Searching) (piece given : List ℕ) (search : Search) → s.wish ≡ w → given ≡ piece → IsSearch s.wish (s.bytes ++ given) search
     → new ≡ left_behind s given search
@@ -53,118 +36,97 @@ fed w s new piece given search wish is found left = (
   ap (λ (k : Searching). k.bytes) left ∙ ap (λ xs. drop (place_of search) (s.bytes ++ xs)) is,
 )
 
--- no read at all
-pub reads_nothing : (there : Option (List ℕ)) (n : ℕ) → ReadsOnce there there n
-reads_nothing there n = record { piece = []; taken = Consumes-nil there; brought = inl refl }
+-- nothing came yet
+pub searches_nothing : (w : Wish) (none : Seen) → none.cells ≡ 0 → none.restarted ≡ 0 → none.damaged ≡ 0 → none.others ≡ 0
+    → IsSearching w [] [] none none
+searches_nothing w none cells restarted damaged others = record {
+  from = 0;
+  within = omega arith;
+  from_there = refl;
+  never = λ rest i below. absurd (omega (arith, below));
+  none = λ i below. absurd (omega (arith, below));
+  seen = λ rest. record { no_cells = cells; no_restarts = restarted; damaged = damaged; others = others };
+  all_seen = record { no_cells = cells; no_restarts = restarted; damaged = damaged; others = others };
+}
 
-module _ (w : Wish) (before : Option (List ℕ)) where
-  pub none_in_many : (after : Option (List ℕ)) (reads : ℕ) (kept : List ℕ) (settled every : Seen)
-      → IsUnfound w before after reads kept settled every → 2 ^ 64 - 1 ≤ reads → FindsNone w before after every
-  none_in_many after reads kept settled every u many = record {
-    past = u.past;
-    read = u.read;
-    ended = inr (omega (arith, many, u.brought));
-    none = u.none;
-    seen = u.all_seen;
-  }
+-- a piece more came
+module _ (w : Wish) (past kept piece : List ℕ) (settled every : Seen) (u : IsSearching w past kept settled every) where
+  abbrev past' : List ℕ
+  past' = past ++ piece
 
-  pub sees_none_yet : (after after' : Option (List ℕ)) (n reads : ℕ) (kept : List ℕ) (settled every : Seen)
-      → IsUnfound w before after reads kept settled every → ReadsOnce after after' n → SeesNoneYet w before after' n every
-  sees_none_yet after after' n reads kept settled every u once = record {
-    past = u.past;
-    last = once.piece;
-    read = Consumes-trans before after after' u.past once.piece u.read once.taken;
-    brought = once.brought;
-    sees = record { none = u.none; seen_there = u.all_seen };
-  }
+  kept_is : kept ++ piece ≡ drop u.from past'
+  kept_is = ap (λ xs. xs ++ piece) u.from_there ∙ sym (drop-append-le u.from past piece u.within)
 
-  -- a piece more was read
-  module _ (after after' : Option (List ℕ)) (reads : ℕ) (kept piece : List ℕ) (settled every : Seen)
-      (u : IsUnfound w before after reads kept settled every) (more : Consumes after after' piece) (few : length piece ≤ chunk_length) where
-    abbrev past' : List ℕ
-    past' = u.past ++ piece
+  same_place : (i : ℕ) → u.from ≤ i → drop i past' ≡ drop (i - u.from) (kept ++ piece)
+  same_place i h =
+      let sum : u.from + (i - u.from) ≡ i = omega (arith, h) in
+      ap (λ n. drop n past') (sym sum) ∙ sym (drop-drop (i - u.from) u.from past') ∙ ap (drop (i - u.from)) (sym kept_is)
 
-    kept_is : kept ++ piece ≡ drop u.from past'
-    kept_is = ap (λ xs. xs ++ piece) u.from_there ∙ sym (drop-append-le u.from u.past piece u.within)
+  none_so_far : (n : ℕ) → NoneBefore w (kept ++ piece) n → NoneBefore w past' (u.from + n)
+  none_so_far n none i below = by (cases_lt i u.from)
+    where
+      by : (i < u.from) ⊎ (u.from ≤ i) → wanted_at w (drop i past') ≡ None
+      by (inl less) =
+          ap (wanted_at w) (drop-append-le i past piece (omega (arith, less, u.within))) ∙ u.never piece i less
+      by (inr at) = ap (wanted_at w) (same_place i at) ∙ none (i - u.from) (omega (arith, at, below))
 
-    same_place : (i : ℕ) → u.from ≤ i → drop i past' ≡ drop (i - u.from) (kept ++ piece)
-    same_place i h =
-        let sum : u.from + (i - u.from) ≡ i = omega (arith, h) in
-        ap (λ n. drop n past') (sym sum) ∙ sym (drop-drop (i - u.from) u.from past') ∙ ap (drop (i - u.from)) (sym kept_is)
+  -- the heads behind the settled ones
+  heads_behind : (rest : List ℕ) (n : ℕ) (heads : Heads) → AreHeads w (kept ++ piece ++ rest) n heads
+      → AreHeads w (drop u.from (past' ++ rest)) n heads
+  heads_behind rest n heads are =
+      let within : u.from ≤ length past' = omega (arith, u.within, length-append past piece) in
+      subst (λ xs. AreHeads w xs n heads) (ap (λ xs. xs ++ rest) kept_is ∙ sym (drop-append-le u.from past' rest within)) are
 
-    none_so_far : (n : ℕ) → NoneBefore w (kept ++ piece) n → NoneBefore w past' (u.from + n)
-    none_so_far n none i below = by (cases_lt i u.from)
-      where
-        by : (i < u.from) ⊎ (u.from ≤ i) → wanted_at w (drop i past') ≡ None
-        by (inl less) =
-            ap (wanted_at w) (drop-append-le i u.past piece (omega (arith, less, u.within))) ∙ u.never piece i less
-        by (inr at) = ap (wanted_at w) (same_place i at) ∙ none (i - u.from) (omega (arith, at, below))
+  pub found_first : (most : ℕ) → length piece ≤ most → (found : Found) (at : ℕ) → IsFirstWanted w (kept ++ piece) at found.head
+      → found.bytes.items ≡ drop at (kept ++ piece) → (heads : Heads) → AreHeads w (kept ++ piece) at heads → SeesHeads settled heads found.seen
+      → IsFoundIn w most past piece found
+  found_first most few found at first is heads are sees =
+      let place : u.from ≤ u.from + at = omega arith in
+      let back : at ≡ u.from + at - u.from = omega arith in
+      let there : drop (u.from + at) past' ≡ drop at (kept ++ piece) = same_place (u.from + at) place ∙ ap (λ n. drop n (kept ++ piece)) (sym back) in
+      record {
+        few = few;
+        none_earlier = u.none;
+        at = u.from + at;
+        first = record {
+          within = omega
+              (arith, first.within, u.within, ap length u.from_there, length-drop u.from past, length-append kept piece, length-append past piece);
+          found = ap (wanted_at w) there ∙ first.found;
+          first = none_so_far at first.first;
+        };
+        from_there = is ∙ sym there;
+        seen = sees_more w past' u.from at settled found.seen heads (u.seen piece) (subst (λ xs. AreHeads w xs at heads) kept_is are) sees;
+      }
 
-    -- the heads behind the settled ones
-    heads_behind : (rest : List ℕ) (n : ℕ) (heads : Heads) → AreHeads w (kept ++ piece ++ rest) n heads
-        → AreHeads w (drop u.from (past' ++ rest)) n heads
-    heads_behind rest n heads are =
-        let within : u.from ≤ length past' = omega (arith, u.within, length-append u.past piece) in
-        subst (λ xs. AreHeads w xs n heads) (ap (λ xs. xs ++ rest) kept_is ∙ sym (drop-append-le u.from past' rest within)) are
-
-    pub found_first : (at : ℕ) (h : Head) (left : List ℕ) → IsFirstWanted w (kept ++ piece) at h → left ≡ drop at (kept ++ piece)
-        → (heads : Heads) → AreHeads w (kept ++ piece) at heads → (new : Seen) → SeesHeads settled heads new
-        → (n : ℕ) → length piece ≡ n → 0 < n → FindsFirst w before after' n h left new
-    found_first at h left first is heads are new sees n brought some =
-        let place : u.from ≤ u.from + at = omega arith in
-        let back : at ≡ u.from + at - u.from = omega arith in
-        let there : drop (u.from + at) past' ≡ drop at (kept ++ piece) = same_place (u.from + at) place ∙ ap (λ n. drop n (kept ++ piece)) (sym back) in
-        record {
-          earlier = u.past;
-          last = piece;
-          read = Consumes-trans before after after' u.past piece u.read more;
-          brought = brought;
-          some = some;
-          few = omega (arith, few, brought);
-          none_earlier = u.none;
-          at = u.from + at;
-          first = record {
-            within = omega
-                (arith, first.within, u.within, ap length u.from_there, length-drop u.from u.past, length-append kept piece, length-append u.past piece);
-            found = ap (wanted_at w) there ∙ first.found;
-            first = none_so_far at first.first;
-          };
-          from_there = is ∙ sym there;
-          seen = sees_more w past' u.from at settled new heads (u.seen piece) (subst (λ xs. AreHeads w xs at heads) kept_is are) sees;
-        }
-
-    pub unfound_more : (from : ℕ) (left : List ℕ) (heads all : Heads) → HasNoWanted w (kept ++ piece) from heads all
-        → left ≡ drop from (kept ++ piece) → 0 < length piece
-        → (settled' every' : Seen) → SeesHeads settled heads settled' → SeesHeads settled all every'
-        → IsUnfound w before after' (reads + 1) left settled' every'
-    unfound_more from left heads all h is some settled' every' sees sees_all =
-        let size : length past' ≡ u.from + length (kept ++ piece) =
-        omega (arith, u.within, ap length u.from_there, length-drop u.from u.past, length-append kept piece, length-append u.past piece) in
-        let place : u.from ≤ u.from + from = omega arith in
-        let back : from ≡ u.from + from - u.from = omega arith in
-        record {
-          past = past';
-          brought = omega (arith, u.brought, some, length-append u.past piece);
-          read = Consumes-trans before after after' u.past piece u.read more;
-          from = u.from + from;
-          within = omega (arith, h.within, size);
-          from_there = is ∙ ap (λ n. drop n (kept ++ piece)) back ∙ sym (same_place (u.from + from) place);
-          never = λ rest i below. never' rest i below (cases_lt i u.from);
-          none = λ i below. none_so_far (length (kept ++ piece)) h.none i (omega (arith, below, size));
-          seen = λ rest.
-              sees_more w (past' ++ rest) u.from from settled settled' heads
-              (subst (λ xs. SeesBefore w xs u.from settled) (sym (append_assoc u.past piece rest)) (u.seen (piece ++ rest)))
-              (heads_behind rest from heads (h.before rest)) sees;
-          all_seen =
-              subst (λ n. SeesBefore w past' n every') (sym size)
-              (sees_more w past' u.from (length (kept ++ piece)) settled every' all (u.seen piece)
-              (subst (λ xs. AreHeads w xs (length (kept ++ piece)) all) kept_is h.all) sees_all);
-        }
-      where
-        never' : (rest : List ℕ) (i : ℕ) → i < u.from + from → (i < u.from) ⊎ (u.from ≤ i) → wanted_at w (drop i past' ++ rest) ≡ None
-        never' rest i below (inl less) =
-            ap (λ xs. wanted_at w (xs ++ rest)) (drop-append-le i u.past piece (omega (arith, less, u.within)))
-            ∙ ap (wanted_at w) (append_assoc (drop i u.past) piece rest)
-            ∙ u.never (piece ++ rest) i less
-        never' rest i below (inr at) =
-            ap (λ xs. wanted_at w (xs ++ rest)) (same_place i at) ∙ h.never rest (i - u.from) (omega (arith, at, below))
+  pub unfound_more : (from : ℕ) (left : List ℕ) (heads all : Heads) → HasNoWanted w (kept ++ piece) from heads all
+      → left ≡ drop from (kept ++ piece)
+      → (settled' every' : Seen) → SeesHeads settled heads settled' → SeesHeads settled all every'
+      → IsSearching w past' left settled' every'
+  unfound_more from left heads all h is settled' every' sees sees_all =
+      let size : length past' ≡ u.from + length (kept ++ piece) =
+      omega (arith, u.within, ap length u.from_there, length-drop u.from past, length-append kept piece, length-append past piece) in
+      let place : u.from ≤ u.from + from = omega arith in
+      let back : from ≡ u.from + from - u.from = omega arith in
+      record {
+        from = u.from + from;
+        within = omega (arith, h.within, size);
+        from_there = is ∙ ap (λ n. drop n (kept ++ piece)) back ∙ sym (same_place (u.from + from) place);
+        never = λ rest i below. never' rest i below (cases_lt i u.from);
+        none = λ i below. none_so_far (length (kept ++ piece)) h.none i (omega (arith, below, size));
+        seen = λ rest.
+            sees_more w (past' ++ rest) u.from from settled settled' heads
+            (subst (λ xs. SeesBefore w xs u.from settled) (sym (append_assoc past piece rest)) (u.seen (piece ++ rest)))
+            (heads_behind rest from heads (h.before rest)) sees;
+        all_seen =
+            subst (λ n. SeesBefore w past' n every') (sym size)
+            (sees_more w past' u.from (length (kept ++ piece)) settled every' all (u.seen piece)
+            (subst (λ xs. AreHeads w xs (length (kept ++ piece)) all) kept_is h.all) sees_all);
+      }
+    where
+      never' : (rest : List ℕ) (i : ℕ) → i < u.from + from → (i < u.from) ⊎ (u.from ≤ i) → wanted_at w (drop i past' ++ rest) ≡ None
+      never' rest i below (inl less) =
+          ap (λ xs. wanted_at w (xs ++ rest)) (drop-append-le i past piece (omega (arith, less, u.within)))
+          ∙ ap (wanted_at w) (append_assoc (drop i past) piece rest)
+          ∙ u.never (piece ++ rest) i less
+      never' rest i below (inr at) =
+          ap (λ xs. wanted_at w (xs ++ rest)) (same_place i at) ∙ h.never rest (i - u.from) (omega (arith, at, below))

@@ -6,17 +6,14 @@ use Rattle.std.specs.Io.KnownBytes.{Keeps, Appends}
 use Rattle.std.proofs.KnownBytes.{Appends-nil, Appends-trans, Appends-kept}
 use Rattle.rq_bytes.specs.declared.error.Error.{Error}
 use Rattle.rq_bytes.specs.declared.error.Error.TheVariants.{OutOfMemory}
-use Rattle.rq_standard.specs.Configuration.{Configuration}
 use Rattle.rq_standard.specs.Packet.{id_bytes}
 use Rattle.rq_standard.specs.Streams.{frame_size}
 use Rattle.raptorq.specs.Encoder.{IsFrameIn}
 use Rattle.rq_cells.specs.declared.head.Head.{Head}
 use Rattle.rq_cells.specs.declared.cell.Cell.{Cell}
 use Rattle.rq_cells.specs.Cells.{Key, check_of, digest_of, head_bytes, cell_fields, cell_size}
-use Rattle.rq_cells.proofs.HeadBytes.{length-check_of, length-head_bytes}
+use Rattle.rq_cells.proofs.HeadBytes.{length-head_bytes}
 use Rattle.rq_streams.specs.declared.run.Stop.TheVariants.{Fault, Refused}
-use Rattle.rq_cast.specs.declared.output.Output.{Output}
-use Rattle.rq_cast.specs.Output.{CountsLost}
 use Rattle.rq_cast.specs.Writing.{IsRoom}
 use Rattle.rq_cast.proofs.SentDigests.{payload_of}
 use Rattle.rq_cast.specs.Sent.{Sending, cell_count, sent_id, IsSentCell, AreSent, SendsFirst, StopsSending}
@@ -61,43 +58,34 @@ module _ (s : Sending) (n lost : ℕ) (there mid then : Option (List ℕ)) (send
   pub sends_kept : Keeps mid then → SendsFirst s n lost [] there then
   sends_kept kept = record { written = sends.written; sent = sends.sent; appended = Appends-kept there mid then (sends.written ++ []) sends.appended kept }
 
-  module _ {W : Type 0} (old new : Output W) where
-    -- a failed call leaves a beginning of a cell
-    pub stops_within : (k : ℕ) (bytes : List ℕ) → n < cell_count s → IsSentCell s n bytes → Appends mid then (take k bytes) → CountsLost old new lost 1
-        → StopsSending s old new there then Fault
-    stops_within k bytes below cell more counts = record {
-      number = n;
-      within = omega arith;
-      lost = lost;
-      behind = take k bytes;
-      sends = sends_begun (take k bytes) more;
-      stopped = inr (record { within = below; cell = bytes; sent = cell; taken = k; begun = refl });
-      counts = counts;
-    }
+  -- a failed call leaves a beginning of a cell
+  pub stops_within : (k : ℕ) (bytes : List ℕ) → n < cell_count s → IsSentCell s n bytes → Appends mid then (take k bytes) → StopsSending s lost there then Fault
+  stops_within k bytes below cell more = record {
+    number = n;
+    within = omega arith;
+    behind = take k bytes;
+    sends = sends_begun (take k bytes) more;
+    stopped = inr (record { within = below; cell = bytes; sent = cell; taken = k; begun = refl });
+  }
 
-    -- so does a failed flush, or none
-    pub stops_behind : n ≤ cell_count s → Keeps mid then → CountsLost old new lost 1 → StopsSending s old new there then Fault
-    stops_behind within kept counts = record {
-      number = n;
-      within = within;
-      lost = lost;
-      behind = [];
-      sends = sends_kept kept;
-      stopped = inl refl;
-      counts = counts;
-    }
+  -- so does a failed flush, or none
+  pub stops_behind : n ≤ cell_count s → Keeps mid then → StopsSending s lost there then Fault
+  stops_behind within kept = record {
+    number = n;
+    within = within;
+    behind = [];
+    sends = sends_kept kept;
+    stopped = inl refl;
+  }
 
 -- memory is wanting before any cell
-pub stops_wanting : {W : Type 0} (s : Sending) (old new : Output W) (there then : Option (List ℕ)) (e : Error) → e ≡ OutOfMemory → Keeps there then → CountsLost old new 0 0
-    → StopsSending s old new there then (Refused e)
-stops_wanting s old new there then e memory kept counts = record {
+pub stops_wanting : (s : Sending) (there then : Option (List ℕ)) (e : Error) → e ≡ OutOfMemory → Keeps there then → StopsSending s 0 there then (Refused e)
+stops_wanting s there then e memory kept = record {
   number = 0;
   within = omega arith;
-  lost = 0;
   behind = [];
   sends = sends_kept s 0 0 there there then (sends_none s there) kept;
   stopped = (memory, refl, refl);
-  counts = counts;
 }
 
 -- ---- one cell over another
@@ -157,20 +145,10 @@ module _ (s : Sending) (i : ℕ) (old packet rest digest new : List ℕ) (room :
     is : new ≡ checked ++ check_of s.key (cell_fields s.key cell)
     is = written ∙ (λ j. front j ++ check_of s.key (fields j))
 
-    pub sent_over : IsSentCell s i new
-    sent_over = record {
+    pub cell_over : IsSentCell s i new
+    cell_over = record {
       packet = frame.packet;
       id = frame.id;
       of_object = frame.of_object;
       spelled = is ∙ (λ j. (room.headed j ++ frame.spelled j) ++ check_of s.key (cell_fields s.key cell));
     }
-
-    pub room_again : IsRoom s.key s.head new
-    room_again =
-        let check = check_of s.key (cell_fields s.key cell) in
-        record {
-          long = omega (arith, ap length is, length-append checked check, length-check_of s.key (cell_fields s.key cell), size, ap (λ (c : Configuration). c.symbol_size) same);
-          headed =
-              ap (take 52) (is ∙ append_assoc (take 52 old) packet check) ∙ ap (λ n. take n (take 52 old ++ (packet ++ check))) (sym headed)
-              ∙ take-append_seam (take 52 old) (packet ++ check) ∙ room.headed;
-        }

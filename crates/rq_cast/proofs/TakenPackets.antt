@@ -1,15 +1,15 @@
 -- Packets of cells that come one by one.
-use Rattle.std.proofs.Common.{◌≡◌, ℕ, ◌≤◌, List, [], ◌∷◌, ◌++◌, Bool, true, false, if◌then◌else◌, refl, ap, subst, ◌∙◌, arith, length, drop, map, filter, take_at}
+use Rattle.std.proofs.Common.{◌≡◌, ℕ, ◌≤◌, List, [], ◌∷◌, ◌++◌, Bool, true, false, if◌then◌else◌, ap, subst, ◌∙◌, arith, length, drop, map, filter}
 use Rattle.std.specs.Prelude.{All}
 use Rattle.std.proofs.lemmas.List.{map-append, drop-append-le, drop_all}
-use Rattle.std.proofs.lemmas.List.Elements.{filter-append, All-take, All-contains, Contains-push}
+use Rattle.std.proofs.lemmas.List.Elements.{filter-append, All-contains, Contains-push}
 use Rattle.rq_standard.specs.declared.row.TableRow.{TableRow}
 use Rattle.rq_standard.specs.Packet.{Packet}
 use Rattle.rq_standard.specs.Headline.{IsHonestRun, IsPacketOf}
 use Rattle.raptorq.proofs.Lists.{all_front}
 use Rattle.rq_cells.specs.declared.head.Head.{Head}
 use Rattle.rq_cells.specs.declared.cell.Cell.{Cell}
-use Rattle.rq_cast.specs.Taken.{has_head, packets_with, is_known, known_packets, received_packets, IsOneSender}
+use Rattle.rq_cast.specs.Taken.{has_head, packets_with, is_known, known_packets, received_packets}
 
 abbrev packet_of : Cell → Packet
 packet_of c = c.packet
@@ -18,7 +18,7 @@ module _ (h : Head) where
   packets_both : (xs ys : List Cell) → packets_with h (xs ++ ys) ≡ packets_with h xs ++ packets_with h ys
   packets_both xs ys = ap (map packet_of) (filter-append (has_head h) xs ys) ∙ map-append packet_of (filter (has_head h) xs) (filter (has_head h) ys)
 
-  received_both : (xs ys : List Cell) → received_packets h (xs ++ ys) ≡ received_packets h xs ++ received_packets h ys
+  pub received_both : (xs ys : List Cell) → received_packets h (xs ++ ys) ≡ received_packets h xs ++ received_packets h ys
   received_both xs ys =
       ap (known_packets h.configuration) (packets_both xs ys)
       ∙ filter-append (is_known h.configuration) (packets_with h xs) (packets_with h ys)
@@ -38,25 +38,16 @@ module _ (h : Head) where
   pub received_since_all : (came : List Cell) → received_packets h (drop (length came) came) ≡ []
   received_since_all came = ap (received_packets h) (drop_all (length came) came (omega arith))
 
-  -- of one sender's cells the first ones are one sender's
-  module _ (table : List TableRow) (xs ys : List Cell) (one : IsOneSender table h (xs ++ ys)) where
-    first_run : IsHonestRun table h.configuration one.object (received_packets h xs)
-    first_run =
-        let run = subst (IsHonestRun table h.configuration one.object) (received_both xs ys) one.honest in
-        record {
-          long = run.long;
-          nonsingular = run.nonsingular;
-          honest = all_front (IsPacketOf table h.configuration one.object) (received_packets h xs) (received_packets h ys) run.honest;
-        }
+  -- of an object's packets the first ones are the object's
+  pub first_run : (table : List TableRow) (object : List ℕ) (xs ys : List Cell)
+      → IsHonestRun table h.configuration object (received_packets h (xs ++ ys)) → IsHonestRun table h.configuration object (received_packets h xs)
+  first_run table object xs ys run =
+      let both = subst (IsHonestRun table h.configuration object) (received_both xs ys) run in
+      record {
+        long = both.long;
+        nonsingular = both.nonsingular;
+        honest = all_front (IsPacketOf table h.configuration object) (received_packets h xs) (received_packets h ys) both.honest;
+      }
 
-    pub one_sender_first : IsOneSender table h xs
-    one_sender_first = record {
-      heads = subst (All (λ (c : Cell). c.head ≡ h)) (take_at xs ys (length xs) refl) (All-take (λ (c : Cell). c.head ≡ h) (length xs) (xs ++ ys) one.heads);
-      object = one.object;
-      bytes = one.bytes;
-      stream = one.stream;
-      honest = first_run;
-    }
-
-  pub last_head : (table : List TableRow) (came : List Cell) (c : Cell) → IsOneSender table h (came ++ c ∷ []) → c.head ≡ h
-  last_head table came c one = All-contains (λ (x : Cell). x.head ≡ h) (came ++ c ∷ []) c one.heads (Contains-push came c)
+  pub last_head : (came : List Cell) (c : Cell) → All (λ (x : Cell). x.head ≡ h) (came ++ c ∷ []) → c.head ≡ h
+  last_head came c heads = All-contains (λ (x : Cell). x.head ≡ h) (came ++ c ∷ []) c heads (Contains-push came c)

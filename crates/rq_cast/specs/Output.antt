@@ -1,8 +1,5 @@
 -- What a clause reads of an output.
-use Rattle.std.specs.Prelude.{◌≡◌, ℕ, ◌+◌, Bool, Result, Ok, Err}
-use Rattle.std.specs.IoError.{error_kind}
-use Rattle.std.specs.declared.io.Error.{Error}
-use Rattle.std.specs.declared.io.ErrorKind.TheVariants.{ConnectionRefused}
+use Rattle.std.specs.Prelude.{◌≡◌, ℕ, ◌+◌, Bool}
 use Rattle.rq_streams.specs.declared.counted.Counted.{Counted}
 use Rattle.rq_streams.specs.Counted.{failed_count, inner}
 use Rattle.rq_cast.specs.declared.output.Output.{Output}
@@ -15,20 +12,15 @@ counting o = o.writer
 abbrev pub sink : {W : Type 0} → Output W → W
 sink o = inner o.writer
 
--- how many calls that should have begun a cell failed since nobody listens
-abbrev pub refused_count : {W : Type 0} → Output W → ℕ
-refused_count o = o.refused
+-- how many calls that should have begun a cell lost it
+abbrev pub lost_count : {W : Type 0} → Output W → ℕ
+lost_count o = o.lost
 
 -- whether it was flushed behind all that is written
 abbrev pub flushed : {W : Type 0} → Output W → Bool
 flushed o = o.is_flushed
 
--- a call failed since nobody listens
-abbrev pub IsRefused : Result ℕ Error → Type 0
-IsRefused (Ok n) = ⊥
-IsRefused (Err e) = error_kind e ≡ ConnectionRefused
-
--- So many cells are lost, each by a call that was refused, and so many calls failed beside these.
+-- So many cells are lost, each by a call, and so many calls failed beside these.
 pub record CountsLost {W : Type 0} (old new : Output W) (lost others : ℕ) : Type 0 where
-  pub refused : refused_count new ≡ refused_count old + lost
+  pub lost_more : lost_count new ≡ lost_count old + lost
   pub failed : failed_count (counting new) ≡ failed_count (counting old) + lost + others

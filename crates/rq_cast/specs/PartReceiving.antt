@@ -1,28 +1,26 @@
--- What a receiver of a part makes of cells of its stream, whoever sent them.
-use Rattle.std.specs.Prelude.{◌≡◌, ◌⊎◌, ℕ, ◌<◌, ◌≤◌, List, [], ◌∷◌, ◌++◌, length, map, drop, Contains, Some, Ok, IfSome, MatchOption, option_map, vec_items, Bool, true, false}
+-- What a receiver of a part makes of its cells, whoever sent them.
+use Rattle.std.specs.Prelude.{◌≡◌, ◌⊎◌, ℕ, ◌<◌, ◌≤◌, List, [], ◌∷◌, ◌++◌, length, map, drop, Contains, Some, None, IfSome, MatchOption, option_map, vec_items, Bool, true, false}
 use Rattle.rq_standard.specs.declared.row.TableRow.{TableRow}
-use Rattle.rq_standard.specs.TableRows.{greatest_size}
 use Rattle.rq_standard.specs.Configuration.{largest_block}
 use Rattle.rq_standard.specs.Packet.{Packet}
 use Rattle.rq_standard.specs.Headline.{IsHonestRun}
 use Rattle.rq_standard.specs.DecoderState.{result_of}
 use Rattle.rq_standard.specs.Following.{FollowsRun}
-use Rattle.rq_base.specs.RefusedInput.{checked_configuration}
 use Rattle.raptorq.specs.Decoder.{state_of}
 use Rattle.rq_cells.specs.declared.head.Head.{Head}
 use Rattle.rq_cells.specs.declared.cell.Cell.{Cell}
 use Rattle.rq_cast.specs.declared.choice.Choice.{Choice}
 use Rattle.rq_cast.specs.declared.attempt.Attempt.{Attempt}
 use Rattle.rq_cast.specs.declared.part_receiver.PartReceiver.{PartReceiver}
-use Rattle.rq_cast.specs.Parts.{IsStream, IsNoStream, IsStreamIn}
 use Rattle.rq_cast.specs.Digests.{KnowsDigests}
-use Rattle.rq_cast.specs.Taken.{known_packets, received_packets, IsOneSender}
+use Rattle.rq_cast.specs.Taken.{part_index, IsTakenHead, known_packets, received_packets, IsNamed, IsNotNamed, IsNamedIn, IsOneSender}
 
 -- ---- whose cells are received
 
--- coders take the configuration of a head
-abbrev pub IsTakenHead : List TableRow → Head → Type 0
-IsTakenHead table h = checked_configuration (greatest_size table) h.configuration ≡ Ok tt
+-- coders take the configuration of a head, which is one of the part of an index
+pub record IsHeadOf (table : List TableRow) (index : ℕ) (h : Head) : Type 0 where
+  pub taken : IsTakenHead table h
+  pub place : part_index h ≡ index
 
 -- so it is of the head in use and of its rival
 abbrev pub EachHead : (Head → Type 0) → Choice → Type 0
@@ -34,24 +32,24 @@ IsHeadBehind table old h k = (k ≡ old.head) ⊎ (MatchOption old.rival ⊥ (λ
 
 -- ---- an attempt at a part, which takes its packets
 
--- Of the part with this head it has the stream that its packets determine, and the digests of the symbols that came.
+-- Of the part with this head it has the object that its packets determine, and the digests of the symbols that came.
 pub record IsAttempt (h : Head) (a : Attempt) : Type 0 where
   pub few : largest_block h.configuration < 65536
   pub configuration : (state_of a.decoder).configuration ≡ h.configuration
   pub knows : KnowsDigests (state_of a.decoder) a.known
-  pub stream : IsStreamIn h (result_of (state_of a.decoder)) (option_map vec_items a.stream)
+  pub object : IsNamedIn h (result_of (state_of a.decoder)) (option_map vec_items a.object)
 
--- Its stream may be determined by what it took last.
+-- Its object may be determined by what it took last.
 pub record IsUnlooked (h : Head) (a : Attempt) : Type 0 where
   pub few : largest_block h.configuration < 65536
   pub configuration : (state_of a.decoder).configuration ≡ h.configuration
   pub knows : KnowsDigests (state_of a.decoder) a.known
-  pub stream : IfSome (option_map vec_items a.stream) (λ bytes. IsStreamIn h (result_of (state_of a.decoder)) (Some bytes))
+  pub object : IfSome (option_map vec_items a.object) (λ object. IsNamedIn h (result_of (state_of a.decoder)) (Some object))
 
--- whether it goes on, or its packets determine what isn't a stream
+-- whether it goes on, or its packets determine what isn't named so
 abbrev pub LooksAt : Head → Attempt → Attempt → Bool → Type 0
 LooksAt h old new true = IsAttempt h new × (new.decoder ≡ old.decoder)
-LooksAt h old new false = (object : List ℕ) × (result_of (state_of old.decoder) ≡ Some object) × IsNoStream h (Some object)
+LooksAt h old new false = (object : List ℕ) × (result_of (state_of old.decoder) ≡ Some object) × IsNotNamed h (Some object)
 
 -- It takes one packet more, if the part has its block.
 pub record GoesOn (h : Head) (old : Attempt) (p : Packet) (new : Attempt) : Type 0 where
@@ -59,11 +57,11 @@ pub record GoesOn (h : Head) (old : Attempt) (p : Packet) (new : Attempt) : Type
   pub follows : (table : List TableRow) (packets : List Packet) → FollowsRun table packets (state_of old.decoder)
       → FollowsRun table (packets ++ known_packets h.configuration (p ∷ [])) (state_of new.decoder)
 
--- Its packets with this one aren't those of a stream's only part with this head.
+-- Its packets with this one aren't those of an object that is named as this head says.
 abbrev pub IsForeign : Head → Attempt → Packet → Type 0
 IsForeign h old p =
-    (table : List TableRow) (object bytes : List ℕ) (packets : List Packet) → FollowsRun table packets (state_of old.decoder)
-    → IsStream h object bytes → IsHonestRun table h.configuration object (packets ++ known_packets h.configuration (p ∷ [])) → ⊥
+    (table : List TableRow) (object : List ℕ) (packets : List Packet) → FollowsRun table packets (state_of old.decoder)
+    → IsNamed h object → IsHonestRun table h.configuration object (packets ++ known_packets h.configuration (p ∷ [])) → ⊥
 
 abbrev pub TakesOrFails : Head → Attempt → Packet → Attempt → Bool → Type 0
 TakesOrFails h old p new true = GoesOn h old p new
@@ -71,16 +69,30 @@ TakesOrFails h old p new false = IsForeign h old p
 
 -- ---- attempt after attempt
 
--- coders take the heads, and the attempt is one at the part with the head in use
-pub record IsSound (table : List TableRow) (p : PartReceiver) : Type 0 where
-  pub heads : EachHead (IsTakenHead table) p.choice
+-- coders take the heads, which are of the part of an index, and the attempt is one at the part with the head in use
+pub record IsSound (table : List TableRow) (index : ℕ) (p : PartReceiver) : Type 0 where
+  pub heads : EachHead (IsHeadOf table index) p.choice
   pub attempt : IsAttempt p.choice.head p.attempt
 
--- a new attempt, which has taken no packet
+-- before any cell, with this head
+pub record IsUnused (table : List TableRow) (h : Head) (p : PartReceiver) : Type 0 where
+  pub head : p.choice.head ≡ h
+  pub alone : p.choice.rival ≡ None
+  pub follows : FollowsRun table [] (state_of p.attempt.decoder)
+  pub restarted : p.restarted ≡ 0
+
+-- a new attempt with the same heads, which has taken no packet
 pub record BeginsAnew (table : List TableRow) (old new : PartReceiver) : Type 0 where
-  pub choice : new.choice ≡ old.choice
+  pub head : new.choice.head ≡ old.choice.head
+  pub rival : new.choice.rival ≡ old.choice.rival
   pub attempt : IsAttempt old.choice.head new.attempt
   pub follows : FollowsRun table [] (state_of new.attempt.decoder)
+  pub open_still : new.attempt.object ≡ None
+
+-- so it is where an attempt fails, and none of the cells with the head in use counts from then on
+pub record GivesUp (table : List TableRow) (old new : PartReceiver) : Type 0 where
+  pub anew : BeginsAnew table old new
+  pub uncounted : new.choice.cells ≡ 0
 
 -- the packet is taken
 pub record GoesOnWith (old : PartReceiver) (p : Packet) (new : PartReceiver) : Type 0 where
@@ -90,19 +102,25 @@ pub record GoesOnWith (old : PartReceiver) (p : Packet) (new : PartReceiver) : T
 
 -- or the attempt is given up
 abbrev pub AddsPacket : List TableRow → PartReceiver → Packet → PartReceiver → Type 0
-AddsPacket table old p new = GoesOnWith old p new ⊎ (IsForeign old.choice.head old.attempt p × BeginsAnew table old new)
+AddsPacket table old p new = GoesOnWith old p new ⊎ (IsForeign old.choice.head old.attempt p × GivesUp table old new)
 
--- Of cells that came, the first of which had one head, a part's receiver has taken the packets of those that have the head in use and came since it
--- began: of one sender's cells all.
-pub record HasTaken (table : List TableRow) (first : Head) (came : List Cell) (p : PartReceiver) : Type 0 where
-  pub sound : IsSound table p
+-- ---- what it has of the cells that came
+
+-- Of cells that came, the first of which had one head, it has taken the packets of those that have the head in use and came since it began.
+pub record HasReceived (table : List TableRow) (first : Head) (came : List Cell) (p : PartReceiver) : Type 0 where
   pub heads : EachHead (Contains (first ∷ map (λ cell. cell.head) came)) p.choice
   pub begun : ℕ
   pub within : begun ≤ length came
   pub follows : FollowsRun table (received_packets p.choice.head (drop begun came)) (state_of p.attempt.decoder)
-  pub one_sender : IsOneSender table first came → (p.choice.head ≡ first) × (begun ≡ 0) × (p.restarted ≡ 0)
 
--- it takes the next cells of the stream
-abbrev pub TakesCells : List TableRow → PartReceiver → List Cell → PartReceiver → Type 0
-TakesCells table old cells new =
-    (first : Head) (came : List Cell) → HasTaken table first came old → HasTaken table first (came ++ cells) new
+-- it has taken the packets of all cells, which have one head
+pub record HasReceivedAll (table : List TableRow) (h : Head) (came : List Cell) (p : PartReceiver) : Type 0 where
+  pub head : p.choice.head ≡ h
+  pub follows : FollowsRun table (received_packets h came) (state_of p.attempt.decoder)
+  pub restarted : p.restarted ≡ 0
+
+-- It takes one cell more: of one sender's cells each.
+pub record TakesCell (table : List TableRow) (old : PartReceiver) (cell : Cell) (new : PartReceiver) : Type 0 where
+  pub whoever : (first : Head) (came : List Cell) → HasReceived table first came old → HasReceived table first (came ++ cell ∷ []) new
+  pub one_sender : (h : Head) (came : List Cell) → IsOneSender table h (came ++ cell ∷ []) → HasReceivedAll table h came old
+      → HasReceivedAll table h (came ++ cell ∷ []) new

@@ -1,5 +1,5 @@
 -- Parts of a stream: their names, and what ends the last one.
-use Rattle.std.specs.Prelude.{◌≡◌, ℕ, ◌^◌, List, [], ◌++◌, take, map, Option, Some, None}
+use Rattle.std.specs.Prelude.{◌≡◌, ℕ, ◌+◌, ◌^◌, List, [], ◌∷◌, ◌++◌, length, take, map, Bool, if◌then◌else◌}
 use Rattle.std.specs.List.{concat, flat_map, range_with_len}
 use Rattle.sha2.specs.Sha512.{sha512}
 use Rattle.rq_standard.specs.Configuration.{Configuration}
@@ -17,38 +17,38 @@ source_digests c object = flat_map (λ b. map digest_of (block_source c object b
 abbrev pub name_of_part : ℕ → Configuration → List ℕ → List ℕ
 name_of_part number c object = part_name number c (source_digests c object)
 
--- ---- the last part
+-- ---- a part of a stream
+
+-- how many parts a stream has at most
+abbrev pub greatest_count : ℕ
+greatest_count = 2 ^ 30
+
+-- the number of the part of an index: with a bit more where it is the last one
+abbrev pub number_of : Bool → ℕ → ℕ
+number_of is_last index = if is_last then index + 2 ^ 31 else index
 
 -- what ends the last part, by the names of all parts before it
 abbrev pub seal_of : List (List ℕ) → List ℕ
 seal_of names = take 32 (sha512 (concat names))
 
--- the object of the only part of a stream of these bytes
-abbrev pub sealed : List ℕ → List ℕ
-sealed bytes = bytes ++ seal_of []
+-- the object of a part behind parts of these names: its bytes, and behind those of the last one the seal
+abbrev pub object_of : Bool → List (List ℕ) → List ℕ → List ℕ
+object_of is_last names bytes = if is_last then bytes ++ seal_of names else bytes
 
--- the number of the only part: 0, and the bit of the last one
-abbrev pub only_part : ℕ
-only_part = 2 ^ 31
+-- the stream, by the names of its parts: it begins that of the first
+abbrev pub stream_of_names : List (List ℕ) → List ℕ
+stream_of_names names = take 8 (concat names)
 
--- the head of its cells
-abbrev pub only_head : Configuration → List ℕ → Head
-only_head c object =
-    let name = name_of_part only_part c object in
-    record { stream = take 8 name; number = only_part; name = name; configuration = c }
+-- the head of the cells of the part behind parts of these names that is this object
+abbrev pub part_head : Bool → List (List ℕ) → Configuration → List ℕ → Head
+part_head is_last names c object =
+    let number = number_of is_last (length names) in
+    let name = name_of_part number c object in
+    record { stream = stream_of_names (names ++ (name ∷ [])); number = number; name = name; configuration = c }
 
--- An object is the only part of the stream of these bytes, as a head says: its name is right, which the stream's begins, and its seal.
-pub record IsStream (h : Head) (object bytes : List ℕ) : Type 0 where
-  pub only : h.number ≡ only_part
-  pub stream : h.stream ≡ take 8 h.name
+-- An object is the part of a stream behind parts of these names, as a head says, and has these bytes.
+pub record IsPart (is_last : Bool) (names : List (List ℕ)) (h : Head) (object bytes : List ℕ) : Type 0 where
+  pub number : h.number ≡ number_of is_last (length names)
+  pub stream : h.stream ≡ stream_of_names (names ++ (h.name ∷ []))
   pub named : name_of_part h.number h.configuration object ≡ h.name
-  pub ended : object ≡ sealed bytes
-
--- an answer isn't a stream, as a head says
-abbrev pub IsNoStream : Head → Option (List ℕ) → Type 0
-IsNoStream h answer = (object bytes : List ℕ) → answer ≡ Some object → IsStream h object bytes → ⊥
-
--- the bytes of the stream that an answer is, where it is one
-abbrev pub IsStreamIn : Head → Option (List ℕ) → Option (List ℕ) → Type 0
-IsStreamIn h answer (Some bytes) = (object : List ℕ) × (answer ≡ Some object) × IsStream h object bytes
-IsStreamIn h answer None = IsNoStream h answer
+  pub ended : object ≡ object_of is_last names bytes

@@ -1,20 +1,22 @@
--- Which cells a sender sends, and what is written of them.
-use Rattle.std.specs.Prelude.{◌≡◌, ◌↔◌, ◌⊎◌, ℕ, zero, suc, ◌+◌, ◌*◌, ◌/◌, ◌%◌, ◌<◌, ◌≤◌, List, [], ◌++◌, take, Option, Err}
+-- Which cells the sender of a part sends, and what is written of them.
+use Rattle.std.specs.Prelude.{◌≡◌, ◌↔◌, ◌⊎◌, ℕ, zero, suc, ◌+◌, ◌-◌, ◌*◌, ◌/◌, ◌%◌, ◌<◌, ◌≤◌, min, Bool, List, [], ◌++◌, length, take, Option}
 use Rattle.std.specs.Io.KnownBytes.{Appends}
 use Rattle.rq_bytes.specs.declared.error.Error.TheVariants.{OutOfMemory}
+use Rattle.rq_standard.specs.declared.row.TableRow.{TableRow}
+use Rattle.rq_standard.specs.TableRows.{IsTable, greatest_size}
+use Rattle.rq_standard.specs.Configuration.{IsConfiguration, IsAccepted}
+use Rattle.rq_standard.specs.Headline.{HasNonsingularRows}
 use Rattle.rq_standard.specs.Packet.{SymbolId, Packet}
-use Rattle.raptorq.specs.Encoder.{Encoded, encoded_of, IsPacketIn}
-use Rattle.rq_streams.specs.Ends.{failed_calls}
+use Rattle.raptorq.specs.Encoder.{Encoded, encoded_of, IsEncoderOf, IsPacketIn}
 use Rattle.rq_streams.specs.declared.run.Stop.{Stop}
 use Rattle.rq_streams.specs.declared.run.Stop.TheVariants.{Fault, Refused}
 use Rattle.rq_cells.specs.declared.head.Head.{Head}
 use Rattle.rq_cells.specs.Cells.{Key, cell_bytes}
 use Rattle.rq_cast.specs.declared.series.Series.{Series}
 use Rattle.rq_cast.specs.declared.sending.Sender.{Sender}
-use Rattle.rq_cast.specs.declared.output.Output.{Output}
 use Rattle.rq_cast.specs.declared.series.Repair.{Repair}
 use Rattle.rq_cast.specs.Ids.{IsIdEnd}
-use Rattle.rq_cast.specs.Output.{CountsLost}
+use Rattle.rq_cast.specs.Parts.{greatest_count, part_head}
 
 -- ---- which cells
 
@@ -36,15 +38,42 @@ pub record Sending : Type 0 where
   pub series : Series
 
 abbrev pub sending_of : Sender → Sending
-sending_of s = record { key = s.key; encoded = encoded_of s.encoder; head = s.head; series = s.series }
+sending_of s = record { key = s.key.now; encoded = encoded_of s.encoder; head = s.head; series = s.series }
+
+-- It sends packets of an object over a table, as the part behind parts of these names.
+pub record IsSendingOf (table : List TableRow) (is_last : Bool) (names : List (List ℕ)) (object : List ℕ) (s : Sending) : Type 0 where
+  pub few : length names < greatest_count
+  pub checked : IsTable table
+  pub configuration : IsConfiguration s.encoded.configuration
+  pub accepted : IsAccepted (greatest_size table) s.encoded.configuration
+  pub nonsingular : HasNonsingularRows table s.encoded.configuration
+  pub encoder : IsEncoderOf table object s.encoded
+  pub head : s.head ≡ part_head is_last names s.encoded.configuration object
 
 -- how many cells are sent: one of each block for each id
 abbrev pub cell_count : Sending → ℕ
 cell_count s = s.series.count * s.encoded.configuration.source_blocks
 
--- which symbol the cell of a number carries: those of all blocks in turn, id by id
+-- ---- their order: blocks in groups of eight, one group behind another; in a group id by id, and of an id that of each of its blocks in turn
+
+-- the group of the cell of a number
+abbrev pub group_of : Sending → ℕ → ℕ
+group_of s i = i / (8 * s.series.count)
+
+-- how many cells of its group stand before it
+abbrev pub place_of : Sending → ℕ → ℕ
+place_of s i = i % (8 * s.series.count)
+
+-- how many blocks a group has: eight, and those that are left in the last one
+abbrev pub width_of : Sending → ℕ → ℕ
+width_of s group = min 8 (s.encoded.configuration.source_blocks - 8 * group)
+
+-- which symbol the cell of a number carries
 abbrev pub sent_id : Sending → ℕ → SymbolId
-sent_id s i = let z = s.encoded.configuration.source_blocks in record { block = i % z; esi = s.series.first + s.series.step * (i / z) }
+sent_id s i =
+    let group = group_of s i in
+    let width = width_of s group in
+    record { block = 8 * group + place_of s i % width; esi = s.series.first + s.series.step * (place_of s i / width) }
 
 -- the bytes of the cell of a number, with a packet of the object whose encoder it is
 pub record IsSentCell (s : Sending) (i : ℕ) (bytes : List ℕ) : Type 0 where
@@ -81,12 +110,10 @@ abbrev pub StopsBehind : Sending → ℕ → List ℕ → Stop → Type 0
 StopsBehind s n bytes Fault = (bytes ≡ []) ⊎ IsBegun s n bytes
 StopsBehind s n bytes (Refused e) = (e ≡ OutOfMemory) × (n ≡ 0) × (bytes ≡ [])
 
--- Some of the first cells are written or lost: one for each call that was refused, and one call beside these failed where that ended it.
-pub record StopsSending {W : Type 0} (s : Sending) (old new : Output W) (there then : Option (List ℕ)) (stop : Stop) : Type 0 where
+-- Some of the first cells are written but for so many that were lost, and then something stops it.
+pub record StopsSending (s : Sending) (lost : ℕ) (there then : Option (List ℕ)) (stop : Stop) : Type 0 where
   pub number : ℕ
   pub within : number ≤ cell_count s
-  pub lost : ℕ
   pub behind : List ℕ
   pub sends : SendsFirst s number lost behind there then
   pub stopped : StopsBehind s number behind stop
-  pub counts : CountsLost old new lost (failed_calls {X = ℕ} (Err stop))

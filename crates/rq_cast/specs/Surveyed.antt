@@ -1,11 +1,14 @@
 -- Which streams stand among bytes.
-use Rattle.std.specs.Prelude.{◌≡◌, ℕ, List, [], drop, map, Option, Some, Contains, All}
+use Rattle.std.specs.Prelude.{◌≡◌, ℕ, List, [], length, drop, map, Some, Contains, All}
 use Rattle.rq_standard.specs.declared.row.TableRow.{TableRow}
 use Rattle.rq_cells.specs.declared.head.Head.{Head}
 use Rattle.rq_cells.specs.Cells.{Key}
 use Rattle.rq_cells.specs.Wanted.{Wish, wanted_at}
 use Rattle.rq_cast.specs.declared.survey.Standing.{Standing}
-use Rattle.rq_cast.specs.Received.{wish_over, EndsReceiving}
+use Rattle.rq_cast.specs.Received.{wish_over, ReceivesSoFar, EndsWith}
+use Rattle.rq_cast.specs.Reading.{chunk_length}
+use Rattle.rq_cast.specs.Searching.{counted}
+use Rattle.rq_cast.specs.Windows.{Settled, bytes_of}
 
 -- at some place of the bytes a cell with this head is whole, whatever its stream
 abbrev pub StandsIn : Wish → List ℕ → Head → Type 0
@@ -16,15 +19,14 @@ pub record ListsStreams (w : Wish) (bytes : List ℕ) (heads : List Head) : Type
   pub each : All (StandsIn w bytes) heads
   pub all : (i : ℕ) (h : Head) → wanted_at w (drop i bytes) ≡ Some h → Contains (map (λ k. k.stream) heads) h.stream
 
--- How a run ends that receives the stream, and what it sees.
-pub record IsStanding (table : List TableRow) (key : Key) (bytes : List ℕ) (s : Standing) : Type 0 where
-  pub after : Option (List ℕ)
-  pub last : ℕ
-  pub there : Option (List ℕ)
-  pub written : Option (List ℕ)
-  pub ends : EndsReceiving table key s.head.stream s.ended s.seen (Some bytes) after last there written
+-- What is settled of the stream, which is how many bytes, how a run ends so, and what it sees.
+pub record IsStanding (table : List TableRow) (key : Key) (width : ℕ) (bytes : List ℕ) (s : Standing) : Type 0 where
+  pub parts : List Settled
+  pub receives : ReceivesSoFar table (wish_over table key s.head.stream) width chunk_length bytes parts s.seen
+  pub length_is : s.bytes ≡ counted (length (bytes_of parts))
+  pub ends : EndsWith table (wish_over table key s.head.stream) width chunk_length bytes parts s.seen receives s.ended
 
 -- each stream that stands among the bytes, and no other
-pub record IsSurvey (table : List TableRow) (key : Key) (bytes : List ℕ) (standings : List Standing) : Type 0 where
+pub record IsSurvey (table : List TableRow) (key : Key) (width : ℕ) (bytes : List ℕ) (standings : List Standing) : Type 0 where
   pub heads : ListsStreams (wish_over table key []) bytes (map (λ s. s.head) standings)
-  pub each : All (IsStanding table key bytes) standings
+  pub each : All (IsStanding table key width bytes) standings

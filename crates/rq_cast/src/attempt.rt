@@ -1,14 +1,15 @@
 //! An attempt at a part.
-ghost use Rattle.std.specs.Prelude.{◌≡◌, ◌≢◌, [], OnOk, IfOk, IfErr, false};
+ghost use Rattle.std.specs.Prelude.{◌≡◌, ◌≢◌, [], None, OnOk, IfOk, IfErr, false};
 ghost use Rattle.rq_bytes.specs.Refusals.{IsRefusal};
 ghost use Rattle.rq_standard.specs.TableRows.{greatest_size};
 ghost use Rattle.rq_standard.specs.Following.{FollowsRun};
 ghost use Rattle.rq_base.specs.RefusedInput.{checked_configuration};
 ghost use Rattle.raptorq.specs.Decoder.{state_of};
 ghost use Rattle.rq_cells.specs.Cells.{digest_of};
+ghost use Rattle.rq_cast.specs.Taken.{IsTakenHead};
 
 use crate::digests::KnownDigests;
-use crate::stream::stream_of;
+use crate::named::named_object;
 use raptorq::error::Error;
 use raptorq::systematic_constants::SystematicTable;
 use raptorq::{Decoder, EncodingPacket};
@@ -21,8 +22,8 @@ pub(crate) struct Attempt {
     pub decoder: Decoder,
     /// The digests of the source symbols that came.
     pub known: KnownDigests,
-    /// The stream's bytes, once its packets determined them, and they are what the head says.
-    pub stream: Option<Vec<u8>>,
+    /// The part's object, once its packets determined it, and it is named as the head says.
+    pub object: Option<Vec<u8>>,
 }
 
 // A refused packet ends an attempt, unless memory is wanting.
@@ -37,7 +38,7 @@ fn end_unless_memory(refusal: Error) -> Result<bool, Error>
 }
 
 impl Attempt {
-    ghost use Rattle.rq_cast.specs.PartReceiving.{IsTakenHead, IsAttempt, IsUnlooked, LooksAt, TakesOrFails};
+    ghost use Rattle.rq_cast.specs.PartReceiving.{IsAttempt, IsUnlooked, LooksAt, TakesOrFails};
 
     /// An attempt at the part with a head, before any packet. Refuses what
     /// [`Decoder::new`](raptorq::Decoder::new) refuses.
@@ -45,6 +46,7 @@ impl Attempt {
         ensures taken { OnOk result (IsTakenHead table.now head.now) }
         ensures attempt { IfOk result (IsAttempt head.now) }
         ensures follows { IfOk result (λ a. FollowsRun table.now [] (state_of a.decoder)) }
+        ensures open_still { IfOk result (λ a. a.object ≡ None) }
         ensures refused { IfErr result (λ e. IsRefusal e (checked_configuration (greatest_size table.now) head.now.configuration)) }
     {
         head.configuration.check(table)?;
@@ -53,12 +55,12 @@ impl Attempt {
         Ok(Attempt {
             decoder,
             known,
-            stream: None,
+            object: None,
         })
     }
 
     /// Takes the packet of a cell with the head. Answers whether the attempt goes on: not where the packet
-    /// contradicts earlier ones, nor where they determine what isn't a stream's only part, as the head says.
+    /// contradicts earlier ones, nor where they determine what isn't named as the head says.
     pub fn take(
         &mut self,
         alloc: Global,
@@ -82,19 +84,19 @@ impl Attempt {
         }
     }
 
-    // Looks whether the stream is determined. Answers whether the attempt goes on.
+    // Looks whether the object is determined. Answers whether the attempt goes on.
     fn look(&mut self, alloc: Global, head: &Head) -> Result<bool, Error>
         requires { IsUnlooked head.now self.old }
         ensures looks { IfOk result (LooksAt head.now self.old self.new) }
         ensures memory { IfErr result (λ e. e ≡ Error.OutOfMemory) }
     {
-        if self.stream.is_some() {
+        if self.object.is_some() {
             return Ok(true);
         }
         if !self.decoder.is_complete() {
             return Ok(true);
         }
-        self.stream = stream_of(alloc, head, &self.decoder, &self.known)?;
-        Ok(self.stream.is_some())
+        self.object = named_object(alloc, head, &self.decoder, &self.known)?;
+        Ok(self.object.is_some())
     }
 }

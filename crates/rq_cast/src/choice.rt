@@ -4,7 +4,7 @@ ghost use Rattle.std.specs.Prelude.{◌≡◌, ◌⊎◌, ◌<◌, None, MatchOp
 use raptorq::systematic_constants::SystematicTable;
 use rq_cells::Head;
 
-/// A head of the stream that isn't in use, and how many more of its cells came than of further ones.
+/// A head of the part that isn't in use, and how many more of its cells came than of further ones.
 #[derive(Clone, Copy, Debug)]
 pub(crate) struct Rival {
     pub head: Head,
@@ -15,7 +15,7 @@ pub(crate) struct Rival {
 #[derive(Clone, Copy, Debug)]
 pub(crate) struct Choice {
     pub head: Head,
-    /// How many of its cells came.
+    /// How many of its cells came, since they determined what isn't the part.
     pub cells: u64,
     pub rival: Option<Rival>,
 }

@@ -7,6 +7,9 @@ use rq_streams::Counted;
 use std::io;
 use std::io::Read;
 
+/// How many bytes are read at once, as many as a pipe holds.
+pub(crate) const CHUNK: usize = 65536;
+
 /// A reader that counts its failed calls, and knows how many bytes its last read brought.
 #[derive(Drop)]
 pub struct Input<R> {

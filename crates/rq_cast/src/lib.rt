@@ -1,5 +1,5 @@
-//! Objects sent and received as cells: an object in and its cells out, and any bytes in and the object
-//! of the cells among them out.
+//! Streams sent and received as cells: any bytes in and the cells of their parts out, and any bytes in and the
+//! stream of the cells among them out.
 #![tactic(auto)]
 
 mod attempt;
@@ -7,32 +7,40 @@ mod choice;
 mod digests;
 mod input;
 pub mod laws;
+mod losing;
 mod loss;
 mod missing;
+mod named;
+mod names;
 mod order;
 mod output;
+mod part_reading;
 mod part_receiver;
 mod parts;
 mod preparing;
 mod progress;
-mod reading;
 mod receiver;
 mod run;
+mod seen;
 mod sending;
 mod series;
-mod stream;
+mod settled;
+mod stream_receiver;
+mod stream_sending;
 mod survey;
-mod taking;
+mod window;
 
 pub use input::Input;
+pub use losing::loses;
 pub use loss::Loss;
 pub use missing::missing_packets;
 pub use order::{Ids, Order};
 pub use output::Output;
-pub use preparing::{check_length, read_sender};
+pub use preparing::check_length;
 pub use progress::{Progress, Silent};
-pub use receiver::Seen;
 pub use run::{Ending, run_receive};
+pub use seen::Seen;
 pub use sending::{Pace, Sender};
 pub use series::{Repair, Series};
+pub use stream_sending::{Sent, send_stream};
 pub use survey::{Standing, standings_in};

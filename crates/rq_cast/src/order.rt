@@ -1,4 +1,4 @@
-//! How an object is sent.
+//! How a stream is sent.
 
 use crate::series::Repair;
 
@@ -13,9 +13,11 @@ pub struct Ids {
     pub rate: Option<u64>,
 }
 
-/// How an object is sent.
+/// How a stream is sent.
 #[derive(Clone, Copy, Debug, PartialEq, Eq)]
 pub struct Order {
+    /// How many bytes a part has: not 0. The last one has fewer.
+    pub part: u64,
     /// How many bytes a symbol has at most.
     pub symbol_size: u16,
     /// How many repair packets there are.

@@ -1,36 +1,37 @@
-//! A writer that knows which of its calls failed since nobody listens, and whether it is flushed.
+//! A writer that knows which of its calls lost a cell, and whether it is flushed.
 ghost use Rattle.std.specs.Prelude.{◌≡◌, ℕ, ◌+◌, ◌-◌, ◌^◌, ◌<◌, ◌≤◌, OnOk, OnErr, IfErr, take, true, false};
 ghost use Rattle.std.specs.Io.{WritesAtMost};
 ghost use Rattle.std.specs.Io.KnownBytes.{Appends, Keeps, WriteAppends};
 ghost use Rattle.rq_streams.specs.Counted.{failed_count, CountsWrite};
 ghost use Rattle.rq_streams.specs.Ends.{failed_calls};
 
+use crate::losing::loses;
 use rq_streams::{Counted, Stop, flush, write_bytes};
 use std::io;
-use std::io::{ErrorKind, Write};
+use std::io::Write;
 
-/// A writer that counts its failed calls, and apart those that should have begun a cell and failed with
-/// [`ErrorKind::ConnectionRefused`], as datagrams do that nobody listens for.
+/// A writer that counts its failed calls, and apart those that should have begun a cell and lost it, as
+/// calls on a socket of datagrams do where nobody listens or a network fails.
 #[derive(Drop)]
 pub struct Output<W> {
     writer: Counted<W>,
-    refused: u64,
+    lost: u64,
     is_flushed: bool,
-    pub ghost failed: { refused ≤ failed_count writer },
+    pub ghost failed: { lost ≤ failed_count writer },
 }
 
 impl<W> Output<W> {
-    ghost use Rattle.rq_cast.specs.Output.{counting, refused_count, flushed};
+    ghost use Rattle.rq_cast.specs.Output.{counting, lost_count, flushed};
 
     /// Writes to this writer from now on.
     pub fn new(writer: Counted<W>) -> Output<W>
         ensures writer { counting result ≡ writer }
-        ensures none { refused_count result ≡ 0 }
+        ensures none { lost_count result ≡ 0 }
         ensures unflushed { flushed result ≡ false }
     {
         Output {
             writer,
-            refused: 0,
+            lost: 0,
             is_flushed: false,
         }
     }
@@ -41,7 +42,7 @@ impl<W> Output<W> {
     {
         let Output {
             writer,
-            refused: _,
+            lost: _,
             is_flushed: _,
         } = self;
         writer
@@ -49,7 +50,8 @@ impl<W> Output<W> {
 }
 
 impl<W: Write> Output<W> {
-    ghost use Rattle.rq_cast.specs.Output.{counting, sink, refused_count, flushed, IsRefused};
+    ghost use Rattle.rq_cast.specs.Output.{counting, sink, lost_count, flushed};
+    ghost use Rattle.rq_cast.specs.Losing.{is_lost};
 
     /// Begins a cell by one call.
     pub(crate) fn begin(&mut self, cell: &[u8]) -> io::Result<usize>
@@ -57,16 +59,16 @@ impl<W: Write> Output<W> {
         ensures bound { WritesAtMost result cell.now }
         ensures bytes { WriteAppends (W.contents (sink self.old)) (W.contents (sink self.new)) result cell.now }
         ensures counts { CountsWrite (failed_count (counting self.old)) (failed_count (counting self.new)) result cell.now }
-        ensures refused { IsRefused result → refused_count self.new ≡ refused_count self.old + 1 }
-        ensures others { ¬ IsRefused result → refused_count self.new ≡ refused_count self.old }
+        ensures lost { is_lost result ≡ true → lost_count self.new ≡ lost_count self.old + 1 }
+        ensures others { is_lost result ≡ false → lost_count self.new ≡ lost_count self.old }
         ensures unflushed { flushed self.new ≡ false }
     {
         self.is_flushed = false;
         let result = self.writer.write(cell);
         if let Err(error) = &result
-            && error.kind() == ErrorKind::ConnectionRefused
+            && loses(error)
         {
-            self.refused += 1;
+            self.lost += 1;
         }
         result
     }
@@ -80,7 +82,7 @@ impl<W: Write> Output<W> {
         ensures err { IfErr result (λ stop. stop ≡ Stop.Fault) }
         ensures beginning { OnErr result ((n : ℕ)
             × Appends (W.contents (sink self.old)) (W.contents (sink self.new)) (take n rest.now)) }
-        ensures refused { refused_count self.new ≡ refused_count self.old }
+        ensures lost { lost_count self.new ≡ lost_count self.old }
         ensures unflushed { flushed self.new ≡ false }
     {
         self.is_flushed = false;
@@ -93,7 +95,7 @@ impl<W: Write> Output<W> {
         ensures bytes { Keeps (W.contents (sink self.old)) (W.contents (sink self.new)) }
         ensures counts { failed_count (counting self.new) ≡ failed_count (counting self.old) + failed_calls result }
         ensures err { IfErr result (λ stop. stop ≡ Stop.Fault) }
-        ensures refused { refused_count self.new ≡ refused_count self.old }
+        ensures lost { lost_count self.new ≡ lost_count self.old }
         ensures done { OnOk result (flushed self.new ≡ true) }
     {
         flush(&mut self.writer)?;

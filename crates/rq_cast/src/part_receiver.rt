@@ -1,22 +1,26 @@
 //! What is received of a part, whoever sends its cells.
-ghost use Rattle.std.specs.Prelude.{◌≡◌, [], ◌∷◌, map, All, OnOk, IfOk, IfErr};
+ghost use Rattle.std.specs.Prelude.{◌≡◌, OnOk, IfOk, IfErr};
 ghost use Rattle.rq_bytes.specs.Refusals.{IsRefusal};
 ghost use Rattle.rq_standard.specs.TableRows.{greatest_size};
 ghost use Rattle.rq_base.specs.RefusedInput.{checked_configuration};
 ghost use Rattle.rq_cells.specs.Cells.{digest_of};
 ghost use Rattle.rq_cells.specs.Scans.{HasDigest};
+ghost use Rattle.rq_cast.specs.Taken.{part_index, IsTakenHead};
 
 use crate::attempt::Attempt;
 use crate::choice::Choice;
+use crate::names::Names;
+use crate::settled::{SettledPart, Settling, part_behind};
 use raptorq::EncodingPacket;
 use raptorq::error::Error;
 use raptorq::systematic_constants::SystematicTable;
 use rq_cells::{Cell, DIGEST_LENGTH, FoundCell, Head};
 use std::alloc::Global;
 
-/// What is received of a part. Where its packets contradict each other, or determine what isn't a stream's
-/// only part as their head says, it begins anew with what comes; so it does with another head of its stream
-/// where more cells have that. So who forges cells delays it at the most.
+/// What is received of a part. Where its packets contradict each other, or determine what isn't named as
+/// their head says, it begins anew with what comes; so it does with another head where more cells have
+/// that, also where an object is determined, since only [`PartReceiver::settle`] tells whether it is the
+/// part. So who forges cells delays it at the most.
 #[derive(Drop)]
 pub(crate) struct PartReceiver {
     pub choice: Choice,
@@ -26,14 +30,15 @@ pub(crate) struct PartReceiver {
 }
 
 impl PartReceiver {
-    ghost use Rattle.rq_cast.specs.PartReceiving.{IsTakenHead, IsSound, BeginsAnew, AddsPacket, HasTaken, TakesCells};
+    ghost use Rattle.rq_cast.specs.PartReceiving.{IsAttempt, IsSound, IsUnused, BeginsAnew, GivesUp, AddsPacket, TakesCell};
+    ghost use Rattle.rq_cast.specs.Settling.{SettlesPart};
 
     /// A receiver of the part with a head, before any cell. Refuses what
     /// [`Decoder::new`](raptorq::Decoder::new) refuses.
     pub fn new(alloc: Global, table: &SystematicTable, head: Head) -> Result<PartReceiver, Error>
         ensures accepted { OnOk result (IsTakenHead table.now head) }
-        ensures sound { IfOk result (IsSound table.now) }
-        ensures taken { IfOk result (HasTaken table.now head []) }
+        ensures sound { IfOk result (IsSound table.now (part_index head)) }
+        ensures unused { IfOk result (IsUnused table.now head) }
         ensures refused { IfErr result (λ e. IsRefusal e (checked_configuration (greatest_size table.now) head.configuration)) }
     {
         Ok(PartReceiver {
@@ -47,11 +52,22 @@ impl PartReceiver {
     fn begin_anew(&mut self, alloc: Global, table: &SystematicTable) -> Result<(), Error>
         requires { IsTakenHead table.now self.old.choice.head }
         ensures begins { OnOk result (BeginsAnew table.now self.old self.new) }
+        ensures counts { self.new.choice ≡ self.old.choice }
         ensures memory { IfErr result (λ e. e ≡ Error.OutOfMemory) }
     {
         self.attempt = Attempt::new(alloc, table, &self.choice.head)?;
         self.restarted = self.restarted.saturating_add(1);
         Ok(())
+    }
+
+    // Begins anew with the head in use, none of whose cells counts any more: they may all be forged.
+    fn give_up(&mut self, alloc: Global, table: &SystematicTable) -> Result<(), Error>
+        requires { IsTakenHead table.now self.old.choice.head }
+        ensures gives_up { OnOk result (GivesUp table.now self.old self.new) }
+        ensures memory { IfErr result (λ e. e ≡ Error.OutOfMemory) }
+    {
+        self.choice.cells = 0;
+        self.begin_anew(alloc, table)
     }
 
     // Takes a packet of a cell with the head in use.
@@ -62,7 +78,8 @@ impl PartReceiver {
         packet: EncodingPacket,
         digest: [u8; DIGEST_LENGTH],
     ) -> Result<(), Error>
-        requires sound { IsSound table.now self.old }
+        requires taken { IsTakenHead table.now self.old.choice.head }
+        requires attempt { IsAttempt self.old.choice.head self.old.attempt }
         requires digest { digest ≡ digest_of packet.payload }
         ensures adds { OnOk result (AddsPacket table.now self.old packet self.new) }
         ensures memory { IfErr result (λ e. e ≡ Error.OutOfMemory) }
@@ -70,20 +87,20 @@ impl PartReceiver {
         if self.attempt.take(alloc, &self.choice.head, packet, digest)? {
             return Ok(());
         }
-        self.begin_anew(alloc, table)
+        self.give_up(alloc, table)
     }
 
-    /// Takes a cell of the stream. Refuses [`Error::OutOfMemory`] alone.
+    /// Takes a cell of the part. Refuses [`Error::OutOfMemory`] alone.
     pub fn take(
         &mut self,
         alloc: Global,
         table: &SystematicTable,
         found: FoundCell,
     ) -> Result<(), Error>
-        requires sound { IsSound table.now self.old }
+        requires sound { IsSound table.now (part_index found.cell.head) self.old }
         requires digest { HasDigest found }
-        ensures takes { OnOk result (TakesCells table.now self.old (found.cell ∷ []) self.new) }
-        ensures sound { OnOk result (IsSound table.now self.new) }
+        ensures takes { OnOk result (TakesCell table.now self.old found.cell self.new) }
+        ensures sound { OnOk result (IsSound table.now (part_index found.cell.head) self.new) }
         ensures memory { IfErr result (λ e. e ≡ Error.OutOfMemory) }
     {
         let FoundCell { cell, digest } = found;
@@ -92,9 +109,6 @@ impl PartReceiver {
             self.choice.count();
             return self.add(alloc, table, packet, digest);
         }
-        if self.attempt.stream.is_some() {
-            return Ok(());
-        }
         if !self.choice.count_other(table, &head) {
             return Ok(());
         }
@@ -102,22 +116,32 @@ impl PartReceiver {
         self.add(alloc, table, packet, digest)
     }
 
-    /// Takes cells of the stream, in their order. Refuses [`Error::OutOfMemory`] alone.
-    pub fn take_all(
+    /// Hands out the part, where its cells determine it and it is the one behind parts of some names, and
+    /// begins anew where they determine anything else. Once it is handed out, nothing is left to be
+    /// received. Refuses [`Error::OutOfMemory`] alone.
+    pub fn settle(
         &mut self,
         alloc: Global,
         table: &SystematicTable,
-        cells: Vec<FoundCell>,
-    ) -> Result<(), Error>
-        requires sound { IsSound table.now self.old }
-        requires digests { All HasDigest cells.items }
-        ensures takes { OnOk result (TakesCells table.now self.old (map (λ found. found.cell) cells.items) self.new) }
-        ensures sound { OnOk result (IsSound table.now self.new) }
+        names: &Names,
+    ) -> Result<Settling, Error>
+        requires sound { IsSound table.now (part_index self.old.choice.head) self.old }
+        ensures settles { IfOk result (λ s. SettlesPart table.now names.now self.old s self.new) }
         ensures memory { IfErr result (λ e. e ≡ Error.OutOfMemory) }
     {
-        for found in cells {
-            self.take(alloc, table, found)?;
-        }
-        Ok(())
+        let Some(mut object) = self.attempt.object.take() else {
+            return Ok(Settling::Waits);
+        };
+        let head = self.choice.head;
+        let Some((is_last, length)) = part_behind(names, &head, object.as_slice())? else {
+            self.give_up(alloc, table)?;
+            return Ok(Settling::Anew);
+        };
+        object.truncate(length);
+        Ok(Settling::Settled(SettledPart {
+            name: head.name,
+            is_last,
+            bytes: object,
+        }))
     }
 }

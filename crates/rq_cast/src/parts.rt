@@ -6,7 +6,7 @@ ghost use Rattle.rq_standard.specs.Configuration.{IsAligned, largest_block};
 ghost use Rattle.rq_standard.specs.Cutting.{symbol_of_block};
 ghost use Rattle.raptorq.specs.BlockBytes.{bytes_of_block};
 ghost use Rattle.rq_cells.specs.Cells.{digest_of};
-ghost use Rattle.rq_cast.specs.Parts.{source_digests, seal_of};
+ghost use Rattle.rq_cast.specs.Parts.{source_digests};
 
 use raptorq::error::Error;
 use raptorq::{BlockLayout, ObjectTransmissionInformation, block_symbols, symbols_before};
@@ -18,15 +18,11 @@ use std::alloc::{AllocError, Global};
 /// How many bytes end the last part.
 pub(crate) const SEAL_LENGTH: usize = 32;
 
+/// How many parts a stream has at most.
+pub(crate) const MOST_PARTS: u32 = 1 << 30;
+
 // How many symbols are hashed side by side.
 const BATCH: u32 = 16;
-
-/// What ends the only part of a stream: it binds the names of all parts before, which are none.
-pub(crate) fn seal() -> [u8; SEAL_LENGTH]
-    ensures { result ≡ seal_of [] }
-{
-    first_bytes(&Sha512::digest(&[]))
-}
 
 /// The name of the stream whose first part has a name: it begins so.
 pub(crate) fn stream_of_name(name: &[u8; NAME_LENGTH]) -> [u8; STREAM_LENGTH]
@@ -37,8 +33,8 @@ pub(crate) fn stream_of_name(name: &[u8; NAME_LENGTH]) -> [u8; STREAM_LENGTH]
     stream
 }
 
-// The first 32 bytes of a hash.
-fn first_bytes(hash: &[u8; 64]) -> [u8; 32]
+/// The first 32 bytes of a hash.
+pub(crate) fn first_bytes(hash: &[u8; 64]) -> [u8; 32]
     ensures { result ≡ take 32 hash.now }
 {
     let mut first = [0; 32];

@@ -1,6 +1,6 @@
 //! What is told of a run while it goes on.
 
-use crate::receiver::Seen;
+use crate::seen::Seen;
 use raptorq::Decoder;
 
 /// Is told how far a run has come. Nothing is promised of what is told, nor of how often: the run does

@@ -1,131 +1,150 @@
-//! What a receiver does with the cells of a stream.
-ghost use Rattle.std.specs.Prelude.{◌≡◌, OnOk, OnErr, IfOk, IfErr};
-ghost use Rattle.rq_bytes.specs.Refusals.{IsRefusal};
-ghost use Rattle.rq_standard.specs.TableRows.{greatest_size};
-ghost use Rattle.rq_base.specs.RefusedInput.{checked_configuration};
+//! Bytes in, the parts of the stream of the cells among them out.
+ghost use Rattle.std.specs.Prelude.{◌≡◌, ℕ, List, [], ◌++◌, length, OnOk, IfErr, false};
+ghost use Rattle.rq_standard.specs.declared.row.TableRow.{TableRow};
+ghost use Rattle.rq_cells.specs.Wanted.{Wish, wish_of, AreHeads, IsFirstWanted};
+ghost use Rattle.rq_cast.specs.declared.seen.Seen.{Seen};
+ghost use Rattle.rq_cast.specs.Receiving.{IsSoundReceiver, HasFed, Feeds, Begins, HandsOutOf, Shows, has_ended, ready_of, TellsEnding};
 
-use crate::part_receiver::PartReceiver;
-use crate::reading::{Found, remove_front};
+use crate::run::Ending;
+use crate::seen::Seen;
+use crate::stream_receiver::{Found, StreamReceiver};
+use raptorq::Decoder;
 use raptorq::error::Error;
-use raptorq::systematic_constants::SystematicTable;
-use rq_cells::{CellScanner, Heads, Key};
+use rq_cells::{CellSearch, Head, Heads, Search, Wanted};
 use std::alloc::Global;
+use std::mem::replace;
 
-/// What was seen in all that was read. A count stays at `u64::MAX`. As long as no wanted cell came,
-/// any wanted head counts as the stream's, and a head that isn't wanted as another one's.
-#[derive(Clone, Copy, Debug, Default, PartialEq, Eq)]
-pub struct Seen {
-    /// How many whole cells of the stream came, whatever their head says of its part.
-    pub cells: u64,
-    /// How many of the stream's cells were damaged behind their head.
-    pub damaged: u64,
-    /// How many heads were other streams', or of cells of another length.
-    pub others: u64,
-    /// How often the part was begun anew: where cells contradicted each other, where they determined what
-    /// isn't named as they say, or where more cells had another head. That is never where one sender made
-    /// all of the stream's cells.
-    pub restarted: u64,
+/// Receives a stream from bytes that come in pieces: the first wanted cell says which, and from then on all its
+/// cells are taken, at whatever place they stand. A part is handed out once all before it are, its cells determine
+/// it, and its name is right.
+#[derive(Drop)]
+pub(crate) struct Receiver<'a> {
+    alloc: Global,
+    wanted: Wanted<'a>,
+    window: u32,
+    search: CellSearch<'a>,
+    // What was seen before the bytes that the search keeps, and in all.
+    settled: Seen,
+    seen: Seen,
+    // Once a wanted cell was whole.
+    stream: Option<StreamReceiver>,
 }
 
-impl Seen {
-    ghost use Rattle.rq_cast.specs.Receiving.{SeesHeads};
-
-    // With heads more.
-    pub(crate) fn with(self, heads: Heads) -> Seen
-        ensures { SeesHeads self heads result }
+impl<'a> Receiver<'a> {
+    /// Receives wanted cells, of so many parts at once: from the first on that isn't handed out. Cells of further
+    /// parts are dropped, as those of parts are that are handed out. So it keeps at most so many parts, whatever comes.
+    pub fn new(alloc: Global, wanted: &Wanted<'a>, window: u32) -> Receiver<'a>
+        ensures sound { IsSoundReceiver result }
+        ensures open_still { has_ended result ≡ false }
+        ensures none { ready_of result ≡ [] }
+        ensures fed { (most : ℕ) → HasFed wanted.now.table.now (wish_of wanted.now) window most [] [] result }
     {
-        Seen {
-            damaged: self.damaged.saturating_add(heads.damaged as u64),
-            others: self.others.saturating_add(heads.others as u64),
-            ..self
+        Receiver {
+            alloc,
+            wanted: *wanted,
+            window,
+            search: CellSearch::new(alloc, wanted),
+            settled: Seen::default(),
+            seen: Seen::default(),
+            stream: None,
         }
     }
-}
 
-/// What is received of a stream.
-#[derive(Drop)]
-pub(crate) struct Receiver {
-    pub scanner: CellScanner,
-    pub part: PartReceiver,
-    /// What was read and may still become cells.
-    pub bytes: Vec<u8>,
-    pub seen: Seen,
-}
-
-impl Receiver {
-    ghost use Rattle.rq_cast.specs.PartReceiving.{IsTakenHead, IsSound};
-    ghost use Rattle.rq_cast.specs.Receiving.{SeesAll, SeesNothingMore, HasRead, HasReadAll, ReadsAll};
-
-    // A receiver of the stream that was found, which has taken nothing yet.
-    fn empty(
-        alloc: Global,
-        table: &SystematicTable,
-        key: &Key,
-        found: Found,
-    ) -> Result<Receiver, Error>
-        ensures accepted { OnOk result (IsTakenHead table.now found.head) }
-        ensures read { IfOk result (HasRead table.now key.now found found.bytes.items) }
-        ensures sound { IfOk result (λ r. IsSound table.now r.part) }
-        ensures refused { IfErr result (λ e. IsRefusal e (checked_configuration (greatest_size table.now) found.head.configuration)) }
-    {
-        let Found { head, bytes, seen } = found;
-        let part = PartReceiver::new(alloc, table, head)?;
-        let scanner = CellScanner::new(key.clone()?, &head);
-        Ok(Receiver {
-            scanner,
-            part,
-            bytes,
-            seen: Seen {
-                restarted: 0,
-                ..seen
-            },
-        })
-    }
-
-    /// A receiver of the stream that was found, which has taken the cells that are whole in what was read
-    /// from its first cell on.
-    pub fn new(
-        alloc: Global,
-        table: &SystematicTable,
-        key: &Key,
-        found: Found,
-    ) -> Result<Receiver, Error>
-        ensures read { IfOk result (HasReadAll table.now key.now found found.bytes.items) }
-        ensures sound { IfOk result (λ r. IsSound table.now r.part) }
-        ensures refused { IfErr result (λ e. IsRefusal e (checked_configuration (greatest_size table.now) found.head.configuration)) }
-    {
-        let mut receiver = Receiver::empty(alloc, table, key, found)?;
-        receiver.take_cells(alloc, table)?;
-        Ok(receiver)
-    }
-
-    /// Takes the cells that are whole in what was read, and keeps what may still become cells. Where that
-    /// stops, it has seen and keeps what it had. Refuses [`Error::OutOfMemory`] alone.
-    pub fn take_cells(&mut self, alloc: Global, table: &SystematicTable) -> Result<(), Error>
-        requires { IsSound table.now self.old.part }
-        ensures reads { OnOk result (ReadsAll table.now self.old self.new) }
-        ensures sound { OnOk result (IsSound table.now self.new.part) }
-        ensures still { OnErr result (SeesNothingMore self.old self.new) }
+    /// Takes the next piece of the bytes. Refuses [`Error::OutOfMemory`] alone, and may have taken some of its cells
+    /// then.
+    pub fn feed(&mut self, alloc: Global, piece: &[u8]) -> Result<(), Error>
+        requires { IsSoundReceiver self.old }
+        ensures fed { OnOk result (Feeds piece.now self.old self.new) }
+        ensures sound { OnOk result (IsSoundReceiver self.new) }
         ensures memory { IfErr result (λ e. e ≡ Error.OutOfMemory) }
     {
-        let scan = self.scanner.scan(alloc, self.bytes.as_slice())?;
-        let cells = scan.cells.len();
-        self.part.take_all(alloc, table, scan.cells)?;
-        remove_front(&mut self.bytes, scan.places);
-        self.seen = self.seen.with(Heads {
-            damaged: scan.damaged,
-            others: scan.others,
-        });
-        self.seen.cells = self.seen.cells.saturating_add(cells as u64);
-        self.seen.restarted = self.part.restarted;
+        if let Some(stream) = &mut self.stream {
+            return stream.feed(alloc, self.wanted.table, piece);
+        }
+        match self.search.feed(alloc, piece)? {
+            Search::Found { head, before, .. } => self.begin(alloc, head, before),
+            Search::NotYet { before, all, .. } => {
+                self.seen = self.settled.with(all);
+                self.settled = self.settled.with(before);
+                Ok(())
+            }
+        }
+    }
+
+    // Begins with the stream of the first wanted cell, which stands at the front of what is kept.
+    fn begin(&mut self, alloc: Global, head: Head, before: Heads) -> Result<(), Error>
+        ensures begins { OnOk result (Begins head before self.old self.new) }
+        ensures sound { OnOk result (IsSoundReceiver self.new) }
+        ensures memory { IfErr result (λ e. e ≡ Error.OutOfMemory) }
+    {
+        let search = replace(&mut self.search, CellSearch::new(alloc, &self.wanted));
+        let found = Found {
+            head,
+            bytes: search.into_bytes(),
+            seen: self.settled.with(before),
+        };
+        let Wanted { key, table, .. } = self.wanted;
+        self.stream = Some(StreamReceiver::new(alloc, table, key, self.window, found)?);
         Ok(())
     }
 
-    /// What was seen in all that was read, with heads of other streams in what may still become cells.
-    pub fn all_seen(&self) -> Seen
-        ensures { SeesAll self.now result }
+    /// Hands out the bytes of the parts that may be and weren't yet, one behind another.
+    pub fn take_ready(&mut self) -> Vec<u8>
+        ensures hands { HandsOutOf self.old result.items self.new }
+        ensures ended { has_ended self.new ≡ has_ended self.old }
+        ensures ready { result.items ≡ ready_of self.old }
+        ensures none { ready_of self.new ≡ [] }
+        ensures shows { (seen : Seen) → Shows self.old seen → Shows self.new seen }
+        ensures sound { IsSoundReceiver self.old → IsSoundReceiver self.new }
     {
-        let others = self.scanner.count_others(self.bytes.as_slice());
-        self.seen.with(Heads { damaged: 0, others })
+        match &mut self.stream {
+            Some(stream) => stream.take_ready(),
+            None => Vec::new(self.alloc),
+        }
+    }
+
+    /// Whether the last part is handed out, or may be.
+    pub fn has_ended(&self) -> bool
+        ensures { result ≡ has_ended self.now }
+    {
+        match &self.stream {
+            Some(stream) => stream.window.ended,
+            None => false,
+        }
+    }
+
+    /// What was seen in all that came.
+    pub fn all_seen(&self) -> Seen
+        ensures { Shows self.now result }
+    {
+        match &self.stream {
+            Some(stream) => stream.all_seen(),
+            None => self.seen,
+        }
+    }
+
+    /// The decoder of the first part that isn't handed out, where a cell of it came.
+    pub fn decoder(&self) -> Option<&Decoder> {
+        match &self.stream {
+            Some(stream) => stream.window.decoder(),
+            None => None,
+        }
+    }
+
+    /// How a run ends that reads no more.
+    pub fn ending(&self) -> Ending
+        ensures { TellsEnding self.now result }
+    {
+        match &self.stream {
+            Some(stream) if stream.window.ended => Ending::Written,
+            Some(stream) => Ending::Incomplete {
+                parts: stream.window.names.count,
+                missing: stream.window.missing(),
+            },
+            None => Ending::Incomplete {
+                parts: 0,
+                missing: None,
+            },
+        }
     }
 }

@@ -1,78 +1,107 @@
 //! Bytes in, the stream of the cells among them out.
-ghost use Rattle.std.specs.Prelude.{◌-◌, ◌<◌, ◌^◌};
+ghost use Rattle.std.specs.Prelude.{◌≡◌, ◌+◌, ◌-◌, ◌<◌, ◌^◌, [], take, ℕ, OnOk, OnErr, IfErr};
+ghost use Rattle.std.specs.Io.KnownBytes.{Appends};
 ghost use Rattle.rq_streams.specs.Counted.{failed_count, inner};
-ghost use Rattle.rq_streams.specs.Ends.{EndsAtFailure};
+ghost use Rattle.rq_streams.specs.Ends.{failed_calls};
 ghost use Rattle.rq_cast.specs.Input.{counted_of, source, last_length};
-ghost use Rattle.rq_cast.specs.Received.{EndsReceiving};
+ghost use Rattle.rq_cast.specs.Received.{EndsAtFailedCall, EndsReceiving};
 
-use crate::input::Input;
-use crate::missing::missing_packets;
+use crate::input::{CHUNK, Input};
 use crate::progress::Progress;
-use crate::reading::find;
-use crate::receiver::{Receiver, Seen};
-use crate::taking::receive;
+use crate::receiver::Receiver;
+use crate::seen::Seen;
 use rq_cells::Wanted;
-use rq_streams::{Counted, Stop, finish};
+use rq_streams::{Counted, Stop, flush, write_bytes};
 use std::alloc::Global;
 use std::io::{Read, Write};
 
 /// How a run ended that nothing stopped.
 #[derive(Clone, Copy, Debug, PartialEq, Eq)]
 pub enum Ending {
-    /// The stream is written.
+    /// All parts of the stream are written.
     Written,
-    /// What was read doesn't determine the stream, and nothing is written.
+    /// What was read doesn't determine the next part, and no further one is written.
     Incomplete {
-        /// How many packets more the part needs at least, of ids that weren't received yet: what
-        /// [`missing_packets`] answers of those that count. `None` where no wanted cell came.
+        /// How many parts are written.
+        parts: u32,
+        /// How many packets the next one needs more at least, of ids that weren't received yet: what
+        /// [`missing_packets`](crate::missing_packets) answers of those that count. `None` where no cell of it
+        /// came.
         missing: Option<u64>,
     },
 }
 
-/// Reads any bytes and writes the stream of the cells that stand among them. `seen` becomes what was seen:
-/// in all that was read, or, where the run is stopped, in all but the bytes of the last read at most.
+// Writes bytes, if there are any, and flushes then.
+fn write_part<W: Write>(writer: &mut Counted<W>, bytes: &[u8]) -> Result<(), Stop>
+    requires { failed_count writer.old < 2 ^ 64 - 1 }
+    ensures bytes { OnOk result (Appends (W.contents (inner writer.old)) (W.contents (inner writer.new)) bytes.now) }
+    ensures counts { failed_count writer.new ≡ failed_count writer.old + failed_calls result }
+    ensures err { IfErr result (λ stop. stop ≡ Stop.Fault) }
+    ensures beginning { OnErr result ((n : ℕ)
+        × Appends (W.contents (inner writer.old)) (W.contents (inner writer.new)) (take n bytes.now)) }
+{
+    if bytes.is_empty() {
+        return Ok(());
+    }
+    write_bytes(writer, bytes)?;
+    flush(writer)
+}
+
+/// Reads any bytes and writes the stream of the cells that stand among them, part by part. `seen` becomes what
+/// was seen: in all that was read, or, where the run is stopped, in all but the bytes of the last read at most.
 ///
-/// The first wanted cell says which stream is received. All its cells are taken, at whatever place they
-/// stand. The run ends at the first read with which those of one head determine an object that is the
-/// stream's only part: its name is that of the head, and its seal is right. Then what the object holds
-/// before its seal is written, with the input still open.
+/// The first wanted cell says which stream is received. Its cells are taken, at whatever place they stand, of so
+/// many parts as the window has, from the first unwritten one on; those of others are dropped. A part is written
+/// as soon as all parts before it are, those of its cells determine it that have one head, and it is what that
+/// head says: its name is right, and the last one's seal. The run ends at the first read with which the last part
+/// is written, with the input still open.
 ///
 /// Where cells of a head contradict each other, or determine another object, the part is begun anew with
-/// what comes, and so it is with another head of the stream where more cells have that: so forged cells
+/// what comes, and so it is with another head of the part where more cells have that: so forged cells
 /// delay the run, and don't end it. `seen` counts how often. It is never where one sender made all cells
-/// of the stream, and then all of them count. While it reads, `progress` is told how far it has come.
+/// of the stream. While it reads, `progress` is told how far it has come.
 ///
 /// Refuses [`Error::OutOfMemory`](raptorq::error::Error) alone, which may come at any read.
 pub fn run_receive<R: Read, W: Write, P: Progress>(
     alloc: Global,
     wanted: &Wanted<'_>,
+    window: u32,
     input: &mut Input<R>,
     writer: &mut Counted<W>,
     seen: &mut Seen,
     progress: &mut P,
 ) -> Result<Ending, Stop>
+    requires window { 0 < window }
     requires reads { failed_count (counted_of input.old) < 2 ^ 64 - 1 }
     requires writes { failed_count writer.old < 2 ^ 64 - 1 }
 
     // The first failed call ends the run, and nothing else is a fault.
-    ensures failures { EndsAtFailure (counted_of input.old) writer.old result (counted_of input.new) writer.new
-        (W.contents (inner writer.old)) (W.contents (inner writer.new)) }
+    ensures failures { EndsAtFailedCall (counted_of input.old) writer.old result (counted_of input.new) writer.new }
 
-    // The stream where the cells determine it, exactly where they do if one sender made them, and not before
-    // the last read that was made.
-    ensures ends { EndsReceiving wanted.now.table.now wanted.now.key.now wanted.now.name.now result seen.new
+    // The parts of the stream, as far as the cells determine them, exactly so far if one sender made them, and not the
+    // last one before the last read that was made.
+    ensures ends { EndsReceiving wanted.now.table.now wanted.now.key.now wanted.now.name.now window result seen.new
         (R.remaining (source input.old)) (R.remaining (source input.new)) (last_length input.new)
         (W.contents (inner writer.old)) (W.contents (inner writer.new)) }
 {
-    let Some(found) = find(alloc, wanted, input, seen, progress)? else {
-        return Ok(Ending::Incomplete { missing: None });
-    };
-    let mut receiver = Receiver::new(alloc, wanted.table, wanted.key, found)?;
-    receive(alloc, wanted.table, input, &mut receiver, seen, progress)?;
-    let Some(bytes) = receiver.part.attempt.stream.take() else {
-        let missing = Some(missing_packets(&receiver.part.attempt.decoder));
-        return Ok(Ending::Incomplete { missing });
-    };
-    finish(writer, bytes)?;
-    Ok(Ending::Written)
+    let mut chunk = [0u8; CHUNK];
+    let mut receiver = Receiver::new(alloc, wanted, window);
+    *seen = receiver.all_seen();
+    // For the proof that it ends: more reads than these are never made.
+    'reading: for _reads in 0..u64::MAX {
+        let Ok(n) = input.read(&mut chunk) else {
+            return Err(Stop::Fault);
+        };
+        if n == 0 {
+            return Ok(receiver.ending());
+        }
+        receiver.feed(alloc, &chunk[..n])?;
+        *seen = receiver.all_seen();
+        progress.tell(n, seen, receiver.decoder());
+        write_part(writer, receiver.take_ready().as_slice())?;
+        if receiver.has_ended() {
+            return Ok(Ending::Written);
+        }
+    }
+    Ok(receiver.ending())
 }

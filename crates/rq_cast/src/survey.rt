@@ -1,29 +1,30 @@
 //! Which streams stand among bytes.
-ghost use Rattle.std.specs.Prelude.{◌≡◌, [], IfOk, IfErr, nat_eq};
+ghost use Rattle.std.specs.Prelude.{◌≡◌, [], OnOk, IfOk, IfErr, nat_eq};
 ghost use Rattle.std.specs.List.{list_any};
 ghost use Rattle.std.specs.Cmp.Lexicographic.{pointwise};
 ghost use Rattle.rq_cast.specs.Received.{wish_over};
+ghost use Rattle.rq_cast.specs.Receiving.{IsSoundReceiver, FeedsAll, ready_of};
 ghost use Rattle.rq_cast.specs.Surveyed.{ListsStreams, IsStanding, IsSurvey};
 
-use crate::input::Input;
-use crate::progress::Silent;
-use crate::receiver::Seen;
-use crate::run::{Ending, run_receive};
+use crate::input::CHUNK;
+use crate::receiver::Receiver;
+use crate::run::Ending;
+use crate::seen::Seen;
 use raptorq::error::Error;
 use raptorq::systematic_constants::SystematicTable;
 use rq_cells::{Head, Key, Search, Wanted, first_wanted};
-use rq_streams::{Counted, Stop};
 use std::alloc::Global;
-use std::io;
 
 /// What stands among bytes of a stream.
 #[derive(Clone, Copy, Debug, PartialEq, Eq)]
 pub struct Standing {
     /// What the first of its cells begins with.
     pub head: Head,
-    /// How a run ends that receives it alone.
-    pub ended: Result<Ending, Stop>,
-    /// What such a run sees.
+    /// How many bytes its parts have that a run writes which receives it alone.
+    pub bytes: u64,
+    /// How such a run ends.
+    pub ended: Ending,
+    /// What it sees.
     pub seen: Seen,
 }
 
@@ -70,16 +71,37 @@ fn heads_in(
     Ok(heads)
 }
 
+// Feeds all bytes to a receiver, and lets go what it hands out. Answers how many bytes that are.
+fn feed_all(alloc: Global, receiver: &mut Receiver<'_>, bytes: &[u8]) -> Result<u64, Error>
+    requires sound { IsSoundReceiver receiver.old }
+    requires none { ready_of receiver.old ≡ [] }
+    ensures feeds { IfOk result (λ written. FeedsAll bytes.now receiver.old written receiver.new) }
+    ensures sound { OnOk result (IsSoundReceiver receiver.new) }
+    ensures none { OnOk result (ready_of receiver.new ≡ []) }
+    ensures memory { IfErr result (λ e. e ≡ Error.OutOfMemory) }
+{
+    let mut written = 0u64;
+    let mut at = 0;
+    'feeding: while at < bytes.len() {
+        let end = bytes.len().min(at + CHUNK);
+        receiver.feed(alloc, &bytes[at..end])?;
+        written = written.saturating_add(receiver.take_ready().len() as u64);
+        at = end;
+    }
+    Ok(written)
+}
+
 // What stands among bytes of a stream.
-fn standing_of(
+fn standing_of<'a>(
     alloc: Global,
-    table: &SystematicTable,
-    key: &Key,
-    head: Head,
+    table: &'a SystematicTable,
+    key: &'a Key,
+    window: u32,
+    head: &'a Head,
     bytes: &[u8],
 ) -> Result<Standing, Error>
-    ensures standing { IfOk result (IsStanding table.now key.now bytes.now) }
-    ensures head { IfOk result (λ s. s.head ≡ head) }
+    ensures standing { IfOk result (IsStanding table.now key.now window bytes.now) }
+    ensures head { IfOk result (λ s. s.head ≡ head.now) }
     ensures memory { IfErr result (λ e. e ≡ Error.OutOfMemory) }
 {
     let wanted = Wanted {
@@ -87,39 +109,33 @@ fn standing_of(
         table,
         name: &head.stream,
     };
-    let mut input = Input::new(Counted::new(bytes));
-    let mut writer = Counted::new(io::sink());
-    let mut seen = Seen::default();
-    let ended = run_receive(
-        alloc,
-        &wanted,
-        &mut input,
-        &mut writer,
-        &mut seen,
-        &mut Silent,
-    );
-    if ended == Err(Stop::Refused(Error::OutOfMemory)) {
-        return Err(Error::OutOfMemory);
-    }
-    Ok(Standing { head, ended, seen })
+    let mut receiver = Receiver::new(alloc, &wanted, window);
+    let written = feed_all(alloc, &mut receiver, bytes)?;
+    Ok(Standing {
+        head: *head,
+        bytes: written,
+        ended: receiver.ending(),
+        seen: receiver.all_seen(),
+    })
 }
 
 /// The streams of which a whole cell stands at any place of bytes, and whose configuration coders take over a
-/// table: each once, in the order of their first cells, and how a run ends that receives it alone. Checks are
-/// made with a key. Refuses [`Error::OutOfMemory`] alone.
+/// table: each once, in the order of their first cells, and what a run makes of it that receives it alone, with
+/// a window of so many parts. Checks are made with a key. Refuses [`Error::OutOfMemory`] alone.
 pub fn standings_in(
     alloc: Global,
     table: &SystematicTable,
     key: &Key,
+    window: u32,
     bytes: &[u8],
 ) -> Result<Vec<Standing>, Error>
-    ensures survey { IfOk result (λ v. IsSurvey table.now key.now bytes.now v.items) }
+    ensures survey { IfOk result (λ v. IsSurvey table.now key.now window bytes.now v.items) }
     ensures memory { IfErr result (λ e. e ≡ Error.OutOfMemory) }
 {
     let heads = heads_in(alloc, table, key, bytes)?;
     let mut standings = Vec::new(alloc);
     for head in &heads {
-        standings.push(standing_of(alloc, table, key, *head, bytes)?)?;
+        standings.push(standing_of(alloc, table, key, window, head, bytes)?)?;
     }
     Ok(standings)
 }

@@ -9,6 +9,6 @@ mod runs;
 mod searching;
 mod sending;
 mod stored_cells;
+mod stored_parts;
 mod stored_runs;
-mod survey;
 mod words;

@@ -43,13 +43,13 @@ stopped_later r (Refused e) a b more is fails = subst (λ (e : Result End Stop).
 
 pub not_whole : (ended : Result Ending Stop) (n : ℕ) → is_whole ended ≡ false → n ≤ 1 → FailsReceiving ended (failed_calls ended + n)
 not_whole (Ok Written) n is few = absurd (cc is)
-not_whole (Ok (Incomplete missing)) n is few = omega (arith, few)
+not_whole (Ok (Incomplete parts missing)) n is few = omega (arith, few)
 not_whole (Err Fault) n is few = omega arith
 not_whole (Err (Refused e)) n is few = omega (arith, few)
 
 pub whole : (ended : Result Ending Stop) → is_whole ended ≡ true → ended ≡ Ok Written
 whole (Ok Written) is = refl
-whole (Ok (Incomplete missing)) is = absurd (cc is)
+whole (Ok (Incomplete parts missing)) is = absurd (cc is)
 whole (Err stop) is = absurd (cc is)
 
 -- one call at most fails
@@ -63,7 +63,7 @@ pub taken_away : {X D : Type 0} (file : Option X) (ended : Result Ending Stop) (
     → IsFinished file false finished written old new → IsPlaced file ended written old new
 taken_away None ended finished written old new is h = h
 taken_away (Some file) (Ok Written) finished written old new is h = absurd (cc is)
-taken_away (Some file) (Ok (Incomplete missing)) finished written old new is h = h
+taken_away (Some file) (Ok (Incomplete parts missing)) finished written old new is h = h
 taken_away (Some file) (Err stop) finished written old new is h = h
 
 -- what is whole couldn't be put there

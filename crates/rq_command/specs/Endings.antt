@@ -22,7 +22,7 @@ word_status _ = 64
 
 abbrev pub ending_status : Ending → ℕ
 ending_status Written = 0
-ending_status (Incomplete missing) = 2
+ending_status (Incomplete parts missing) = 2
 
 -- memory that is refused is a fault of the system
 abbrev pub refusal_status : Error → ℕ
@@ -41,7 +41,7 @@ most_refused cells = cells / 2
 abbrev pub all_lost : ℕ → ℕ → Bool
 all_lost cells lost = nat_lt 0 lost && nat_le (most_refused cells) lost
 
--- all were lost, or not: of a small object a share may be empty
+-- all were lost, or not: of small parts a share may be empty
 abbrev pub sent_status : ℕ → ℕ → ℕ
 sent_status cells lost = if all_lost cells lost then 1 else 0
 
@@ -54,7 +54,7 @@ abbrev pub status_of : End → ℕ
 status_of (Unasked e) = word_status (kind_of e)
 status_of AtTerminal = 64
 status_of EmptyKey = 64
-status_of (Sent cells lost) = sent_status cells lost
+status_of (Sent sent) = sent_status sent.cells sent.lost
 status_of (Received (Ok ending) seen) = ending_status ending
 status_of (Received (Err stop) seen) = stop_status stop
 status_of (Surveyed standings) = survey_status standings.items

@@ -1,11 +1,11 @@
 //! What a run reads from, writes to and tells.
-ghost use Rattle.std.specs.Prelude.{◌≡◌, ℕ, List, length, Option, None, map, IfOk, IfErr, IfSome};
+ghost use Rattle.std.specs.Prelude.{◌≡◌, ℕ, Bool, List, length, Option, None, map, IfOk, IfErr, IfSome};
 ghost use Rattle.rq_streams.specs.Counted.{failed_count};
 ghost use Rattle.rq_streams.specs.Ends.{failed_calls};
 ghost use Rattle.rq_command.specs.Failed.{Fails};
 ghost use Rattle.rq_command.specs.Placed.{IsEmpty, IsFinished};
 
-use rq_cast::{Pace, Progress, Sender};
+use rq_cast::{Pace, Progress};
 use rq_streams::{Counted, Stop};
 use rq_words::Telling;
 use std::io::{Read, Write};
@@ -28,11 +28,15 @@ pub trait Devices<'w> {
     /// What a new writer holds: nothing, where what is written is known.
     ghost blank: { Option (List ℕ) };
 
+    /// Whether standard output is a terminal, where that is known.
+    ghost terminal: { Self → Option Bool } = { λ _. None };
+
     /// How many calls of these failed, and were counted of what they opened, where that is known.
     ghost failed: { Self → Option ℕ } = { λ _. None };
 
     /// Whether standard output is a terminal.
-    fn shows_output(&self) -> bool;
+    fn shows_output(&self) -> bool
+        ensures { IfSome (terminal self.now) (λ is. result ≡ is) };
 
     /// What reads these files, one behind another, or standard input, where there are none. A key is read so
     /// too, from the file that holds it.
@@ -79,7 +83,4 @@ pub trait Teller: Pace + Progress {
     /// Called first: what is to be told, how many bits a second are sent at most, and how many bytes there
     /// are to read, where these are known.
     fn begin(&mut self, telling: Telling, rate: Option<u64>, length: Option<u64>);
-
-    /// Called before the first cell is written.
-    fn announce(&mut self, sender: &Sender);
 }

@@ -5,7 +5,7 @@ ghost use Rattle.rq_command.specs.Endings.{all_lost, ending_status, stop_status,
 use clap::Error;
 use clap::error::ErrorKind;
 use raptorq::error::Error as Refusal;
-use rq_cast::{Ending, Seen, Standing};
+use rq_cast::{Ending, Seen, Sent, Standing};
 use rq_streams::Stop;
 
 /// How the program ended.
@@ -17,13 +17,8 @@ pub enum End {
     AtTerminal,
     /// The file of its key has no bytes, and nothing else was read.
     EmptyKey,
-    /// It has sent cells.
-    Sent {
-        /// How many were to be sent.
-        cells: u64,
-        /// For how many it was said that nobody listens.
-        lost: u64,
-    },
+    /// It has sent a stream, but for cells that a network lost at their call.
+    Sent(Sent),
     /// It has received, and seen so much, also where something stopped it.
     Received(Result<Ending, Stop>, Seen),
     /// It has listed the objects whose cells stand among bytes.
@@ -42,8 +37,8 @@ impl End {
         match self {
             End::Unasked(error) => word_status(error.kind()),
             End::AtTerminal | End::EmptyKey => 64,
-            // There may be no cells: of a small object a share may be empty.
-            End::Sent { cells, lost } => u8::from(all_lost(*cells, *lost)),
+            // There may be no cells: of small parts a share may be empty.
+            End::Sent(sent) => u8::from(all_lost(sent.cells, sent.lost)),
             End::Received(Ok(ending), _) => ending_status(*ending),
             End::Received(Err(stop), _) => stop_status(*stop),
             End::Surveyed(standings) => if standings.is_empty() { 2 } else { 0 },
@@ -63,9 +58,9 @@ fn word_status(kind: ErrorKind) -> u8
     }
 }
 
-/// Whether nobody seems to have listened. That nobody takes a datagram is said at the next call, which sends
-/// nothing. So of cells that are all lost each second one is refused, half of them rounded down, and no more
-/// can be. One that is sent alone is never known to be lost, and of an odd number one may have come.
+/// Whether all may be lost. That nobody takes a datagram is said at the next call, which sends nothing. So of
+/// cells that nobody takes each second one is refused, half of them rounded down, and no more can be. One that
+/// is sent alone is never known to be lost, and of an odd number one may have come.
 pub(crate) fn all_lost(cells: u64, lost: u64) -> bool
     ensures { result ≡ all_lost cells lost }
 {

@@ -2,8 +2,8 @@
 
 use crate::ending::{End, all_lost};
 use raptorq::error::Error;
-use rq_cast::{Ending, Sender, Standing};
-use rq_cells::Head;
+use rq_cast::{Ending, Seen, Sender, Sent, Standing};
+use rq_cells::{Head, LAST_PART};
 use rq_streams::Stop;
 use std::io;
 use std::io::Write;
@@ -16,9 +16,9 @@ fn write_name<W: Write>(head: &Head, out: &mut W) -> io::Result<()> {
     Ok(())
 }
 
-// How many bytes a stream has whose only part has this head: a seal ends its object.
-fn length_of(head: &Head) -> u64 {
-    head.configuration.transfer_length().saturating_sub(32)
+// How many bytes a stream has, where this is the head of its only part: a seal ends its object.
+fn length_of(head: &Head) -> Option<u64> {
+    (head.number == LAST_PART).then(|| head.configuration.transfer_length().saturating_sub(32))
 }
 
 // So many packets.
@@ -26,10 +26,18 @@ fn counted(packets: u64) -> &'static str {
     if packets == 1 { "packet" } else { "packets" }
 }
 
-/// Writes what stands before the first cell: the stream's name in 16 hexadecimal digits, how many blocks there
-/// are, how many source symbols the largest has, and how many cells are sent; in three lines, or in one of
-/// JSON.
-pub fn announce<W: Write>(sender: &Sender, json: bool, out: &mut W) -> io::Result<()> {
+// Writes that so many parts came.
+fn write_parts<W: Write>(parts: u32, out: &mut W) -> io::Result<()> {
+    match parts {
+        1 => write!(out, "1 part is whole, and "),
+        _ => write!(out, "{parts} parts are whole, and "),
+    }
+}
+
+/// Writes what stands before the first cell: the stream's name in 16 hexadecimal digits, how many blocks its
+/// first part has, how many source symbols the largest of them, and how many cells of it are sent; in three
+/// lines, or in one of JSON.
+pub fn announce<W: Write>(sender: &Sender<'_>, json: bool, out: &mut W) -> io::Result<()> {
     let head = sender.head();
     let blocks = head.configuration.source_blocks();
     let symbols = sender.largest_block();
@@ -47,46 +55,60 @@ pub fn announce<W: Write>(sender: &Sender, json: bool, out: &mut W) -> io::Resul
     writeln!(out, "\nblocks {blocks} of {symbols}\ncells {cells}")
 }
 
-// Writes what its cells determine of a stream, and whether it was begun anew, as some are forged.
-fn write_standing<W: Write>(standing: &Standing, out: &mut W) -> io::Result<()> {
-    let bytes = length_of(&standing.head);
-    write_name(&standing.head, out)?;
-    match standing.ended {
-        Ok(Ending::Written) => writeln!(out, " {bytes} bytes, whole"),
-        Ok(Ending::Incomplete { missing }) => {
-            let missing = missing.unwrap_or(0);
-            let packets = counted(missing);
-            let forged = if standing.seen.restarted > 0 {
-                ", some forged"
-            } else {
-                ""
-            };
-            writeln!(out, " {bytes} bytes, lacks {missing} {packets}{forged}")
-        }
-        Err(_) => writeln!(out, " {bytes} bytes, not looked through"),
+// Writes how many bytes the only part of a stream has, or those parts that came.
+fn write_extent<W: Write>(standing: &Standing, parts: u32, out: &mut W) -> io::Result<()> {
+    if let Some(bytes) = length_of(&standing.head) {
+        return write!(out, " {bytes} bytes");
     }
+    let bytes = standing.bytes;
+    match parts {
+        1 => write!(out, " {bytes} bytes of 1 part"),
+        _ => write!(out, " {bytes} bytes of {parts} parts"),
+    }
+}
+
+// Writes what its cells determine of a stream, and whether a part was begun anew, as some are forged.
+fn write_standing<W: Write>(standing: &Standing, out: &mut W) -> io::Result<()> {
+    write_name(&standing.head, out)?;
+    let Ending::Incomplete { parts, missing } = standing.ended else {
+        let bytes = standing.bytes;
+        return writeln!(out, " {bytes} bytes, whole");
+    };
+    write_extent(standing, parts, out)?;
+    match missing {
+        Some(missing) => write!(out, ", lacks {missing} {}", counted(missing))?,
+        None => write!(out, ", lacks all")?,
+    }
+    if length_of(&standing.head).is_none() {
+        write!(out, " of the next")?;
+    }
+    if standing.seen.restarted > 0 {
+        write!(out, ", some forged")?;
+    }
+    writeln!(out, "")
 }
 
 // Writes the same as JSON.
 fn write_standing_json<W: Write>(standing: &Standing, out: &mut W) -> io::Result<()> {
-    let bytes = length_of(&standing.head);
+    let bytes = length_of(&standing.head).unwrap_or(standing.bytes);
     write!(out, "{{\"name\":\"")?;
     write_name(&standing.head, out)?;
     write!(out, "\",\"bytes\":{bytes}")?;
     match standing.ended {
-        Ok(Ending::Written) => write!(out, ",\"missing\":0")?,
-        Ok(Ending::Incomplete { missing }) => {
-            let missing = missing.unwrap_or(0);
-            write!(out, ",\"missing\":{missing}")?;
+        Ending::Written => write!(out, ",\"missing\":0")?,
+        Ending::Incomplete { parts, missing } => {
+            write!(out, ",\"parts\":{parts}")?;
+            if let Some(missing) = missing {
+                write!(out, ",\"missing\":{missing}")?;
+            }
         }
-        Err(_) => {}
     }
     let restarted = standing.seen.restarted;
     writeln!(out, ",\"restarted\":{restarted}}}")
 }
 
-/// Writes a line for each stream: its name, how many bytes it has, and whether it's whole; as words, or as
-/// JSON.
+/// Writes a line for each stream: its name, how many bytes it has, or its first parts where it has several and
+/// isn't whole, and what it lacks; as words, or as JSON.
 pub fn write_standings<W: Write>(
     standings: &[Standing],
     json: bool,
@@ -105,32 +127,54 @@ pub fn write_standings<W: Write>(
 // Why something is refused, and what to do.
 fn reason_of(refusal: Error) -> &'static str {
     match refusal {
-        Error::TransferTooLong => "more than 942574504243 bytes can't be sent: send them in parts",
+        Error::TransferTooLong => "a stream has at most 1073741824 parts: take a greater --part",
         Error::TooManyBlocks => {
-            "the input is too long for cells of this size: take a greater --cell"
+            "a part is too long for cells of this size: take a greater --cell, or a smaller --part"
         }
-        Error::OutOfMemory => "there is too little memory: send the input in parts",
+        Error::OutOfMemory => {
+            "there is too little memory: take a smaller --part for sending, and --window for receiving"
+        }
         _ => "the input is refused",
     }
 }
 
-// Says how a run ended that wrote nothing.
-fn write_ending<W: Write>(ending: Ending, out: &mut W) -> io::Result<()> {
-    match ending {
-        Ending::Written => Ok(()),
-        Ending::Incomplete {
-            missing: Some(missing),
-        } => {
-            let packets = counted(missing);
-            writeln!(
-                out,
-                "rqcast: it takes {missing} more {packets}: keep the cells, and have others sent by a greater --repair and --from"
-            )
-        }
-        Ending::Incomplete { missing: None } => {
-            writeln!(out, "rqcast: no cell came of what is wanted")
-        }
+// Says what is missing of a stream of which so many parts came.
+fn write_missing<W: Write>(
+    parts: u32,
+    missing: Option<u64>,
+    seen: &Seen,
+    out: &mut W,
+) -> io::Result<()> {
+    write!(out, "rqcast: ")?;
+    if parts > 0 {
+        write_parts(parts, out)?;
     }
+    let next = if parts > 0 { "the next one" } else { "it" };
+    match missing {
+        Some(missing) => writeln!(
+            out,
+            "{next} takes {missing} more {}: keep the cells, and have others sent by a greater --repair and --from",
+            counted(missing)
+        ),
+        None if parts > 0 => writeln!(out, "no cell came of the next one"),
+        None if seen.cells > 0 => writeln!(out, "no cell came of the first part"),
+        None => writeln!(out, "no cell came of what is wanted"),
+    }
+}
+
+// Says how a run ended that didn't write all, and what may help.
+fn write_ending<W: Write>(ending: Ending, seen: &Seen, out: &mut W) -> io::Result<()> {
+    let Ending::Incomplete { parts, missing } = ending else {
+        return Ok(());
+    };
+    if seen.ahead > 0 {
+        let (ahead, noun) = (seen.ahead, if seen.ahead == 1 { "cell" } else { "cells" });
+        writeln!(
+            out,
+            "rqcast: {ahead} {noun} came of parts beyond the window: --window keeps more of them"
+        )?;
+    }
+    write_missing(parts, missing, seen, out)
 }
 
 // Says what stopped a run. Why a call failed the devices know.
@@ -157,18 +201,18 @@ pub fn write_end<W: Write>(end: &End, out: &mut W) -> io::Result<()> {
             out,
             "rqcast: the key is empty: take a file of some bytes, as 32 of /dev/urandom"
         ),
-        End::Sent { cells, .. } if *cells == 0 => writeln!(
+        End::Sent(sent) if sent.cells == 0 => writeln!(
             out,
             "rqcast: no cell is sent: --from and --share begin behind the last id"
         ),
-        End::Sent { cells, lost } if all_lost(*cells, *lost) => {
+        End::Sent(Sent { cells, lost, .. }) if all_lost(*cells, *lost) => {
             writeln!(
                 out,
-                "rqcast: all {cells} cells seem to be lost: nobody listened there"
+                "rqcast: at least {lost} of {cells} cells were lost: nobody listened there, or the network was down"
             )
         }
-        End::Sent { .. } => Ok(()),
-        End::Received(Ok(ending), _) => write_ending(*ending, out),
+        End::Sent(_) => Ok(()),
+        End::Received(Ok(ending), seen) => write_ending(*ending, seen, out),
         End::Received(Err(stop), _) => write_stop(*stop, out),
         End::Surveyed(standings) if standings.is_empty() => {
             writeln!(out, "rqcast: no cell is there")

@@ -1,24 +1,40 @@
 //! The program from its words to its end, over any devices.
-ghost use Rattle.std.specs.Prelude.{◌≡◌, ◌⊎◌, ℕ, ◌+◌, ◌<◌, map, option_map, Ok, Err, IfOk, IfErr};
+ghost use Rattle.std.specs.Prelude.{◌≡◌, ◌⊎◌, ℕ, ◌+◌, ◌<◌, map, option_map, Ok, Err, IfOk, IfErr, IfSome};
 ghost use Rattle.rq_streams.specs.Ends.{failed_calls};
-ghost use Rattle.rq_cast.specs.Sent.{sending_of};
 ghost use Rattle.rq_command.specs.Failed.{Fails};
 ghost use Rattle.rq_command.specs.Keyed.{key_file, IsKeyRead};
 ghost use Rattle.rq_command.specs.Placed.{is_whole, IsPlaced};
-ghost use Rattle.rq_command.specs.Program.{StopsReading, StopsJob, Prepares, EndsJob, end_of, Does, FailsReceiving, Failures};
+ghost use Rattle.rq_command.specs.Program.{StopsReading, StopsJob, MindsTerminal, EndsSending, EndsJob, end_of, Does, FailsReceiving, Failures};
 
 use crate::devices::{Devices, Teller};
 use crate::ending::End;
 use crate::told::Told;
-use rq_cast::{
-    Ending, Input, Output, Seen, Sender, check_length, read_sender, run_receive, standings_in,
-};
+use rq_cast::{Ending, Input, Output, Seen, check_length, run_receive, send_stream, standings_in};
 use rq_cells::{Key, Wanted};
 use rq_rows::full_table;
 use rq_streams::{Counted, Stop, read_all};
-use rq_words::{InfoJob, Job, ReceiveJob, SendJob, job};
+use rq_words::{InfoJob, Job, ReceiveJob, SendJob, WIDEST_WINDOW, job};
 use std::alloc::Global;
 use std::convert::AsStr;
+use std::io::Read;
+
+// All bytes of a reader, whose failed calls are counted.
+fn read_whole<'w, D: Devices<'w>, R: Read + Drop>(
+    alloc: Global,
+    devices: &mut D,
+    reader: R,
+) -> Result<Vec<u8>, Stop>
+    ensures bytes { IfOk result (λ v. IfSome (R.remaining reader) (λ input. v.items ≡ input)) }
+    ensures stops { IfErr result StopsReading }
+    ensures counts { Fails (D.failed devices.old) (D.failed devices.new) (failed_calls result) }
+    ensures stays { D.stands devices.new ≡ D.stands devices.old }
+    ensures kept { D.placed devices.new ≡ D.placed devices.old }
+{
+    let mut input = Counted::new(reader);
+    let read = read_all(alloc, &mut input);
+    devices.count(&input);
+    read
+}
 
 // The key that a file has, all of whose bytes it is; none where there are none. Without a file it is that of
 // cells by no key.
@@ -37,26 +53,24 @@ fn key_of<'w, D: Devices<'w>>(
         return Ok(Some(Key::none()));
     };
     let reader = devices.open(Vec::from_slice(alloc, &[file])?)?;
-    let mut input = Counted::new(reader);
-    let read = read_all(alloc, &mut input);
-    devices.count(&input);
-    let bytes = read?;
+    let bytes = read_whole(alloc, devices, reader)?;
     if bytes.is_empty() {
         return Ok(None);
     }
     Ok(Some(Key::new(bytes)))
 }
 
-// Reads an object to its end, and makes its sender; none where the key is empty. A length that is known is
-// checked before that.
+// Reads the key, and opens what is sent; none where the key is empty. A length that is known is checked before
+// a byte of that is read.
 fn prepare<'w, D: Devices<'w>, T: Teller>(
     alloc: Global,
     job: SendJob<'w>,
     devices: &mut D,
     teller: &mut T,
-) -> Result<Option<Sender>, Stop>
-    requires step { 0 < job.order.ids.step }
-    ensures prepared { IfOk result (λ s. Prepares job.entry (D.stands devices.old) (option_map sending_of s)) }
+) -> Result<Option<(Key, D::Reader)>, Stop>
+    requires { 0 < job.order.part }
+    ensures key { IfOk result (λ r. IsKeyRead (key_file (D.stands devices.old) (option_map (λ s. s.now) job.entry.key)) (option_map (λ o. o.0) r)) }
+    ensures bytes { IfOk result (λ r. IfSome r (λ o. D.Reader.remaining o.1 ≡ D.stands devices.old (map (λ s. s.now) job.entry.files.items))) }
     ensures stops { IfErr result (StopsJob job.entry (D.stands devices.old)) }
     ensures counts { Fails (D.failed devices.old) (D.failed devices.new) (failed_calls result) }
     ensures kept { D.placed devices.new ≡ D.placed devices.old }
@@ -74,43 +88,42 @@ fn prepare<'w, D: Devices<'w>, T: Teller>(
     let length = devices.length(&reader);
     teller.begin(telling, order.ids.rate, length);
     if let Some(length) = length {
-        check_length(alloc, length, order.symbol_size)?;
+        check_length(alloc, &order, length)?;
     }
-    let mut input = Counted::new(Told::new(reader, teller));
-    let prepared = read_sender(alloc, &order, key, &mut input);
-    devices.count(&input);
-    Ok(Some(prepared?))
+    Ok(Some((key, reader)))
 }
 
-// Sends an object. Nothing is read where its cells would go to a terminal.
+// Sends a stream part by part. Nothing is read where its cells would go to a terminal.
+#[tactic(auto, using(crate::proofs::Doing::minds))]
 fn send<'w, D: Devices<'w>, T: Teller>(
     alloc: Global,
     job: SendJob<'w>,
     devices: &mut D,
     teller: &mut T,
 ) -> Result<End, Stop>
-    requires { 0 < job.order.ids.step }
-    ensures does { EndsJob (Job.Send job.entry) (D.stands devices.old) D.blank (end_of result) (D.placed devices.old) (D.placed devices.new) }
+    requires part { 0 < job.order.part }
+    requires step { 0 < job.order.ids.step }
+    ensures terminal { MindsTerminal (D.terminal devices.old) (end_of result) }
+    ensures does { EndsSending job.entry (D.stands devices.old) D.blank (end_of result) (D.placed devices.old) (D.placed devices.new) }
     ensures failures { Failures (end_of result) (D.failed devices.old) (D.failed devices.new) }
 {
     if devices.shows_output() {
         return Ok(End::AtTerminal);
     }
-    let Some(sender) = prepare(alloc, job, devices, teller)? else {
+    let order = job.order;
+    let Some((key, reader)) = prepare(alloc, job, devices, teller)? else {
         return Ok(End::EmptyKey);
     };
-    teller.announce(&sender);
     let mut output = Output::new(Counted::new(devices.create(None)?));
-    let sent = sender.send(alloc, &mut output, teller);
+    let mut input = Counted::new(reader);
+    let sent = send_stream(alloc, &order, &key, &mut input, &mut output, teller);
+    devices.count(&input);
     let counted = output.into_counted();
     devices.count(&counted);
     let finished = devices.finish(None, counted.into_inner(), sent.is_ok());
-    let lost = sent?;
+    let sent = sent?;
     finished?;
-    Ok(End::Sent {
-        cells: sender.cells(),
-        lost,
-    })
+    Ok(End::Sent(sent))
 }
 
 // Whether all is written.
@@ -147,11 +160,14 @@ fn receive<'w, D: Devices<'w>, T: Teller>(
     devices: &mut D,
     teller: &mut T,
 ) -> Result<End, Stop>
-    ensures does { EndsJob (Job.Receive job.entry) (D.stands devices.old) D.blank (end_of result) (D.placed devices.old) (D.placed devices.new) }
+    requires { 0 < job.window }
+    ensures does { EndsJob (Job.Receive job.entry) (D.terminal devices.old) (D.stands devices.old) D.blank (end_of result)
+        (D.placed devices.old) (D.placed devices.new) }
     ensures failures { Failures (end_of result) (D.failed devices.old) (D.failed devices.new) }
 {
     let ReceiveJob {
         name,
+        window,
         key,
         output,
         files,
@@ -171,21 +187,30 @@ fn receive<'w, D: Devices<'w>, T: Teller>(
     let mut writer = Counted::new(devices.create(output)?);
     let mut input = Input::new(Counted::new(reader));
     let mut seen = Seen::default();
-    let ended = run_receive(alloc, &wanted, &mut input, &mut writer, &mut seen, teller);
+    let ended = run_receive(
+        alloc,
+        &wanted,
+        window,
+        &mut input,
+        &mut writer,
+        &mut seen,
+        teller,
+    );
     devices.count(&input.into_counted());
     devices.count(&writer);
     let ended = place(devices, output, writer.into_inner(), ended);
     Ok(End::Received(ended, seen))
 }
 
-// Lists the streams whose cells stand among bytes.
+// Lists the streams whose cells stand among bytes, by the widest window.
 fn info<'w, D: Devices<'w>, T: Teller>(
     alloc: Global,
     job: InfoJob<'w>,
     devices: &mut D,
     teller: &mut T,
 ) -> Result<End, Stop>
-    ensures does { EndsJob (Job.Info job.entry) (D.stands devices.old) D.blank (end_of result) (D.placed devices.old) (D.placed devices.new) }
+    ensures does { EndsJob (Job.Info job.entry) (D.terminal devices.old) (D.stands devices.old) D.blank (end_of result)
+        (D.placed devices.old) (D.placed devices.new) }
     ensures failures { Failures (end_of result) (D.failed devices.old) (D.failed devices.new) }
 {
     let InfoJob {
@@ -199,11 +224,9 @@ fn info<'w, D: Devices<'w>, T: Teller>(
     let table = full_table(alloc)?;
     let reader = devices.open(files)?;
     teller.begin(telling, None, devices.length(&reader));
-    let mut input = Counted::new(Told::new(reader, teller));
-    let read = read_all(alloc, &mut input);
-    devices.count(&input);
-    let bytes = read?;
-    let standings = standings_in(alloc, &table, &key, bytes.as_slice())?;
+    let bytes = read_whole(alloc, devices, Told::new(reader, teller))?;
+    let bytes = bytes.as_slice();
+    let standings = standings_in(alloc, &table, &key, WIDEST_WINDOW, bytes)?;
     Ok(End::Surveyed(standings))
 }
 
@@ -217,8 +240,8 @@ fn end_of(ended: Result<End, Stop>) -> End
     }
 }
 
-/// The program from the words after its name to its end: [`job`] says what they ask for, and [`read_sender`]
-/// and [`Sender::send`], [`run_receive`] or [`standings_in`] does it, over all rows.
+/// The program from the words after its name to its end: [`job`] says what they ask for, and [`send_stream`],
+/// [`run_receive`] or [`standings_in`] does it, over all rows.
 ///
 /// Words that ask for no job read and write nothing. Of a job with a key the file of that is read first, and
 /// where it is empty nothing else is done. A file is put in its place only where the run has written all of
@@ -230,7 +253,8 @@ pub fn run<'w, S: AsStr, D: Devices<'w>, T: Teller>(
     teller: &mut T,
 ) -> End
     // What the words ask for is done, and nothing where they are refused.
-    ensures does { Does (map S.text words.entry.now) (D.stands devices.old) D.blank result (D.placed devices.old) (D.placed devices.new) }
+    ensures does { Does (map S.text words.entry.now) (D.terminal devices.old) (D.stands devices.old) D.blank result
+        (D.placed devices.old) (D.placed devices.new) }
 
     // A failed call ends the run, and nothing else is a fault.
     ensures failures { Failures result (D.failed devices.old) (D.failed devices.new) }

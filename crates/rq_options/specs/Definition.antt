@@ -35,18 +35,20 @@ abbrev pub with_common : App → App
 with_common a = with_rule (with_rule (with_rule (with_rule a (with_letter 107 (value_rule (codes "key")))) (with_letter 113 (flag_rule (codes "quiet"))))
     (flag_rule (codes "progress"))) (flag_rule (codes "json"))
 
--- the options that say which packets are sent
+-- the options that say what a part is, and which packets are sent of it
 abbrev pub with_repair : App → App
-with_repair a = with_rule (with_rule (with_rule a (with_default (codes "1472") (with_letter 99 (value_rule (codes "cell")))))
-    (with_letter 108 (value_rule (codes "loss")))) (with_letter 114 (value_rule (codes "repair")))
+with_repair a = with_rule (with_rule (with_rule (with_rule a (with_default (codes "16M") (value_rule (codes "part"))))
+    (with_default (codes "1472") (with_letter 99 (value_rule (codes "cell"))))) (with_letter 108 (value_rule (codes "loss"))))
+    (with_letter 114 (value_rule (codes "repair")))
 
 -- the options that say which ids are sent, and how fast
 abbrev pub with_ids : App → App
 with_ids a = with_rule (with_rule (with_rule a (value_rule (codes "rate"))) (value_rule (codes "share"))) (with_default (codes "0") (value_rule (codes "from")))
 
--- the options that say which object is received, and where to
+-- the options that say which stream is received, where to, and by what window
 abbrev pub with_places : App → App
-with_places a = with_rule (with_rule a (with_letter 111 (value_rule (codes "output")))) (value_rule (codes "name"))
+with_places a = with_rule (with_rule (with_rule a (with_letter 111 (value_rule (codes "output")))) (value_rule (codes "name")))
+    (with_default (codes "2") (value_rule (codes "window")))
 
 unfoldable pub send_app : App
 send_app = with_rule (with_common (with_ids (with_repair (subcommand_app (codes "send"))))) file_rule

@@ -103,27 +103,34 @@ fn common<'a>(alloc: Global, command: Command<'a>) -> Result<Command<'a>, AllocE
     added(three, json)
 }
 
-// The options that say which packets `send` sends.
+// The options that say what a part is, and which packets `send` sends of it.
 fn repaired<'a>(alloc: Global, command: Command<'a>) -> Result<Command<'a>, AllocError>
     ensures app { IfOk result (λ c. app_of c ≡ with_repair (app_of command.entry)) }
     ensures local { IfOk result (λ c. (out-Command c).has_globals ≡ (out-Command command.entry).has_globals) }
 {
+    let part = value(
+        alloc,
+        "part",
+        "BYTES",
+        "How many bytes are read and sent as a part",
+    );
+    let one = added(command, part.default_value("16M"))?;
     let cell = value(alloc, "cell", "BYTES", "The most bytes of a cell");
-    let one = added(command, cell.short('c').default_value("1472"))?;
+    let two = added(one, cell.short('c').default_value("1472"))?;
     let loss = value(
         alloc,
         "loss",
         "PERCENT",
         "The loss in percent to live through, as 5 or 0.5 [default: 5]",
     );
-    let two = added(one, loss.short('l'))?;
+    let three = added(two, loss.short('l'))?;
     let repair = value(
         alloc,
         "repair",
         "N|N%|all",
         "Repair packets a block, in place of --loss",
     );
-    added(two, repair.short('r'))
+    added(three, repair.short('r'))
 }
 
 // The options that say which ids `send` sends, and how fast.
@@ -167,7 +174,14 @@ fn placed<'a>(alloc: Global, command: Command<'a>) -> Result<Command<'a>, AllocE
         "HEX",
         "What `send` printed as name, or its beginning",
     );
-    added(one, name)
+    let two = added(one, name)?;
+    let window = value(
+        alloc,
+        "window",
+        "PARTS",
+        "How many parts are kept at once, from the first missing one on",
+    );
+    added(two, window.default_value("2"))
 }
 
 /// `send`, with its options.
@@ -198,7 +212,7 @@ pub(crate) fn info<'a>(alloc: Global) -> Result<Command<'a>, AllocError>
     ensures app { IfOk result (λ c. app_of c ≡ info_app) }
     ensures local { IfOk result (λ c. (out-Command c).has_globals ≡ false) }
 {
-    let about = "Lists the objects whose cells stand among any bytes, and what they lack";
+    let about = "Lists the streams whose cells stand among any bytes, and what they lack";
     let common = common(alloc, subcommand(alloc, "info", about)?)?;
     added(common, cells(alloc))
 }

@@ -20,7 +20,7 @@ use Rattle.rq_words.specs.declared.jobs.ReceiveJob.{ReceiveJob}
 use Rattle.rq_words.specs.declared.jobs.InfoJob.{InfoJob}
 use Rattle.rq_words.specs.declared.jobs.Job.{Job}
 use Rattle.rq_words.specs.declared.jobs.Job.TheVariants.{Send, Receive, Info}
-use Rattle.rq_words.specs.Values.{symbol_size_of, loss_of, repair_of, rate_of, id_of, share_of, name_of}
+use Rattle.rq_words.specs.Values.{part_of, window_of, symbol_size_of, loss_of, repair_of, rate_of, id_of, share_of, name_of}
 
 -- What is asked for, or the kind of its refusal: the first one in the order in which the options are read.
 abbrev pub Asked : Type 0 → Type 0
@@ -48,6 +48,9 @@ both (Ok x) (Err kind) = Err kind
 both (Ok x) (Ok y) = Ok (x, y)
 
 -- ---- send
+
+unfoldable pub part_asked : List Row → Asked ℕ
+part_asked rows = valued (part_of (text_or rows (codes "part") []))
 
 unfoldable pub symbol_size_asked : List Row → Asked ℕ
 symbol_size_asked rows = valued (symbol_size_of (text_or rows (codes "cell") []))
@@ -90,11 +93,13 @@ ids_asked rows = and_then (rate_asked rows) (λ rate. and_then (share_asked rows
 }))))
 
 unfoldable pub order_asked : List Row → Asked Order
-order_asked rows = and_then (symbol_size_asked rows) (λ size. and_then (repair_asked rows) (λ repair. and_then (ids_asked rows) (λ ids. Ok (record {
-  symbol_size = size;
-  repair = repair;
-  ids = ids;
-}))))
+order_asked rows = and_then (part_asked rows) (λ part. and_then (symbol_size_asked rows) (λ size.
+    and_then (repair_asked rows) (λ repair. and_then (ids_asked rows) (λ ids. Ok (record {
+      part = part;
+      symbol_size = size;
+      repair = repair;
+      ids = ids;
+    })))))
 
 -- ---- what all have
 
@@ -123,9 +128,16 @@ name_by (Some text) = valued (name_of text)
 unfoldable pub name_asked : List Row → Asked (List ℕ)
 name_asked rows = name_by (first_of (codes "name") rows)
 
--- what is received, and what is told
-abbrev pub receive_asked : List Row → Asked (List ℕ × Telling)
-receive_asked rows = both (name_asked rows) (telling_asked rows)
+unfoldable pub window_asked : List Row → Asked ℕ
+window_asked rows = valued (window_of (text_or rows (codes "window") []))
+
+-- how many parts are kept, and what is told
+abbrev pub receiving_asked : List Row → Asked (ℕ × Telling)
+receiving_asked rows = both (window_asked rows) (telling_asked rows)
+
+-- and what is received
+abbrev pub receive_asked : List Row → Asked (List ℕ × (ℕ × Telling))
+receive_asked rows = both (name_asked rows) (receiving_asked rows)
 
 pub record IsSendOf (rows : List Row) (job : SendJob) : Type 0 where
   pub asked_for : send_asked rows ≡ Ok (job.order, job.telling)
@@ -133,7 +145,7 @@ pub record IsSendOf (rows : List Row) (job : SendJob) : Type 0 where
   pub files : map (λ s. s.now) job.files.items ≡ texts_of rows (codes "file")
 
 pub record IsReceiveOf (rows : List Row) (job : ReceiveJob) : Type 0 where
-  pub asked_for : receive_asked rows ≡ Ok (job.name.items, job.telling)
+  pub asked_for : receive_asked rows ≡ Ok (job.name.items, (job.window, job.telling))
   pub key : option_map (λ s. s.now) job.key ≡ first_of (codes "key") rows
   pub output : option_map (λ s. s.now) job.output ≡ first_of (codes "output") rows
   pub files : map (λ s. s.now) job.files.items ≡ texts_of rows (codes "cells")
@@ -159,6 +171,12 @@ abbrev pub StepsOn : Job → Type 0
 StepsOn (Send job) = 0 < job.order.ids.step
 StepsOn (Receive job) = ⊤
 StepsOn (Info job) = ⊤
+
+-- a part has bytes, and a window parts
+abbrev pub HasParts : Job → Type 0
+HasParts (Send job) = 0 < job.order.part
+HasParts (Receive job) = 0 < job.window
+HasParts (Info job) = ⊤
 
 -- ---- words that ask for nothing
 

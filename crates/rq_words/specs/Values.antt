@@ -5,11 +5,24 @@ use Rattle.std.specs.Str.{bytes_eq}
 use Rattle.hex.specs.Hex.{decode_of}
 use Rattle.hex.specs.declared.error.FromHexError.{FromHexError}
 use Rattle.hex.specs.declared.error.FromHexError.TheVariants.{OutOfMemory}
+use Rattle.rq_base.specs.RefusedInput.{greatest_transfer_length}
 use Rattle.rq_cells.specs.Cells.{greatest_cell_size}
 use Rattle.rq_cast.specs.declared.loss.Loss.{Loss}
 use Rattle.rq_cast.specs.declared.series.Repair.{Repair}
 use Rattle.rq_cast.specs.declared.series.Repair.TheVariants.{Packets, Share, All}
 use Rattle.rq_words.specs.Numbers.{fitting, scaled_of, count_of, last, without_last, has, before, behind}
+
+-- a number from 1 to a greatest one
+unfoldable pub up_to : ℕ → List ℕ → Option ℕ
+up_to most text = option_and_then (λ n. if nat_lt 0 n && nat_le n most then Some n else None) (count_of text)
+
+-- the bytes of a part: with the 32 of a seal it is no longer than an object may be
+unfoldable pub part_of : List ℕ → Option ℕ
+part_of text = up_to (greatest_transfer_length - 32) text
+
+-- the parts of a window
+unfoldable pub window_of : List ℕ → Option ℕ
+window_of text = up_to 1024 text
 
 -- the most bytes of a symbol, where a cell has as many as a text says: 64 of them are no symbol
 unfoldable pub symbol_size_of : List ℕ → Option ℕ

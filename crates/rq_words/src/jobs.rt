@@ -16,7 +16,7 @@ pub enum Telling {
     Json,
 }
 
-/// How an object is sent.
+/// How a stream is sent.
 #[derive(Debug, PartialEq, Eq, Drop)]
 pub struct SendJob<'a> {
     /// Which cells are sent, and how fast.
@@ -29,11 +29,13 @@ pub struct SendJob<'a> {
     pub telling: Telling,
 }
 
-/// Which object is received.
+/// Which stream is received.
 #[derive(Debug, PartialEq, Eq, Drop)]
 pub struct ReceiveJob<'a> {
     /// How the stream's name begins: any does where there are no bytes.
     pub name: Vec<u8>,
+    /// How many parts are kept at once, from the first one on that isn't written: not 0.
+    pub window: u32,
     /// The file whose bytes are the key that its cells are made by, where there is one.
     pub key: Option<&'a str>,
     /// The file that it becomes, or none for standard output.
@@ -58,10 +60,10 @@ pub struct InfoJob<'a> {
 /// What the program is asked to do.
 #[derive(Debug, PartialEq, Eq, Drop)]
 pub enum Job<'a> {
-    /// Sends an object.
+    /// Sends a stream.
     Send(SendJob<'a>),
-    /// Receives an object.
+    /// Receives a stream.
     Receive(ReceiveJob<'a>),
-    /// Lists the objects whose cells stand among bytes.
+    /// Lists the streams whose cells stand among bytes.
     Info(InfoJob<'a>),
 }

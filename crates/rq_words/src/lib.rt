@@ -7,4 +7,5 @@ mod values;
 mod words;
 
 pub use jobs::{InfoJob, Job, ReceiveJob, SendJob, Telling};
+pub use values::WIDEST_WINDOW;
 pub use words::job;

@@ -1,12 +1,18 @@
 //! What the values of options say.
-ghost use Rattle.std.specs.Prelude.{◌≡◌, ◌<◌, option_map, IfOk, IfSome};
-ghost use Rattle.rq_words.specs.Values.{symbol_size_of, percent_of, packets_of, loss_of, repair_of, rate_of, id_of, share_of, sized, is_refused, name_of};
+ghost use Rattle.std.specs.Prelude.{◌≡◌, ◌<◌, ◌≤◌, option_map, IfOk, IfSome};
+ghost use Rattle.rq_words.specs.Values.{up_to, part_of, window_of, symbol_size_of, percent_of, packets_of, loss_of, repair_of, rate_of, id_of, share_of, sized, is_refused, name_of};
 
 use crate::numbers::{count, scaled};
 use hex::FromHexError;
 use raptorq::base::ENCODING_SYMBOL_IDS;
 use rq_cast::{Loss, Repair};
 use std::alloc::{AllocError, Global};
+
+// How many bytes a part has at most: with the seal of the last one an object has no more.
+const LONGEST_PART: u64 = 942_574_504_243;
+
+/// How many parts a window has at most.
+pub const WIDEST_WINDOW: u32 = 1024;
 
 // How many bytes a cell has beside its symbol, and at most.
 const BESIDE_SYMBOL: u64 = 64;
@@ -18,6 +24,37 @@ const GREATEST_LOSS: u32 = 50_000;
 
 // How many bytes name a stream.
 const LONGEST_NAME: usize = 8;
+
+// A number from 1 to a greatest one.
+#[tactic(auto, using(std::proofs::lemmas::Bool::Decides::nat_tests), unfolding(crate::specs::Values::up_to))]
+fn up_to(most: u64, text: &str) -> Option<u64>
+    ensures value { result ≡ up_to most text.now }
+    ensures some { IfSome result (λ n. 0 < n) }
+    ensures most { IfSome result (λ n. n ≤ most) }
+{
+    match count(text) {
+        Some(n) if n > 0 && n <= most => Some(n),
+        _ => None,
+    }
+}
+
+/// How many bytes a part has: not 0, and at most so many as an object has without a seal.
+#[tactic(auto, unfolding(crate::specs::Values::part_of))]
+pub(crate) fn part(text: &str) -> Option<u64>
+    ensures value { result ≡ part_of text.now }
+    ensures some { IfSome result (λ bytes. 0 < bytes) }
+{
+    up_to(LONGEST_PART, text)
+}
+
+/// How many parts a window has, from 1 to 1024.
+#[tactic(auto, unfolding(crate::specs::Values::window_of))]
+pub(crate) fn window(text: &str) -> Option<u32>
+    ensures value { result ≡ window_of text.now }
+    ensures some { IfSome result (λ parts. 0 < parts) }
+{
+    Some(up_to(u64::from(WIDEST_WINDOW), text)? as u32)
+}
 
 /// The most bytes of a symbol, where a cell has as many as a text says: from 65 to 65599.
 #[tactic(auto, using(std::proofs::lemmas::Bool::Decides::nat_tests), unfolding(crate::specs::Values::symbol_size_of))]

@@ -3,7 +3,7 @@ ghost use Rattle.std.specs.Prelude.{◌≡◌, ◌<◌, map, option_map, IfOk, I
 ghost use Rattle.std.specs.Result.{result_map_both};
 ghost use Rattle.clap.specs.Words.{FailsBy, found_of, kind_of, rows_of};
 ghost use Rattle.rq_words.specs.Values.{loss_of, repair_of};
-ghost use Rattle.rq_words.specs.Asked.{asked, kinds_of, valued, symbol_size_asked, repair_asked, rate_asked, share_asked, from_asked, ids_asked, order_asked, telling_asked, send_asked, name_asked, receive_asked, IsSendOf, IsReceiveOf, IsInfoOf, AsksFor, StepsOn, IsRefused};
+ghost use Rattle.rq_words.specs.Asked.{asked, kinds_of, valued, part_asked, symbol_size_asked, repair_asked, rate_asked, share_asked, from_asked, ids_asked, order_asked, telling_asked, send_asked, name_asked, window_asked, receiving_asked, receive_asked, IsSendOf, IsReceiveOf, IsInfoOf, AsksFor, StepsOn, HasParts, IsRefused};
 
 use crate::jobs::{InfoJob, Job, ReceiveJob, SendJob, Telling};
 use crate::values;
@@ -17,6 +17,20 @@ use std::convert::AsStr;
 
 // The loss that is lived through where no word says one.
 const USUAL_LOSS: &str = "5";
+
+// How many bytes a part has.
+#[tactic(auto, unfolding(crate::specs::Asked::part_asked))]
+fn part_of<'a>(matches: &ArgMatches<'a>) -> Result<u64, Misuse<'a>>
+    ensures value { asked result ≡ part_asked (rows_of (found_of matches.now)) }
+    ensures some { IfOk result (λ bytes. 0 < bytes) }
+{
+    let text = text_or(matches, "part", "");
+    values::part(text).ok_or(Misuse::Value {
+        option: "--part <BYTES>",
+        takes: "a number from 1 to 942574504243, as 16M",
+        text,
+    })
+}
 
 // How many bytes a symbol has at most.
 #[tactic(auto, unfolding(crate::specs::Asked::symbol_size_asked))]
@@ -133,16 +147,19 @@ fn ids_of<'a>(matches: &ArgMatches<'a>) -> Result<Ids, Misuse<'a>>
     })
 }
 
-// How an object is sent.
+// How a stream is sent.
 #[tactic(auto, unfolding(crate::specs::Asked::order_asked))]
 fn order_of<'a>(matches: &ArgMatches<'a>) -> Result<Order, Misuse<'a>>
+    ensures parts { IfOk result (λ order. 0 < order.part) }
     ensures steps { IfOk result (λ order. 0 < order.ids.step) }
     ensures value { asked result ≡ order_asked (rows_of (found_of matches.now)) }
 {
+    let part = part_of(matches)?;
     let symbol_size = symbol_size_of(matches)?;
     let repair = repair_of(matches)?;
     let ids = ids_of(matches)?;
     Ok(Order {
+        part,
         symbol_size,
         repair,
         ids,
@@ -173,8 +190,9 @@ fn telling_of<'a>(matches: &ArgMatches<'a>) -> Result<Telling, Misuse<'a>>
     }
 }
 
-// How an object is sent, and what is told.
+// How a stream is sent, and what is told.
 fn sending_of<'a>(matches: &ArgMatches<'a>) -> Result<(Order, Telling), Misuse<'a>>
+    ensures parts { IfOk result (λ sending. 0 < sending.0.part) }
     ensures steps { IfOk result (λ sending. 0 < sending.0.ids.step) }
     ensures value { asked result ≡ send_asked (rows_of (found_of matches.now)) }
 {
@@ -183,9 +201,10 @@ fn sending_of<'a>(matches: &ArgMatches<'a>) -> Result<(Order, Telling), Misuse<'
     Ok((order, telling))
 }
 
-// How an object is sent, and which.
+// How a stream is sent, and which.
 fn send_job<'a>(alloc: Global, matches: &ArgMatches<'a>) -> Result<SendJob<'a>, Error>
     ensures job { IfOk result (IsSendOf (rows_of (found_of matches.now))) }
+    ensures parts { IfOk result (λ job. 0 < job.order.part) }
     ensures steps { IfOk result (λ job. 0 < job.order.ids.step) }
     ensures fails { FailsBy (kinds_of (send_asked (rows_of (found_of matches.now)))) result }
 {
@@ -220,22 +239,47 @@ fn name_of<'a>(
     }))
 }
 
+// How many parts are kept at once.
+#[tactic(auto, unfolding(crate::specs::Asked::window_asked))]
+fn window_of<'a>(matches: &ArgMatches<'a>) -> Result<u32, Misuse<'a>>
+    ensures value { asked result ≡ window_asked (rows_of (found_of matches.now)) }
+    ensures some { IfOk result (λ parts. 0 < parts) }
+{
+    let text = text_or(matches, "window", "");
+    values::window(text).ok_or(Misuse::Value {
+        option: "--window <PARTS>",
+        takes: "a number from 1 to 1024",
+        text,
+    })
+}
+
+// The same, and what is told.
+fn receiving_of<'a>(matches: &ArgMatches<'a>) -> Result<(u32, Telling), Misuse<'a>>
+    ensures value { asked result ≡ receiving_asked (rows_of (found_of matches.now)) }
+    ensures some { IfOk result (λ receiving. 0 < receiving.0) }
+{
+    let window = window_of(matches)?;
+    Ok((window, telling_of(matches)?))
+}
+
 // Which stream is received, and where from and to.
 fn receive_job<'a>(alloc: Global, matches: &ArgMatches<'a>) -> Result<ReceiveJob<'a>, Error>
     ensures job { IfOk result (IsReceiveOf (rows_of (found_of matches.now))) }
+    ensures parts { IfOk result (λ job. 0 < job.window) }
     ensures fails { FailsBy (kinds_of (receive_asked (rows_of (found_of matches.now)))) result }
 {
     let name = match name_of(alloc, matches)? {
         Ok(name) => name,
         Err(misuse) => return Err(misuse.error(alloc, Verb::Receive)),
     };
-    let telling = match telling_of(matches) {
-        Ok(telling) => telling,
+    let (window, telling) = match receiving_of(matches) {
+        Ok(receiving) => receiving,
         Err(misuse) => return Err(misuse.error(alloc, Verb::Receive)),
     };
     let files = texts_of(alloc, matches, "cells")?;
     Ok(ReceiveJob {
         name,
+        window,
         key: text_of(matches, "key"),
         output: text_of(matches, "output"),
         files,
@@ -263,12 +307,13 @@ fn info_job<'a>(alloc: Global, matches: &ArgMatches<'a>) -> Result<InfoJob<'a>, 
 /// What the words after the program's name ask for, of those that `rqcast --help` names.
 ///
 /// Refuses what the parser refuses, requests for help and the version among it. Then it refuses the first
-/// of these: a value that its option doesn't take, of `--cell`, `--loss` or `--repair`, `--rate`, `--share`,
-/// `--from` and `--name` in this order, where `--loss` beside `--repair` stands for theirs; and two of
-/// `--quiet`, `--progress` and `--json`. [`ErrorKind::OutOfMemory`](clap::error::ErrorKind) may come
-/// before any of them.
+/// of these: a value that its option doesn't take, of `--part`, `--cell`, `--loss` or `--repair`, `--rate`,
+/// `--share`, `--from`, `--name` and `--window` in this order, where `--loss` beside `--repair` stands for
+/// theirs; and two of `--quiet`, `--progress` and `--json`.
+/// [`ErrorKind::OutOfMemory`](clap::error::ErrorKind) may come before any of them.
 pub fn job<'a, S: AsStr>(alloc: Global, words: &'a [S]) -> Result<Job<'a>, Error>
     ensures job { IfOk result (AsksFor (map S.text words.entry.now)) }
+    ensures parts { IfOk result HasParts }
     ensures steps { IfOk result StepsOn }
     ensures refused { IfErr result (λ e. IsRefused (map S.text words.entry.now) (kind_of e)) }
 {

@@ -8,6 +8,7 @@ mod failure;
 mod line;
 mod pace;
 mod pulse;
+mod sending;
 mod source;
 mod system;
 mod target;

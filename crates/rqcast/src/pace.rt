@@ -1,6 +1,6 @@
 //! When cells leave.
 
-use rq_cast::Pace;
+use rq_cast::{Pace, Sender};
 use std::time::{Clock, Duration, Instant};
 use std::{io, thread};
 
@@ -56,6 +56,8 @@ fn time_of(bytes: usize, rate: u64) -> u64 {
 }
 
 impl<C: Clock> Pace for Pacer<'_, C> {
+    fn begin_part(&mut self, _sender: &Sender<'_>) {}
+
     // Where the clock fails it waits for nothing.
     fn wait(&mut self, bytes: usize) {
         let Some(rate) = self.rate else {

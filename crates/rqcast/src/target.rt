@@ -2,6 +2,7 @@
 
 use crate::aside::Aside;
 use crate::system::System;
+use rq_cast::loses;
 use std::fs::{File, OpenOptions};
 use std::io::{ErrorKind, Write};
 use std::{fs, io};
@@ -74,8 +75,8 @@ impl Write for Target<'_, '_> {
             Sink::Device(file, _) => file.write(buf),
             Sink::Aside(aside) => aside.file().write(buf),
         };
-        // That nobody listens to datagrams is no fault of the run.
-        if matches!(&result, Err(error) if error.kind() == ErrorKind::ConnectionRefused) {
+        // That a network loses a datagram is no fault of the run.
+        if matches!(&result, Err(error) if loses(error)) {
             return result;
         }
         self.system.noted("writing to", self.place(), result)

@@ -4,8 +4,9 @@ use crate::amounts::Amount;
 use crate::line::{COLUMNS, Course};
 use crate::pace::Pacer;
 use crate::pulse::Pulse;
+use crate::sending::Sending;
 use raptorq::Decoder;
-use rq_cast::{Ending, Pace, Progress, Seen, Sender, missing_packets};
+use rq_cast::{Ending, Pace, Progress, Seen, Sender, Sent, missing_packets};
 use rq_command::{End, Teller, Telling, announce};
 use rq_streams::Stop;
 use std::io;
@@ -28,12 +29,10 @@ pub struct Watch<'a, C: Clock, W: Write> {
     telling: Telling,
     pulse: Pulse<'a, C>,
     pacer: Pacer<'a, C>,
-    // How many bytes there are to read, and how many symbols an object has, where that is known; how many
-    // cells there are to send, and how many of them were.
+    // How many bytes there are to read, and how many symbols a part has, where that is known.
     length: Option<u64>,
     symbols: Option<u64>,
-    cells: u64,
-    sent: u64,
+    sending: Sending,
     // A line stands there that is to be cleared.
     is_shown: bool,
 }
@@ -49,8 +48,7 @@ impl<'a, C: Clock, W: Write> Watch<'a, C, W> {
             pacer: Pacer::new(clock, None),
             length: None,
             symbols: None,
-            cells: 0,
-            sent: 0,
+            sending: Sending::default(),
             is_shown: false,
         }
     }
@@ -81,26 +79,36 @@ impl<'a, C: Clock, W: Write> Watch<'a, C, W> {
         write!(self.out, "{CLEAR}")
     }
 
-    // Writes the time, the bytes and other counts as a line of JSON.
-    fn write_json(&mut self, counts: &[(&str, u64)]) -> io::Result<()> {
+    // Writes the time, the bytes and other counts, as far as they are known, as a line of JSON.
+    fn write_json(&mut self, counts: &[(&str, Option<u64>)]) -> io::Result<()> {
         let (bytes, time) = (self.pulse.bytes(), self.pulse.elapsed().as_millis());
         write!(self.out, "{{\"milliseconds\":{time},\"bytes\":{bytes}")?;
         for (name, count) in counts {
-            write!(self.out, ",\"{name}\":{count}")?;
+            if let Some(count) = count {
+                write!(self.out, ",\"{name}\":{count}")?;
+            }
         }
         writeln!(self.out, "}}")
     }
 
-    // Writes what was seen as a line of JSON, and how many packets are missing where that is known.
-    fn write_seen(&mut self, seen: &Seen, missing: Option<u64>) -> io::Result<()> {
-        let (cells, damaged) = (("cells", seen.cells), ("damaged", seen.damaged));
-        let (others, restarted) = (("others", seen.others), ("restarted", seen.restarted));
-        match missing {
-            Some(missing) => {
-                self.write_json(&[cells, damaged, others, restarted, ("missing", missing)])
-            }
-            None => self.write_json(&[cells, damaged, others, restarted]),
-        }
+    // Writes what was seen as a line of JSON, and where that is known how many parts are written and how many
+    // packets of the next one are missing.
+    fn write_seen(
+        &mut self,
+        seen: &Seen,
+        parts: Option<u64>,
+        missing: Option<u64>,
+    ) -> io::Result<()> {
+        self.write_json(&[
+            ("cells", Some(seen.cells)),
+            ("damaged", Some(seen.damaged)),
+            ("others", Some(seen.others)),
+            ("restarted", Some(seen.restarted)),
+            ("ahead", Some(seen.ahead)),
+            ("behind", Some(seen.behind)),
+            ("parts", parts),
+            ("missing", missing),
+        ])
     }
 
     // Takes the line away, where one is shown.
@@ -119,14 +127,14 @@ impl<'a, C: Clock, W: Write> Watch<'a, C, W> {
         }
         let _ = match ended {
             // What is said then is that all cells were lost.
-            End::Sent { .. } if ended.status() != 0 && self.telling != Telling::Json => Ok(()),
-            End::Sent { cells, lost } => self.say_sent(*cells, *lost),
-            End::Received(Ok(Ending::Incomplete { missing }), seen) => {
-                self.say_received(seen, *missing)
+            End::Sent(_) if ended.status() != 0 && self.telling != Telling::Json => Ok(()),
+            End::Sent(sent) => self.say_sent(sent),
+            End::Received(Ok(Ending::Incomplete { parts, missing }), seen) => {
+                self.say_received(seen, Some(u64::from(*parts)), *missing)
             }
             // Of a failed call no more is said than what failed.
             End::Received(Err(Stop::Fault), _) => Ok(()),
-            End::Received(_, seen) => self.say_received(seen, None),
+            End::Received(_, seen) => self.say_received(seen, None, None),
             _ => Ok(()),
         };
     }
@@ -138,27 +146,44 @@ impl<'a, C: Clock, W: Write> Watch<'a, C, W> {
         write!(self.out, "{bytes} in {seconds}.{tenth} s, ")
     }
 
-    fn say_sent(&mut self, cells: u64, lost: u64) -> io::Result<()> {
+    fn say_sent(&mut self, sent: &Sent) -> io::Result<()> {
+        let Sent { parts, cells, lost } = *sent;
         if self.telling == Telling::Json {
-            return self.write_json(&[("sent", self.sent), ("cells", cells), ("lost", lost)]);
+            return self.write_json(&[
+                ("sent", Some(self.sending.sent)),
+                ("cells", Some(cells)),
+                ("lost", Some(lost)),
+                ("parts", Some(u64::from(parts))),
+            ]);
         }
         self.say_passed()?;
+        if parts > 1 {
+            write!(self.out, "{parts} parts, ")?;
+        }
         let noun = noun_of(cells);
         match lost {
             0 => writeln!(self.out, "{cells} {noun}, none lost"),
-            _ => writeln!(
-                self.out,
-                "{cells} {noun}, {lost} and more lost: nobody listened"
-            ),
+            _ => writeln!(self.out, "{cells} {noun}, {lost} and more lost"),
         }
     }
 
-    // Writes how many symbols are missing, where some are, and what was seen.
-    fn say_received(&mut self, seen: &Seen, missing: Option<u64>) -> io::Result<()> {
+    // Writes how many parts are written and how many symbols of the next one are missing, where some are, and
+    // what was seen.
+    fn say_received(
+        &mut self,
+        seen: &Seen,
+        parts: Option<u64>,
+        missing: Option<u64>,
+    ) -> io::Result<()> {
         if self.telling == Telling::Json {
-            return self.write_seen(seen, missing);
+            return self.write_seen(seen, parts, missing);
         }
         self.say_passed()?;
+        match parts {
+            None | Some(0) => {}
+            Some(1) => write!(self.out, "1 part, ")?,
+            Some(parts) => write!(self.out, "{parts} parts, ")?,
+        }
         match (missing, self.symbols) {
             (Some(missing), Some(symbols)) => {
                 write!(self.out, "{missing} of {symbols} cells missing")?;
@@ -172,34 +197,57 @@ impl<'a, C: Clock, W: Write> Watch<'a, C, W> {
             0 => write!(self.out, ", none damaged")?,
             damaged => write!(self.out, ", {damaged} damaged")?,
         }
-        match seen.others {
-            0 => {}
-            others => write!(self.out, ", {others} of other streams")?,
-        }
+        self.say_dropped(seen)?;
         match seen.restarted {
             0 => writeln!(self.out, ""),
             1 => writeln!(self.out, ", begun anew once, as some were forged"),
             times => writeln!(self.out, ", begun anew {times} times, as some were forged"),
         }
     }
+
+    // Writes how many cells were dropped, and why.
+    fn say_dropped(&mut self, seen: &Seen) -> io::Result<()> {
+        for (cells, whose) in [
+            (seen.others, "of other streams"),
+            (seen.ahead, "ahead of the window"),
+            (seen.behind, "of parts that were written"),
+        ] {
+            if cells > 0 {
+                write!(self.out, ", {cells} {whose}")?;
+            }
+        }
+        Ok(())
+    }
 }
 
 impl<C: Clock, W: Write> Pace for Watch<'_, C, W> {
+    fn begin_part(&mut self, sender: &Sender<'_>) {
+        if !self.sending.is_begun {
+            self.pulse.begin();
+            self.clear();
+            if self.telling != Telling::Quiet {
+                let is_json = self.telling == Telling::Json;
+                let _ = announce(sender, is_json, &mut self.out);
+            }
+        }
+        self.sending.begin_part(sender);
+    }
+
     fn wait(&mut self, bytes: usize) {
         self.pacer.wait(bytes);
-        self.sent = self.sent.saturating_add(1);
+        self.sending.count();
         if let Some(rate) = self.pass(bytes) {
-            let cells = self.cells;
+            let (sent, cells) = (self.sending.sent, self.sending.cells);
             let course = Course {
-                done: self.sent,
-                all: Some(cells),
+                done: self.sending.done(),
+                all: self.length.or(self.sending.all()),
                 missing: None,
                 rate,
                 seconds: self.pulse.seconds(),
             };
             // That it can't be told is no fault of the run.
             let _ = match self.telling {
-                Telling::Json => self.write_json(&[("sent", self.sent), ("cells", cells)]),
+                Telling::Json => self.write_json(&[("sent", Some(sent)), ("cells", Some(cells))]),
                 _ => self.show(&course),
             };
         }
@@ -231,9 +279,9 @@ impl<C: Clock, W: Write> Progress for Watch<'_, C, W> {
             seconds: self.pulse.seconds(),
         };
         let _ = match self.telling {
-            // Nothing was seen yet, or what is read is sent.
+            // Nothing was seen yet.
             Telling::Json if *seen == Seen::default() => self.write_json(&[]),
-            Telling::Json => self.write_seen(seen, missing),
+            Telling::Json => self.write_seen(seen, None, missing),
             _ => self.show(&course),
         };
     }
@@ -245,15 +293,5 @@ impl<C: Clock, W: Write> Teller for Watch<'_, C, W> {
         self.length = length;
         self.pacer.set_rate(rate);
         self.pulse.begin();
-    }
-
-    fn announce(&mut self, sender: &Sender) {
-        self.cells = sender.cells();
-        self.pulse.begin();
-        self.clear();
-        if self.telling != Telling::Quiet {
-            let is_json = self.telling == Telling::Json;
-            let _ = announce(sender, is_json, &mut self.out);
-        }
     }
 }

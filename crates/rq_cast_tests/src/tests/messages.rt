@@ -1,38 +1,67 @@
 //! What is said of a run.
-use crate::tests::sending::sender;
-use crate::tests::stored_cells::FIRST;
+use crate::tests::sending::{order, sent_to};
+use crate::tests::stored_cells::{FIRST, OBJECT};
 use raptorq::error::Error;
 use raptorq::systematic_constants::SystematicTable;
-use rq_cast::{Ending, Seen, standings_in};
+use rq_cast::{Ending, Pace, Seen, Sender, Sent, standings_in};
 use rq_cells::Key;
 use rq_command::{End, announce, write_end, write_standings};
 use rq_streams::Stop;
+
+// Announces each part in both forms.
+#[derive(Drop)]
+struct Announced {
+    out: Vec<u8>,
+}
+
+impl Pace for Announced {
+    fn begin_part(&mut self, sender: &Sender<'_>) {
+        let _ = announce(sender, false, &mut self.out);
+        let _ = announce(sender, true, &mut self.out);
+    }
+
+    fn wait(&mut self, _bytes: usize) {}
+}
 
 #[test]
 fn ends_are_said(rt: HostRuntime) {
     let alloc = rt.alloc();
     let none = Seen::default();
     let received = |ended| End::Received(ended, none);
+    let sent = |cells, lost| {
+        End::Sent(Sent {
+            parts: 1,
+            cells,
+            lost,
+        })
+    };
+    let incomplete = |parts, missing| Ok(Ending::Incomplete { parts, missing });
     let rows = [
         (End::AtTerminal, "cells aren't written to a terminal", 64),
         (End::EmptyKey, "the key is empty", 64),
-        (End::Sent { cells: 0, lost: 0 }, "no cell is sent", 0),
-        (End::Sent { cells: 5, lost: 1 }, "", 0),
-        (
-            End::Sent { cells: 5, lost: 2 },
-            "all 5 cells seem to be lost",
-            1,
-        ),
-        (End::Sent { cells: 1, lost: 0 }, "", 0),
+        (sent(0, 0), "no cell is sent", 0),
+        (sent(5, 1), "", 0),
+        (sent(5, 2), "at least 2 of 5 cells were lost", 1),
+        (sent(1, 0), "", 0),
         (received(Ok(Ending::Written)), "", 0),
         (
-            received(Ok(Ending::Incomplete { missing: Some(7) })),
-            "it takes 7 more packets",
+            received(incomplete(0, Some(7))),
+            "rqcast: it takes 7 more packets",
             2,
         ),
         (
-            received(Ok(Ending::Incomplete { missing: None })),
-            "no cell came",
+            received(incomplete(1, Some(1))),
+            "rqcast: 1 part is whole, and the next one takes 1 more packet:",
+            2,
+        ),
+        (
+            received(incomplete(0, None)),
+            "rqcast: no cell came of what is wanted",
+            2,
+        ),
+        (
+            received(incomplete(3, None)),
+            "rqcast: 3 parts are whole, and no cell came of the next one",
             2,
         ),
         (received(Err(Stop::Fault)), "", 1),
@@ -43,7 +72,7 @@ fn ends_are_said(rt: HostRuntime) {
         ),
         (
             End::Stopped(Stop::Refused(Error::TransferTooLong)),
-            "can't be sent",
+            "take a greater --part",
             3,
         ),
     ];
@@ -63,11 +92,14 @@ fn ends_are_said(rt: HostRuntime) {
 fn senders_and_streams_are_named(rt: HostRuntime) {
     let alloc = rt.alloc();
     let table = SystematicTable::built_in(alloc).expect(&rt, "a table");
-    let sender = sender(alloc, 0, 1).expect(&rt, "a sender");
-    let mut out: Vec<u8> = Vec::new(alloc);
-    announce(&sender, false, &mut out).expect(&rt, "memory");
-    announce(&sender, true, &mut out).expect(&rt, "memory");
-    let standings = standings_in(alloc, &table, &Key::none(), &FIRST).expect(&rt, "memory");
+    let mut told = Announced {
+        out: Vec::new(alloc),
+    };
+    let mut cells: Vec<u8> = Vec::new(alloc);
+    let order = order(1000, 0, 1);
+    let _ = sent_to(alloc, &order, &OBJECT, &mut cells, &mut told).expect(&rt, "cells");
+    let Announced { mut out } = told;
+    let standings = standings_in(alloc, &table, &Key::none(), 2, &FIRST).expect(&rt, "memory");
     write_standings(standings.as_slice(), false, &mut out).expect(&rt, "memory");
     write_standings(standings.as_slice(), true, &mut out).expect(&rt, "memory");
     let text = "\
@@ -76,7 +108,7 @@ blocks 1 of 2
 cells 2
 {\"name\":\"895c2d0a5eb30d32\",\"blocks\":1,\"symbols\":2,\"cells\":2}
 895c2d0a5eb30d32 3 bytes, lacks 1 packet
-{\"name\":\"895c2d0a5eb30d32\",\"bytes\":3,\"missing\":1,\"restarted\":0}
+{\"name\":\"895c2d0a5eb30d32\",\"bytes\":3,\"parts\":0,\"missing\":1,\"restarted\":0}
 ";
     assert_eq!(rt; out.as_slice(), text.as_bytes());
 }

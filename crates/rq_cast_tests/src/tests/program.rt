@@ -2,6 +2,7 @@
 use crate::tests::stored_cells::{
     FIRST, FIRST_KEYED, FIRST_MISNAMED, KEY, OBJECT, SECOND, SECOND_KEYED, SECOND_MISNAMED, joined,
 };
+use crate::tests::stored_parts::OF_THREE;
 use raptorq::Decoder;
 use raptorq::error::Error;
 use rq_cast::{Pace, Progress, Seen, Sender};
@@ -50,7 +51,7 @@ struct Memory<'a> {
 }
 
 impl<'w, 'a> Devices<'w> for Memory<'a> {
-    ghost use Rattle.std.specs.Prelude.{None};
+    ghost use Rattle.std.specs.Prelude.{None, Some};
 
     type Reader = Bytes<'a>;
 
@@ -61,6 +62,8 @@ impl<'w, 'a> Devices<'w> for Memory<'a> {
     ghost placed = { λ _. None };
 
     ghost blank = { None };
+
+    ghost terminal = { λ m. Some m.is_terminal };
 
     fn shows_output(&self) -> bool {
         self.is_terminal
@@ -106,6 +109,8 @@ impl<'w, 'a> Devices<'w> for Memory<'a> {
 struct Nobody;
 
 impl Pace for Nobody {
+    fn begin_part(&mut self, _sender: &Sender<'_>) {}
+
     fn wait(&mut self, _bytes: usize) {}
 }
 
@@ -115,8 +120,6 @@ impl Progress for Nobody {
 
 impl Teller for Nobody {
     fn begin(&mut self, _telling: Telling, _rate: Option<u64>, _length: Option<u64>) {}
-
-    fn announce(&mut self, _sender: &Sender) {}
 }
 
 // What a run does: its status, what it placed, and how many files it read.
@@ -149,6 +152,8 @@ const CELLS: Two = (&FIRST, &SECOND);
 
 const FILE: Two = (&OBJECT, b"");
 
+const PARTS: Two = (&OF_THREE, b"");
+
 const KEYED: Two = (&FIRST_KEYED, &SECOND_KEYED);
 
 const MISNAMED: Two = (&FIRST_MISNAMED, &SECOND_MISNAMED);
@@ -166,11 +171,13 @@ fn both(alloc: Global, row: &Row) -> Result<(Done, Done), Error> {
 
 #[test]
 fn words_are_done(rt: HostRuntime) {
-    let rows: [Row; 11] = [
+    let rows: [Row; 13] = [
         ("send --cell 88 --repair 0 FILE", FILE, 0, CELLS, 1),
         ("send --cell=88 -r0 --share 0/2", FILE, 0, (&FIRST, b""), 0),
         ("send -c88 -r 0 --from 1 -q", FILE, 0, (&SECOND, b""), 0),
         ("send --repair 0 --from 2", FILE, 0, NOTHING, 0),
+        ("send -c88 -r0 --part 3 FILE", FILE, 0, PARTS, 1),
+        ("receive --window 1", PARTS, 0, FILE, 0),
         ("receive", CELLS, 0, FILE, 0),
         ("receive -o FILE --name 895c A B", CELLS, 0, FILE, 2),
         ("receive -o FILE --name 895d", CELLS, 2, OLD, 0),

@@ -32,11 +32,12 @@ impl<'a> Read for Open<'a> {
 /// How a run ends, what it has seen, and what it writes.
 pub type Ended = (Result<Ending, Stop>, Seen, Vec<u8>);
 
-/// Receives over a table what a reader brings of streams that begin so.
+/// Receives over a table, by a window of so many parts, what a reader brings of streams that begin so.
 pub fn received<R: Read + Drop>(
     alloc: Global,
     table: &SystematicTable,
     name: &[u8],
+    window: u32,
     reader: R,
 ) -> Ended {
     let mut input = Input::new(Counted::new(reader));
@@ -52,6 +53,7 @@ pub fn received<R: Read + Drop>(
     let ended = run_receive(
         alloc,
         &wanted,
+        window.max(1),
         &mut input,
         &mut writer,
         &mut seen,
@@ -82,13 +84,14 @@ fn cells_among_other_bytes_are_received(rt: HostRuntime) {
         damaged: 1,
         others: 2,
         restarted: 0,
+        ..Seen::default()
     };
     for most in [1, 7, 88, 65536] {
         let reader = Open {
             rest: bytes.as_slice(),
             most,
         };
-        let (ended, told, out) = received(alloc, &table, &[137, 92], reader);
+        let (ended, told, out) = received(alloc, &table, &[137, 92], 2, reader);
         assert_eq!(rt; (ended, told), (Ok(Ending::Written), seen));
         assert_eq!(rt; out.as_slice(), OBJECT.as_slice());
     }
@@ -101,9 +104,8 @@ fn other_runs_write_nothing(rt: HostRuntime) {
     let misnamed = joined(alloc, &[&FIRST_MISNAMED, &SECOND_MISNAMED]).expect(&rt, "bytes");
     let mut damaged = FIRST;
     damaged[60] ^= 1;
-    let nothing = Ending::Incomplete { missing: None };
-    let one = Ending::Incomplete { missing: Some(1) };
-    let both = Ending::Incomplete { missing: Some(2) };
+    let lacking = |missing| Ending::Incomplete { parts: 0, missing };
+    let (nothing, one, both) = (lacking(None), lacking(Some(1)), lacking(Some(2)));
     let cases: [(&[u8], &[u8], Ending, [u64; 4]); 5] = [
         (b"", b"", nothing, [0, 0, 0, 0]),
         (b"", &FIRST, one, [1, 0, 0, 0]),
@@ -112,12 +114,13 @@ fn other_runs_write_nothing(rt: HostRuntime) {
         (b"", misnamed.as_slice(), both, [2, 0, 0, 1]),
     ];
     for (name, bytes, ending, [cells, damaged, others, restarted]) in cases {
-        let (ended, told, out) = received(alloc, &table, name, bytes);
+        let (ended, told, out) = received(alloc, &table, name, 2, bytes);
         let seen = Seen {
             cells,
             damaged,
             others,
             restarted,
+            ..Seen::default()
         };
         assert_eq!(rt; (ended, told), (Ok(ending), seen));
         assert!(rt; out.is_empty());
@@ -144,12 +147,13 @@ fn forged_cells_delay_a_run(rt: HostRuntime) {
         damaged: 0,
         others: 0,
         restarted: 1,
+        ..Seen::default()
     };
     for (name, symbol) in [(1, 0), (0, 1)] {
         let first = forged(alloc, name, symbol).expect(&rt, "a cell");
         let parts: [&[u8]; 4] = [first.as_slice(), &SECOND, &FIRST, &SECOND];
         let bytes = joined(alloc, &parts).expect(&rt, "bytes");
-        let (ended, told, out) = received(alloc, &table, b"", bytes.as_slice());
+        let (ended, told, out) = received(alloc, &table, b"", 2, bytes.as_slice());
         assert_eq!(rt; (ended, told), (Ok(Ending::Written), seen));
         assert_eq!(rt; out.as_slice(), OBJECT.as_slice());
     }
@@ -167,13 +171,14 @@ fn runs_that_are_stopped_say_what_they_saw(rt: HostRuntime) {
         damaged: 1,
         others: 1,
         restarted: 0,
+        ..Seen::default()
     };
     for most in [1, 9, 65536] {
         let reader = Open {
             rest: bytes.as_slice(),
             most,
         };
-        let (ended, told, out) = received(alloc, &table, &[137], reader);
+        let (ended, told, out) = received(alloc, &table, &[137], 2, reader);
         assert_eq!(rt; (ended, told), (Err(Stop::Fault), seen));
         assert!(rt; out.is_empty());
     }

@@ -13,6 +13,8 @@ use std::io::{ErrorKind, Read};
 pub struct Run {
     /// What the stream begins with.
     pub name: &'static [u8],
+    /// How many parts are kept at once.
+    pub window: u32,
     /// What each read brings. The last one is needed, or the input ends behind it.
     pub pieces: &'static [&'static [u8]],
     /// How it ends.
@@ -20,7 +22,7 @@ pub struct Run {
     /// What was seen.
     pub seen: Seen,
     /// What is written.
-    pub object: &'static [u8],
+    pub written: &'static [u8],
 }
 
 // A reader that brings a piece a call. Behind the last one it is at its end, or stays open: then no
@@ -54,7 +56,7 @@ fn ended(alloc: Global, table: &SystematicTable, run: &Run) -> Ended {
         next: 0,
         is_open: !matches!(run.ending, Ending::Incomplete { .. }),
     };
-    received(alloc, table, run.name, reader)
+    received(alloc, table, run.name, run.window, reader)
 }
 
 #[test]
@@ -62,9 +64,9 @@ fn runs_end_as_by_the_model(rt: HostRuntime) -> Result<(), Error> {
     let alloc = rt.alloc();
     let table = SystematicTable::built_in(alloc)?;
     for (number, run) in RUNS.iter().enumerate() {
-        let object = Vec::from_slice(alloc, run.object)?;
+        let written = Vec::from_slice(alloc, run.written)?;
         let found = ended(alloc, &table, run);
-        same!(rt; found, (Ok(run.ending), run.seen, object), number);
+        same!(rt; found, (Ok(run.ending), run.seen, written), number);
     }
     Ok(())
 }

@@ -84,6 +84,7 @@ fn orders_are_read(rt: HostRuntime) {
     ];
     for (line, symbol_size, repair, first, step, rate) in rows {
         let order = Order {
+            part: 16_000_000,
             symbol_size,
             repair,
             ids: Ids { first, step, rate },
@@ -93,6 +94,43 @@ fn orders_are_read(rt: HostRuntime) {
             Some(order),
             "{line}"
         );
+    }
+}
+
+#[test]
+fn parts_are_read(rt: HostRuntime) {
+    for (line, bytes) in [
+        ("send --part 1", 1),
+        ("send --part=0.5G -r7", 500_000_000),
+        ("send --part 942574504243", 942_574_504_243),
+    ] {
+        let order = ordered(rt.alloc(), line).expect(&rt, "memory");
+        assert!(rt;
+            matches!(order, Some(order) if order.part == bytes),
+            "{line}"
+        );
+    }
+}
+
+// How many parts a line of words behind `receive` has kept at once.
+fn kept(alloc: Global, line: &str) -> Result<Option<u32>, AllocError> {
+    let words: Vec<&str> = line.split_whitespace().collect(alloc)?;
+    match job(alloc, words.as_slice()) {
+        Ok(Job::Receive(job)) => Ok(Some(job.window)),
+        _ => Ok(None),
+    }
+}
+
+#[test]
+fn windows_are_read(rt: HostRuntime) {
+    for (line, parts) in [
+        ("receive", 2),
+        ("receive --window 1 -o FILE", 1),
+        ("receive --window=1k", 1000),
+        ("receive --window 1024", 1024),
+    ] {
+        let window = kept(rt.alloc(), line).expect(&rt, "memory");
+        assert_eq!(rt; window, Some(parts), "{line}");
     }
 }
 
@@ -129,6 +167,8 @@ fn wrong_words_are_named(rt: HostRuntime) {
         ("fetch", "'fetch'"),
         ("send --loud", "'--loud'"),
         ("send a b", "'b'"),
+        ("send --part 0", "'0' for '--part <BYTES>'"),
+        ("send --part 942574504244 --cell 1", "'942574504244'"),
         ("send --cell", "'--cell <BYTES>'"),
         ("send --cell 64", "'64' for '--cell <BYTES>'"),
         ("send --cell 65600", "'65600'"),
@@ -154,6 +194,8 @@ fn wrong_words_are_named(rt: HostRuntime) {
             "'--progress' cannot be used with '--json'",
         ),
         ("receive --name b", "'b' for '--name <HEX>'"),
+        ("receive --window 0", "'0' for '--window <PARTS>'"),
+        ("receive --window 1025 -q --json", "'1025'"),
         ("receive --output", "'--output <FILE>'"),
         ("info --key", "'--key <FILE>'"),
         (

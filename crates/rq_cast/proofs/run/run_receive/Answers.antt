@@ -1,192 +1,179 @@
-use Rattle.std.proofs.Common.{◌≡◌, ◌∙◌, ℕ, List, sym, subst, Some, None, Ok, Err, arith, refl, Option, Vec, Global}
-use Rattle.std.specs.Prelude.{MatchOption}
-use Rattle.std.proofs.KnownBytes.{Keeps-refl}
+use Rattle.std.proofs.Common.{◌≡◌, ◌≤◌, ℕ, List, sym, ap, subst, ◌∙◌, refl, arith, rules, inl, inr, length, take, Err, Ok}
+use Rattle.std.specs.Io.KnownBytes.{Appends, Consumes}
+use Rattle.std.proofs.KnownBytes.{Consumes-nil}
 use Rattle.std.proofs.lemmas.Result.{err_from_is_err_and}
+use Rattle.std.proofs.lemmas.List.{length-take-le}
 use Rattle.rq_streams.specs.Counted.{inner}
-use Rattle.rq_cells.specs.Wanted.{wish_of}
-use Rattle.rq_cells.specs.declared.wanted.Wanted.{Wanted}
-use Rattle.rq_cast.specs.declared.reading.Found.{Found}
-use Rattle.rq_cast.specs.declared.receiver.Receiver.{Receiver}
-use Rattle.rq_cast.specs.Parts.{IsStream}
-use Rattle.rq_cast.specs.Received.{wish_over, Determines}
-use Rattle.rq_cast.specs.Input.{counted_of, source, last_length}
-use Rattle.rq_cast.specs.Searching.{Searches, FindsFirst}
-use Rattle.rq_cast.specs.Receiving.{EndsDetermined, EndsUndetermined}
+use Rattle.rq_streams.specs.Ends.{failed_calls}
+use Rattle.rq_streams.specs.declared.run.Stop.TheVariants.{Fault}
 use Rattle.rq_cast.specs.declared.run.Ending.TheVariants.{Written}
-use Rattle.rq_cast.proofs.Failing.{counted_reads, counted_writes}
-use Rattle.rq_cast.proofs.Ended.{only_memory, sees_none, stopped, seen_so_far, undetermined, determined, written, not_written}
-use Rattle.rq_cast.proofs.run.run_receive.Goals as goal
+use Rattle.rq_cast.specs.Input.{counted_of, source, last_length}
+use Rattle.rq_cast.specs.Receiving.{HandsOutOf}
+use Rattle.rq_cast.specs.Received.{EndsReceiving, EndsAtFailedCall}
+use Rattle.rq_cast.proofs.Failing.{counted_calls}
+use Rattle.rq_cast.proofs.Runs.{runs_first, stops_unread, ends_unread, stops_unfed, stops_unwritten, ends_written, runs_on}
 use Rattle.rq_cast.proofs.run.run_receive.Given.{Over}
-use Rattle.rq_cast.proofs.run.run_receive.Goals.{In-Some, In_ok-receive, In-Some-take}
+use Rattle.rq_cast.proofs.run.run_receive.Goals as goal
+use Rattle.rq_cast.proofs.run.run_receive.Goals.{In-Ok}
 
--- the first wanted cell was found
-found_first : (g : Over) (c : In-Some g) → FindsFirst (wish_of c.args.wanted.now)
-    (g.R.Read.remaining (source c.args.input.now))
-    (g.R.Read.remaining (source c.find.new.input)) (last_length c.find.new.input) c.in-Some.found.head c.in-Some.found.bytes.items c.in-Some.found.seen
-found_first g c = subst
-    (λ o. Searches (wish_of c.args.wanted.now) (g.R.Read.remaining (source c.args.input.now))
-    (g.R.Read.remaining (source c.find.new.input)) (last_length c.find.new.input) c.find.new.seen o) c.in-Some.is c.in_ok-found.ensures.searches
+pub reading-init : goal.reading-init
+reading-init g c =
+    let w = c.args.wanted.now in
+    let there = g.W.Write.contents (inner c.args.writer.now) in
+    record {
+      running = runs_first w.table.now w.key.now w.name.now c.args.window (g.R.Read.remaining (source c.args.input.now)) there
+          c.new-receiver.result c.all_seen.result (c.new-receiver.ensures.fed 65536) c.all_seen.ensures c.new-receiver.ensures.none
+          c.new-receiver.ensures.open_still c.new-receiver.ensures.sound;
+      reads = refl;
+      writes = refl;
+    }
 
-pub returns-in_err-found-clause-ends : goal.returns-in_err-found-clause-ends
-returns-in_err-found-clause-ends g c =
+pub returns-in_default-clause-failures : goal.returns-in_default-clause-failures
+returns-in_default-clause-failures g c =
+    counted_calls (counted_of c.args.input.now) (counted_of c.read.new.self) c.args.writer.now c.reading.writer (Err Fault) 1 0
+    (omega (arith, c.in_default.ensures.err, c.reading.invariant.reads, c.requires.reads)) (omega (arith, c.reading.invariant.writes)) refl
+
+pub returns-in_default-clause-ends : goal.returns-in_default-clause-ends
+returns-in_default-clause-ends g c =
+    let w = c.args.wanted.now in
+    stops_unread w.table.now w.key.now w.name.now c.args.window (g.R.Read.remaining (source c.args.input.now)) (g.W.Write.contents (inner c.args.writer.now))
+    (g.R.Read.remaining (source c.reading.input)) (g.W.Write.contents (inner c.reading.writer)) c.reading._reads c.reading.receiver c.reading.seen
+    c.reading.invariant.running (g.R.Read.remaining (source c.read.new.self)) (last_length c.read.new.self) c.in_default.ensures.bytes
+
+pub returns-then-n-eq0-clause-failures : goal.returns-then-n-eq0-clause-failures
+returns-then-n-eq0-clause-failures g c =
+    counted_calls (counted_of c.args.input.now) (counted_of c.read.new.self) c.args.writer.now c.reading.writer (Ok c.ending.result) 0 0
+    (omega (arith, c.in-Ok.ensures.ok, c.reading.invariant.reads)) (omega (arith, c.reading.invariant.writes)) refl
+
+pub returns-then-n-eq0-clause-ends : goal.returns-then-n-eq0-clause-ends
+returns-then-n-eq0-clause-ends g c =
+    let w = c.args.wanted.now in
+    let mid = g.R.Read.remaining (source c.reading.input) in
+    let after = g.R.Read.remaining (source c.read.new.self) in
+    ends_unread w.table.now w.key.now w.name.now c.args.window (g.R.Read.remaining (source c.args.input.now)) (g.W.Write.contents (inner c.args.writer.now))
+    mid (g.W.Write.contents (inner c.reading.writer)) c.reading._reads c.reading.receiver c.reading.seen
+    c.reading.invariant.running c.ending.result c.ending.ensures after (last_length c.read.new.self)
+    (subst (λ m. Consumes mid after (take m c.read.new.buf)) c.if-n-eq0.true c.in-Ok.ensures.bytes.0)
+    (inl (c.in-Ok.ensures.bytes.1 c.if-n-eq0.true (search rules)))
+
+pub feed-requires : goal.feed-requires
+feed-requires g c = c.reading.invariant.running.sound
+
+pub returns-in_err-feed-clause-failures : goal.returns-in_err-feed-clause-failures
+returns-in_err-feed-clause-failures g c =
+    let p = err_from_is_err_and c.from_residual.result c.from_residual.ensures.1 in
+    rw (p.1, p.2)
+    (counted_calls (counted_of c.args.input.now) (counted_of c.read.new.self) c.args.writer.now c.reading.writer _ 0 0
+    (omega (arith, c.in-Ok.ensures.ok, c.reading.invariant.reads)) (omega (arith, c.reading.invariant.writes)) refl)
+
+-- what a read brought
+module _ (g : Over) (c : In-Ok g) where
+  abbrev piece : List ℕ
+  piece = take c.in-Ok.n c.read.new.buf
+
+  brought : length piece ≡ last_length c.read.new.self
+  brought = length-take-le c.in-Ok.n c.read.new.buf c.in-Ok.ensures.bound.0 ∙ sym c.in-Ok.ensures.last
+
+  few : c.in-Ok.n ≤ 65536
+  few = search rules
+
+pub returns-in_err-feed-clause-ends : goal.returns-in_err-feed-clause-ends
+returns-in_err-feed-clause-ends g c =
+    let at = (goal.at.returns-in_err-feed-clause-ends g c).In-Ok in
     let p = err_from_is_err_and c.from_residual.result c.from_residual.ensures.1 in
     let w = c.args.wanted.now in
-    let before = g.R.Read.remaining (source c.args.input.now) in
-    let after = g.R.Read.remaining (source c.find.new.input) in
     rw (p.1, p.2)
-    (stopped w.table.now w.key.now w.name.now before after c.find.new.seen (last_length c.find.new.input)
-    (sees_none w.table.now w.key.now w.name.now before after c.find.new.seen (last_length c.find.new.input) c.find.ensures.sees)
-    (g.W.Write.contents (inner c.args.writer.now)) c.in_err-found.field-0.0 c.in_err-found.ensures.stops)
+    (stops_unfed w.table.now w.key.now w.name.now c.args.window (g.R.Read.remaining (source c.args.input.now)) (g.W.Write.contents (inner c.args.writer.now))
+    (g.R.Read.remaining (source c.reading.input)) (g.W.Write.contents (inner c.reading.writer)) c.reading._reads c.reading.receiver c.reading.seen
+    c.reading.invariant.running (g.R.Read.remaining (source c.read.new.self)) (last_length c.read.new.self) (piece g at) c.in-Ok.ensures.bytes.0
+    (brought g at) (omega (arith, c.in-Ok.ensures.last, c.if-n-eq0.false)) (omega (arith, c.in-Ok.ensures.last, few g at))
+    c.in_err-feed.field-0.0 c.in_err-feed.ensures.memory)
 
-pub returns-in_err-receiver-clause-ends : goal.returns-in_err-receiver-clause-ends
-returns-in_err-receiver-clause-ends g c =
-    let first = found_first g (goal.at.returns-in_err-receiver-clause-ends g c).In-Some in
-    let p = err_from_is_err_and c.from_residual-in_err-receiver.result c.from_residual-in_err-receiver.ensures.1 in
+pub write_part-requires : goal.write_part-requires
+write_part-requires g c = omega (arith, c.reading.invariant.writes, c.requires.writes)
+
+pub returns-in_err-write_part-clause-failures : goal.returns-in_err-write_part-clause-failures
+returns-in_err-write_part-clause-failures g c =
+    let p = err_from_is_err_and c.from_residual-in_err-write_part.result c.from_residual-in_err-write_part.ensures.1 in
+    let one = ap (λ stop. failed_calls {X = Unit {0}} (Err stop)) c.in_err-write_part.ensures.err in
+    rw (p.1, p.2) (subst (λ stop. EndsAtFailedCall (counted_of c.args.input.now) c.args.writer.now
+    (Err stop) (counted_of c.read.new.self) c.write_part.new.writer) (sym c.in_err-write_part.ensures.err)
+    (counted_calls (counted_of c.args.input.now) (counted_of c.read.new.self) c.args.writer.now c.write_part.new.writer (Err Fault) 0 1
+    (omega (arith, c.in-Ok.ensures.ok, c.reading.invariant.reads)) (omega (arith, c.reading.invariant.writes, c.in_err-write_part.ensures.counts, one)) refl))
+
+pub returns-in_err-write_part-clause-ends : goal.returns-in_err-write_part-clause-ends
+returns-in_err-write_part-clause-ends g c =
+    let at = (goal.at.returns-in_err-write_part-clause-ends g c).In-Ok in
+    let p = err_from_is_err_and c.from_residual-in_err-write_part.result c.from_residual-in_err-write_part.ensures.1 in
     let w = c.args.wanted.now in
     let before = g.R.Read.remaining (source c.args.input.now) in
-    let after = g.R.Read.remaining (source c.find.new.input) in
-    rw (p.1, p.2) (
-      only_memory w.table.now w.key.now w.name.now before after c.in-Some.found (last_length c.find.new.input) first
-          c.in_err-receiver.field-0.0 c.in_err-receiver.ensures.refused,
-      sees_none w.table.now w.key.now w.name.now before after c.find.new.seen (last_length c.find.new.input) c.find.ensures.sees,
-      Keeps-refl (g.W.Write.contents (inner c.args.writer.now)),
-    )
-
-pub returns-in_err-receive-clause-ends : goal.returns-in_err-receive-clause-ends
-returns-in_err-receive-clause-ends g c =
-    let first = found_first g (goal.at.returns-in_err-receive-clause-ends g c).In-Some in
-    let p = err_from_is_err_and c.from_residual-in_err-receive.result c.from_residual-in_err-receive.ensures.1 in
-    let w = c.args.wanted.now in
-    let found = c.in-Some.found in
-    let before = g.R.Read.remaining (source c.args.input.now) in
-    let mid = g.R.Read.remaining (source c.find.new.input) in
-    let after = g.R.Read.remaining (source c.receive.new.input) in
-    let n = last_length c.receive.new.input in
-    let sees = c.in_err-receive.ensures.sees w.key.now found found.bytes.items c.in_ok-receiver.ensures.read in
-    rw (p.1, p.2)
-    (stopped w.table.now w.key.now w.name.now before after c.receive.new.seen n
-    (seen_so_far w.table.now w.key.now w.name.now before mid found (last_length c.find.new.input) first after n c.receive.new.receiver
-    c.receive.new.seen c.receive.ensures.seen sees)
-    (g.W.Write.contents (inner c.args.writer.now)) c.in_err-receive.field-0.0 c.in_err-receive.ensures.stops)
-
--- how the reads ended
-ends_as : (g : Over) (c : In_ok-receive g) → MatchOption c.receive.new.receiver.part.attempt.stream
-    (EndsUndetermined c.args.wanted.now.table.now c.args.wanted.now.key.now c.in-Some.found c.in-Some.found.bytes.items c.receive.new.receiver
-    (g.R.Read.remaining (source c.find.new.input)) (g.R.Read.remaining (source c.receive.new.input)))
-    (λ _. EndsDetermined c.args.wanted.now.table.now c.args.wanted.now.key.now c.in-Some.found c.in-Some.found.bytes.items c.receive.new.receiver
-    (g.R.Read.remaining (source c.find.new.input)) (g.R.Read.remaining (source c.receive.new.input)) (last_length c.find.new.input)
-    (last_length c.receive.new.input))
-ends_as g c =
-    c.in_ok-receive.ensures.receives c.args.wanted.now.key.now c.in-Some.found c.in-Some.found.bytes.items c.in_ok-receiver.ensures.read
-
-none_of : (o : Option (Vec ℕ Global)) → ((v : Vec ℕ Global) → o ≡ Some v → ⊥) → o ≡ None
-none_of None not = refl
-none_of (Some v) not = absurd (not v refl)
-
-pub returns-in_default-take-clause-ends : goal.returns-in_default-take-clause-ends
-returns-in_default-take-clause-ends g c =
-    let at = goal.at.returns-in_default-take-clause-ends g c in
-    let first = found_first g at.In-Some in
-    let w = c.args.wanted.now in
-    let found = c.in-Some.found in
-    let before = g.R.Read.remaining (source c.args.input.now) in
-    let mid = g.R.Read.remaining (source c.find.new.input) in
-    let after = g.R.Read.remaining (source c.receive.new.input) in
-    let now = c.receive.new.receiver in
-    let none : now.part.attempt.stream ≡ None = sym c.take.ensures.value ∙ none_of c.take.result c.in_default-take.not-Some in
-    let ended = subst
-    (λ (o : Option (Vec ℕ Global)). MatchOption o (EndsUndetermined w.table.now w.key.now found found.bytes.items now mid after)
-    (λ _. EndsDetermined w.table.now w.key.now found found.bytes.items now mid after (last_length c.find.new.input) (last_length c.receive.new.input)))
-    none (ends_as g at.In_ok-receive) in (
-      undetermined w.table.now w.key.now w.name.now before mid found (last_length c.find.new.input) first after (last_length c.receive.new.input) now
-          c.receive.new.seen c.receive.ensures.seen c.missing_packets.result c.missing_packets.ensures none ended,
-      Keeps-refl (g.W.Write.contents (inner c.args.writer.now)),
-    )
-
--- the stream is determined
-module _ (g : Over) (c : In-Some-take g) where
-  abbrev w : Wanted
-  w = c.args.wanted.now
-
-  abbrev found : Found
-  found = c.in-Some.found
-
-  abbrev before : Option (List ℕ)
-  before = g.R.Read.remaining (source c.args.input.now)
-
-  abbrev mid : Option (List ℕ)
-  mid = g.R.Read.remaining (source c.find.new.input)
-
-  abbrev after : Option (List ℕ)
-  after = g.R.Read.remaining (source c.receive.new.input)
-
-  abbrev now : Receiver
-  now = c.receive.new.receiver
-
-  first : FindsFirst (wish_of w) before mid (last_length c.find.new.input) found.head found.bytes.items found.seen
-  first = subst (λ o. Searches (wish_of w) before mid (last_length c.find.new.input) c.find.new.seen o) c.in-Some.is c.in_ok-found.ensures.searches
-
-  some : now.part.attempt.stream ≡ Some c.in-Some-take.bytes
-  some = sym c.take.ensures.value ∙ c.in-Some-take.is
-
-  ended : EndsDetermined w.table.now w.key.now found found.bytes.items now mid after (last_length c.find.new.input) (last_length c.receive.new.input)
-  ended =
-      subst
-      (λ (o : Option (Vec ℕ Global)). MatchOption o (EndsUndetermined w.table.now w.key.now found found.bytes.items now mid after)
-      (λ _. EndsDetermined w.table.now w.key.now found found.bytes.items now mid after (last_length c.find.new.input) (last_length c.receive.new.input)))
-      some (c.in_ok-receive.ensures.receives w.key.now found found.bytes.items c.in_ok-receiver.ensures.read)
-
-  found_stream : (object : List ℕ) × Determines w.table.now (wish_over w.table.now w.key.now w.name.now) before after (last_length c.receive.new.input)
-      now.part.choice.head object c.receive.new.seen × IsStream now.part.choice.head object c.in-Some-take.bytes.items
-  found_stream =
-      determined w.table.now w.key.now w.name.now before mid found (last_length c.find.new.input) first after (last_length c.receive.new.input) now
-      c.receive.new.seen c.receive.ensures.seen ended c.in-Some-take.bytes some
-
-pub returns-clause-ends : goal.returns-clause-ends
-returns-clause-ends g c =
-    let at = (goal.at.returns-clause-ends g c).In-Some-take in
-    let (object, d, is) = found_stream g at in
+    let after = g.R.Read.remaining (source c.read.new.self) in
     let there = g.W.Write.contents (inner c.args.writer.now) in
-    let then = g.W.Write.contents (inner c.finish.new.writer) in (
-      c.receive.new.receiver.part.choice.head,
-      object,
-      c.in-Some-take.bytes.items,
-      d,
-      is,
-      written c.in-Some-take.bytes.items there then c.in_ok-finish.field-0 c.in_ok-finish.ensures.ends,
-    )
+    let then = g.W.Write.contents (inner c.reading.writer) in
+    let then' = g.W.Write.contents (inner c.write_part.new.writer) in
+    let ready = c.as_slice.ensures.value ∙ c.take_ready.ensures.ready in
+    let (count, begun) = c.in_err-write_part.ensures.beginning in
+    rw (p.1, p.2)
+    (subst (λ stop. EndsReceiving w.table.now w.key.now w.name.now c.args.window (Err stop) c.all_seen-in-reading.result before after (last_length c.read.new.self) there then')
+    (sym c.in_err-write_part.ensures.err)
+    (stops_unwritten w.table.now w.key.now w.name.now c.args.window before there
+    (g.R.Read.remaining (source c.reading.input)) then c.reading._reads c.reading.receiver c.reading.seen
+    c.reading.invariant.running after (last_length c.read.new.self) (piece g at) c.in-Ok.ensures.bytes.0
+    (brought g at) (omega (arith, c.in-Ok.ensures.last, c.if-n-eq0.false)) (omega (arith, c.in-Ok.ensures.last, few g at))
+    c.feed.new.self c.in_ok-feed.ensures.fed c.all_seen-in-reading.result c.all_seen-in-reading.ensures then' count
+    (subst (λ xs. Appends then then' (take count xs)) ready begun)))
 
-pub returns-in_err-finish-clause-ends : goal.returns-in_err-finish-clause-ends
-returns-in_err-finish-clause-ends g c =
-    let at = (goal.at.returns-in_err-finish-clause-ends g c).In-Some-take in
-    let (object, d, is) = found_stream g at in
+pub returns-then-has_ended-clause-failures : goal.returns-then-has_ended-clause-failures
+returns-then-has_ended-clause-failures g c =
+    counted_calls (counted_of c.args.input.now) (counted_of c.read.new.self) c.args.writer.now c.write_part.new.writer (Ok Written) 0 0
+    (omega (arith, c.in-Ok.ensures.ok, c.reading.invariant.reads)) (omega (arith, c.reading.invariant.writes, c.in_ok-write_part.ensures.counts)) refl
+
+pub returns-then-has_ended-clause-ends : goal.returns-then-has_ended-clause-ends
+returns-then-has_ended-clause-ends g c =
+    let at = (goal.at.returns-then-has_ended-clause-ends g c).In-Ok in
     let w = c.args.wanted.now in
-    let there = g.W.Write.contents (inner c.args.writer.now) in
-    let then = g.W.Write.contents (inner c.finish.new.writer) in
-    let q = err_from_is_err_and c.from_residual-in_err-finish.result c.from_residual-in_err-finish.ensures.1 in
-    rw (q.1, q.2) (not_written c.in-Some-take.bytes.items there then w.table.now w.key.now w.name.now
-    (g.R.Read.remaining (source c.args.input.now)) (g.R.Read.remaining (source c.receive.new.input)) (last_length c.receive.new.input)
-    c.receive.new.receiver.part.choice.head object c.receive.new.seen d is c.in_err-finish.field-0.0 c.in_err-finish.ensures.ends)
+    let then = g.W.Write.contents (inner c.reading.writer) in
+    let then' = g.W.Write.contents (inner c.write_part.new.writer) in
+    let ready = c.as_slice.ensures.value ∙ c.take_ready.ensures.ready in
+    ends_written w.table.now w.key.now w.name.now c.args.window (g.R.Read.remaining (source c.args.input.now)) (g.W.Write.contents (inner c.args.writer.now))
+    (g.R.Read.remaining (source c.reading.input)) then c.reading._reads c.reading.receiver c.reading.seen
+    c.reading.invariant.running (g.R.Read.remaining (source c.read.new.self)) (last_length c.read.new.self) (piece g at) c.in-Ok.ensures.bytes.0
+    (brought g at) (omega (arith, c.in-Ok.ensures.last, c.if-n-eq0.false)) (omega (arith, c.in-Ok.ensures.last, few g at))
+    c.feed.new.self c.in_ok-feed.ensures.fed c.all_seen-in-reading.result c.all_seen-in-reading.ensures then'
+    (subst (λ xs. Appends then then' xs) ready c.in_ok-write_part.ensures.bytes)
+    (sym c.take_ready.ensures.ended ∙ sym c.has_ended.ensures ∙ c.if-has_ended.true)
 
--- ---- failed calls
-
-pub returns-in_err-receive-clause-failures : goal.returns-in_err-receive-clause-failures
-returns-in_err-receive-clause-failures g c =
-    let p = err_from_is_err_and c.from_residual-in_err-receive.result c.from_residual-in_err-receive.ensures.1 in
-    rw (p.1, p.2)
-    (counted_reads (counted_of c.args.input.now) (counted_of c.receive.new.input) c.args.writer.now (Err c.in_err-receive.field-0.0)
-    (g.W.Write.contents (inner c.args.writer.now)) (omega (arith, c.in_ok-found.ensures.counts, c.in_err-receive.ensures.counts)))
-
-pub returns-in_err-finish-clause-failures : goal.returns-in_err-finish-clause-failures
-returns-in_err-finish-clause-failures g c =
-    let p = err_from_is_err_and c.from_residual-in_err-finish.result c.from_residual-in_err-finish.ensures.1 in
-    rw (p.1, p.2)
-    (counted_writes (counted_of c.args.input.now) (counted_of c.receive.new.input) c.args.writer.now c.finish.new.writer
-    (Err c.in_err-finish.field-0.0) (g.W.Write.contents (inner c.args.writer.now)) (g.W.Write.contents (inner c.finish.new.writer))
-    (omega (arith, c.in_ok-found.ensures.counts, c.in_ok-receive.ensures.counts)) c.in_err-finish.ensures.counts)
+pub reading-preserved : goal.reading-preserved
+reading-preserved g c =
+    let at = (goal.at.reading-preserved g c).In-Ok in
+    let w = c.args.wanted.now in
+    let then = g.W.Write.contents (inner c.reading.writer) in
+    let then' = g.W.Write.contents (inner c.write_part.new.writer) in
+    let ready = c.as_slice.ensures.value ∙ c.take_ready.ensures.ready in
+    record {
+      running = runs_on w.table.now w.key.now w.name.now c.args.window (g.R.Read.remaining (source c.args.input.now))
+          (g.W.Write.contents (inner c.args.writer.now)) (g.R.Read.remaining (source c.reading.input)) then c.reading._reads c.reading.receiver c.reading.seen
+          c.reading.invariant.running (g.R.Read.remaining (source c.read.new.self)) (last_length c.read.new.self) (piece g at) c.in-Ok.ensures.bytes.0
+          (brought g at) (omega (arith, c.in-Ok.ensures.last, c.if-n-eq0.false)) (omega (arith, c.in-Ok.ensures.last, few g at))
+          c.feed.new.self c.in_ok-feed.ensures.fed c.all_seen-in-reading.result c.all_seen-in-reading.ensures then'
+          (subst (λ xs. Appends then then' xs) ready c.in_ok-write_part.ensures.bytes)
+          (sym c.take_ready.ensures.ended ∙ sym c.has_ended.ensures ∙ c.if-has_ended.false) c.take_ready.new.self
+          (subst (λ xs. HandsOutOf c.feed.new.self xs c.take_ready.new.self) c.take_ready.ensures.ready c.take_ready.ensures.hands)
+          c.take_ready.ensures.shows c.take_ready.ensures.none c.take_ready.ensures.ended (c.take_ready.ensures.sound c.in_ok-feed.ensures.sound);
+      reads = omega (arith, c.in-Ok.ensures.ok, c.reading.invariant.reads);
+      writes = omega (arith, c.reading.invariant.writes, c.in_ok-write_part.ensures.counts);
+    }
 
 pub returns-clause-failures : goal.returns-clause-failures
 returns-clause-failures g c =
-    counted_writes (counted_of c.args.input.now) (counted_of c.receive.new.input) c.args.writer.now c.finish.new.writer
-    (Ok Written) (g.W.Write.contents (inner c.args.writer.now)) (g.W.Write.contents (inner c.finish.new.writer))
-    (omega (arith, c.in_ok-found.ensures.counts, c.in_ok-receive.ensures.counts)) c.in_ok-finish.ensures.counts
+    counted_calls (counted_of c.args.input.now) (counted_of c.reading.input) c.args.writer.now c.reading.writer (Ok c.ending-2.result) 0 0
+    (omega (arith, c.reading.invariant.reads)) (omega (arith, c.reading.invariant.writes)) refl
+
+pub returns-clause-ends : goal.returns-clause-ends
+returns-clause-ends g c =
+    let w = c.args.wanted.now in
+    let mid = g.R.Read.remaining (source c.reading.input) in
+    ends_unread w.table.now w.key.now w.name.now c.args.window (g.R.Read.remaining (source c.args.input.now)) (g.W.Write.contents (inner c.args.writer.now))
+    mid (g.W.Write.contents (inner c.reading.writer)) c.reading._reads c.reading.receiver c.reading.seen
+    c.reading.invariant.running c.ending-2.result c.ending-2.ensures mid (last_length c.reading.input) (Consumes-nil mid)
+    (inr (omega (arith, c.reading-test.false, c.reading.auto._reads-end, c.reading.invariant.running.brought)))

@@ -15,8 +15,8 @@ loop-head-preserved c =
     let pushed : c.push.new.self.items ≡ before ++ (here ∷ []) = c.in_ok-push.ensures.items in
     let less : at < length heads = omega arith in
     record {
-      each = subst (All (IsStanding c.args.table.now c.args.key.now c.args.bytes.now)) (sym pushed)
-          (All-push (IsStanding c.args.table.now c.args.key.now c.args.bytes.now) before here c.loop-head.invariant.each c.in_ok-standing_of.ensures.standing);
+      each = subst (All (IsStanding c.args.table.now c.args.key.now c.args.window c.args.bytes.now)) (sym pushed)
+          (All-push (IsStanding c.args.table.now c.args.key.now c.args.window c.args.bytes.now) before here c.loop-head.invariant.each c.in_ok-standing_of.ensures.standing);
       heads = ap (map (λ (s : Standing). s.head)) pushed ∙ map-append (λ (s : Standing). s.head) before (here ∷ [])
           ∙ ap (λ hs. hs ++ (here.head ∷ [])) c.loop-head.invariant.heads
           ∙ ap (λ h. take at heads ++ (h ∷ [])) (c.in_ok-standing_of.ensures.head ∙ c.head-item.is)

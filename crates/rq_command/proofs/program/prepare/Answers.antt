@@ -13,3 +13,11 @@ returns-in_err-check_length-clause-stops g c =
     refused_early c.args.job.order file (stands files) (g.D.Reader.Read.remaining c.in_ok-reader.reader) c.in-Some.key c.in-Some-length.length
     c.in_err-check_length.field-0.0 c.from_residual-in_err-check_length.result (p.1 ∙ ap (λ s. Err s) p.2) (subst (IsKeyRead file) c.in-Some.is c.in_ok-key.ensures.key)
     (c.in_ok-reader.ensures.bytes ∙ ap (λ there. there files) c.key_of.ensures.stays) c.in_err-check_length.ensures.refused c.in-Some-length.ensures
+
+pub returns-clause-key : goal.returns-clause-key
+returns-clause-key g c =
+    subst (IsKeyRead (key_file (g.D.Devices.stands c.args.devices.now) (option_map (λ s. s.now) c.args.job.key))) c.in-Some.is c.in_ok-key.ensures.key
+
+pub returns-clause-bytes : goal.returns-clause-bytes
+returns-clause-bytes g c =
+    c.in_ok-reader.ensures.bytes ∙ ap (λ there. there (map (λ s. s.now) c.args.job.files.items)) c.key_of.ensures.stays

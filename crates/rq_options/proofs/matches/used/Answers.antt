@@ -1,4 +1,4 @@
-use Rattle.std.proofs.Common.{Some, ◌∙◌}
+use Rattle.std.proofs.Common.{Some}
 use Rattle.clap.specs.Words.{found_of, rows_of}
 use Rattle.rq_options.proofs.Named.{found, none}
 use Rattle.rq_options.proofs.matches.used.Goals as goal

@@ -1,7 +1,7 @@
 use Rattle.clap.specs.Words.{found_of, rows_of}
 use Rattle.rq_options.proofs.Parsed.{fails_refused}
 use Rattle.rq_options.specs.Options.{misuse_kind}
-use Rattle.rq_words.specs.Asked.{kinds_of, name_asked, receive_asked, telling_asked}
+use Rattle.rq_words.specs.Asked.{kinds_of, name_asked, receive_asked, receiving_asked}
 use Rattle.rq_words.proofs.Asking.{both_asked, fails_so, first_refused, passes, second_refused}
 use Rattle.rq_words.proofs.words.receive_job.Goals as goal
 
@@ -13,16 +13,16 @@ pub returns-in-Err-clause-fails : goal.returns-in-Err-clause-fails
 returns-in-Err-clause-fails c =
     let rows = rows_of (found_of c.args.matches.now) in
     let kind = misuse_kind c.in-Err.misuse in
-    fails_so (receive_asked rows) kind c.error.result (first_refused (name_asked rows) (telling_asked rows) kind (rw c.in-Err.is at c.in_ok-name.ensures))
+    fails_so (receive_asked rows) kind c.error.result (first_refused (name_asked rows) (receiving_asked rows) kind (rw c.in-Err.is at c.in_ok-name.ensures))
     c.error.ensures
 
-pub returns-in-Err-telling_of-clause-fails : goal.returns-in-Err-telling_of-clause-fails
-returns-in-Err-telling_of-clause-fails c =
+pub returns-in-Err-receiving_of-clause-fails : goal.returns-in-Err-receiving_of-clause-fails
+returns-in-Err-receiving_of-clause-fails c =
     let rows = rows_of (found_of c.args.matches.now) in
-    let kind = misuse_kind c.in-Err-telling_of.misuse in
-    fails_so (receive_asked rows) kind c.error-in-Err-telling_of.result
-    (second_refused (name_asked rows) (telling_asked rows) c.in-Ok.name.items kind (rw c.in-Ok.is at c.in_ok-name.ensures) c.in-Err-telling_of.ensures)
-    c.error-in-Err-telling_of.ensures
+    let kind = misuse_kind c.in-Err-receiving_of.misuse in
+    fails_so (receive_asked rows) kind c.error-in-Err-receiving_of.result
+    (second_refused (name_asked rows) (receiving_asked rows) c.in-Ok.name.items kind (rw c.in-Ok.is at c.in_ok-name.ensures) c.in-Err-receiving_of.ensures.value)
+    c.error-in-Err-receiving_of.ensures
 
 pub returns-in_err-files-clause-fails : goal.returns-in_err-files-clause-fails
 returns-in_err-files-clause-fails c =
@@ -31,6 +31,6 @@ returns-in_err-files-clause-fails c =
 pub returns-clause-fails : goal.returns-clause-fails
 returns-clause-fails c =
     let rows = rows_of (found_of c.args.matches.now) in
-    passes (receive_asked rows) (c.in-Ok.name.items, c.in-Ok-telling_of.telling)
-    (both_asked (name_asked rows) (telling_asked rows) c.in-Ok.name.items c.in-Ok-telling_of.telling (rw c.in-Ok.is at c.in_ok-name.ensures)
-    c.in-Ok-telling_of.ensures)
+    passes (receive_asked rows) (c.in-Ok.name.items, c.in-Ok-receiving_of.receiving)
+    (both_asked (name_asked rows) (receiving_asked rows) c.in-Ok.name.items c.in-Ok-receiving_of.receiving (rw c.in-Ok.is at c.in_ok-name.ensures)
+    c.in-Ok-receiving_of.ensures.value)

@@ -1,5 +1,5 @@
 use Rattle.raptorq.specs.Decoder.{state_of}
-use Rattle.rq_cast.proofs.Attempts.{no_stream_yet, knows_none}
+use Rattle.rq_cast.proofs.Attempts.{not_named_yet, knows_none}
 use Rattle.rq_cast.proofs.attempt.Attempt.new.Goals as goal
 
 pub returns-clause-attempt : goal.returns-clause-attempt
@@ -12,5 +12,5 @@ returns-clause-attempt c =
       few = c.in_ok-check.ensures.few;
       configuration = new.configuration;
       knows = knows_none table k state new c.new-known.result c.new-known.ensures;
-      stream = no_stream_yet table k state new c.args.head.now;
+      object = not_named_yet table k state new c.args.head.now;
     }

@@ -1,5 +1,5 @@
 use Rattle.std.proofs.Common.{sym, ◌∙◌}
-use Rattle.rq_cast.specs.PartReceiving.{IsTakenHead}
+use Rattle.rq_cast.specs.Taken.{IsTakenHead}
 use Rattle.rq_cast.proofs.ChosenHeads.{not_refused, heads_still, heads_behind}
 use Rattle.rq_cast.proofs.choice.Choice.count_other.Goals as goal
 

@@ -10,8 +10,8 @@ invariant_of-self g c =
     let grown = write_grows old (failed_count c.write-result.new.self) c.write-result.result c.args.cell.now fits c.write-result.ensures.counts in
     record { failed = omega (arith, grown, c.args.self.now.failed) }
 
-pub invariant_of-self-else-eq : goal.invariant_of-self-else-eq
-invariant_of-self-else-eq g c =
+pub invariant_of-self-else-loses : goal.invariant_of-self-else-loses
+invariant_of-self-else-loses g c =
     let old = failed_count c.args.self.now.writer in
     let fits : old ≤ 2 ^ 64 - 1 = omega (arith, c.requires) in
     let grown = write_grows old (failed_count c.write-result.new.self) c.write-result.result c.args.cell.now fits c.write-result.ensures.counts in

@@ -1,0 +1,362 @@
+-- A stream as far as it is sent, and where that stops.
+use Rattle.std.proofs.Common.{◌≡◌, inl, inr, ℕ, suc, ◌+◌, ◌*◌, ◌<◌, ◌≤◌, zero-mul, div-mul-le_self, div-lt_iff_lt-mul, Bool, true, false, None, List, [], ◌++◌, length, map, Option, Err, refl, sym, ap, subst, ◌∙◌, arith, append-nil, length-append}
+use Rattle.std.specs.Prelude.{nat_lt, ◌==◌}
+use Rattle.std.specs.List.{range_with_len, sum_by}
+use Rattle.std.specs.Io.KnownBytes.{Consumes, Appends}
+use Rattle.std.proofs.KnownBytes.{Consumes-nil, Consumes-trans, Appends-nil, Appends-trans, Appends-kept}
+use Rattle.std.proofs.lemmas.Bool.{cases_lt, ltb-true, ltb-false}
+use Rattle.std.proofs.lemmas.List.{length_push}
+use Rattle.rq_bytes.specs.declared.error.Error.{Error}
+use Rattle.rq_bytes.specs.declared.error.Error.TheVariants.{TransferTooLong}
+use Rattle.rq_standard.specs.Configuration.{Configuration}
+use Rattle.raptorq.specs.Encoder.{no_block}
+use Rattle.rq_streams.specs.declared.run.Stop.{Stop}
+use Rattle.rq_streams.specs.declared.run.Stop.TheVariants.{Fault, Refused}
+use Rattle.rq_streams.specs.Ends.{failed_calls}
+use Rattle.rq_cells.specs.Cells.{Key}
+use Rattle.rq_cast.specs.declared.order.Order.{Order}
+use Rattle.rq_cast.specs.declared.stream_sending.Sent.{Sent}
+use Rattle.rq_cast.specs.declared.stream_sending.StreamSender.{StreamSender}
+use Rattle.rq_cast.specs.Names.{AreNames}
+use Rattle.rq_cast.specs.Parts.{greatest_count, object_of}
+use Rattle.rq_cast.specs.PartReading.{ReadsPart, ReadsWithin}
+use Rattle.rq_cast.specs.PartSending.{RefusesPart, SendsPart, StopsPart}
+use Rattle.rq_cast.specs.Preparing.{IsPrepared, RefusesObject}
+use Rattle.rq_cast.specs.Reading.{IsStopOfReads}
+use Rattle.rq_cast.specs.Sent.{Sending, cell_count}
+use Rattle.rq_cast.specs.SentParts.{bytes_of_part, last_index, IsRead, names_of, IsPreparedPart, AreSentParts, SendsParts, SendsStream, StopsUnsent, StopsStream}
+use Rattle.rq_cast.proofs.SentStreams.{bytes_next, last_is, is_last_next, prepared_same, sends_longer, sends_next, names_all, cells_all, with_next}
+
+-- how many calls failed where a run of any kind is stopped
+pub same_failed : (X Y : Type 0) (stop : Stop) → failed_calls {X = X} (Err stop) ≡ failed_calls {X = Y} (Err stop)
+same_failed X Y Fault = refl
+same_failed X Y (Refused e) = refl
+
+-- Of what was read the parts are sent that these names are of.
+pub record HasSent (order : Order) (key : Key) (before after there then : Option (List ℕ)) (input : List ℕ) (s : StreamSender) : Type 0 where
+  pub ordered : s.order ≡ order
+  pub keyed : s.key.now ≡ key
+  pub taken : Consumes before after input
+  pub of : ℕ → Sending
+  pub named : AreNames (names_of of s.names.count) s.names
+  pub written : List ℕ
+  pub appended : Appends there then written
+  pub sends : SendsParts order key input of s.names.count written s.lost
+  pub cells : s.cells ≡ sum_by cell_count (map of (range_with_len 0 s.names.count))
+
+-- all that was read, in whole parts
+pub record HasSentWhole (order : Order) (key : Key) (before after there then : Option (List ℕ)) (s : StreamSender) : Type 0 where
+  pub input : List ℕ
+  pub whole : length input ≡ s.names.count * order.part
+  pub has : HasSent order key before after there then input s
+
+-- what sends nothing
+no_configuration : Configuration
+no_configuration = record { transfer_length = 0; symbol_size = 0; source_blocks = 0; sub_blocks = 0; alignment = 0 }
+
+no_sending : Sending
+no_sending = record {
+  key = None;
+  encoded = record { configuration = no_configuration; block = λ b. no_block b 0 };
+  head = record { stream = []; number = 0; name = []; configuration = no_configuration };
+  series = record { first = 0; step = 0; count = 0; few = omega arith; ids = λ k below. absurd (omega (arith, below)) };
+}
+
+no_parts : ℕ → Sending
+no_parts i = no_sending
+
+pub has_sent_none : (order : Order) (key : Key) (before there : Option (List ℕ)) (s : StreamSender) → s.order ≡ order → s.key.now ≡ key
+    → AreNames [] s.names → s.cells ≡ 0 → s.lost ≡ 0 → HasSentWhole order key before before there there s
+has_sent_none order key before there s ordered keyed named none_sent none_lost =
+    let none : 0 ≡ s.names.count = sym named.count in
+    record {
+      input = [];
+      whole = subst (λ n. 0 ≡ n * order.part) none (sym (zero-mul order.part));
+      has = record {
+        ordered = ordered;
+        keyed = keyed;
+        taken = Consumes-nil before;
+        of = no_parts;
+        named = subst (λ n. AreNames (names_of no_parts n) s.names) none named;
+        written = [];
+        appended = Appends-nil there;
+        sends = subst (λ n. SendsParts order key [] no_parts n [] s.lost) none (record {
+          prepared = λ i below. absurd (omega (arith, below));
+          sent = (refl, none_lost);
+        });
+        cells = none_sent ∙ ap (λ n. sum_by cell_count (map no_parts (range_with_len 0 n))) none;
+      };
+    }
+
+-- ---- a part more
+
+module _ (order : Order) (key : Key) (some : 0 < order.part) (before mid after there between : Option (List ℕ)) (old : StreamSender)
+    (sent : HasSentWhole order key before mid there between old) (bytes : List ℕ) (is_last : Bool) (short : is_last ≡ nat_lt (length bytes) order.part)
+    (reads : ReadsPart mid after order.part bytes) where
+  abbrev n : ℕ
+  n = old.names.count
+
+  abbrev of : ℕ → Sending
+  of = sent.has.of
+
+  abbrev input : List ℕ
+  input = sent.input ++ bytes
+
+  long : n * order.part ≤ length sent.input
+  long = omega (arith, sent.whole)
+
+  pub taken_more : Consumes before after input
+  taken_more = Consumes-trans before mid after sent.input bytes sent.has.taken reads.taken
+
+  length_more : length input ≡ n * order.part + length bytes
+  length_more = length-append sent.input bytes ∙ ap (λ k. k + length bytes) sent.whole
+
+  last_same : is_last ≡ (n == last_index order.part input)
+  last_same = short ∙ sym (is_last_next order.part sent.input bytes n some sent.whole reads.few)
+
+  bytes_are : bytes ≡ bytes_of_part order.part input n
+  bytes_are = sym (bytes_next order.part sent.input bytes n sent.whole reads.few)
+
+  -- the part is read
+  pub is_read : IsRead order.part input n after
+  is_read =
+      let next : (n + 1) * order.part ≡ n * order.part + order.part = omega arith in
+      elim (cases_lt (length bytes) order.part) [
+        | inl less ↦ inr (reads.at_end less, last_is order.part sent.input bytes n sent.whole less)
+        | inr all ↦ inl (omega (arith, length_more, all, reads.few, next))
+      ]
+
+  ready : (s : Sending) → IsPrepared old.order old.key.now is_last (names_of of n) bytes s → IsPreparedPart order key input of n s
+  ready s prepared =
+      prepared_same order key last_same refl bytes_are refl
+      (subst (λ k. IsPrepared order k is_last (names_of of n) bytes s) sent.has.keyed
+      (subst (λ o. IsPrepared o old.key.now is_last (names_of of n) bytes s) sent.has.ordered prepared))
+
+  sends_so_far : SendsParts order key input of n sent.has.written old.lost
+  sends_so_far = sends_longer order key some sent.input bytes of n long sent.has.written old.lost sent.has.sends
+
+  module _ (new : StreamSender) (then : Option (List ℕ)) (more : SendsPart is_last (names_of of n) bytes old new between then)
+      (same_order : new.order ≡ old.order) (same_key : new.key.now ≡ old.key.now) where
+    abbrev all : ℕ → Sending
+    all = with_next of n more.sending
+
+    pub one_more : new.names.count ≡ n + 1
+    one_more = more.named.count ∙ length_push (names_of of n) more.sending.head.name ∙ ap (λ k. k + 1) (sym sent.has.named.count)
+
+    pub has_sent_more : HasSent order key before after there then input new
+    has_sent_more =
+        let cells = more.sends.written in
+        let named : AreNames (names_of all (n + 1)) new.names =
+        subst (λ names. AreNames names new.names) (sym (names_all order key input of n more.sending sent.has.written cells old.lost more.lost)) more.named in
+        let sends : SendsParts order key input all (n + 1) (sent.has.written ++ cells) new.lost =
+        subst (SendsParts order key input all (n + 1) (sent.has.written ++ cells)) (sym more.lost_more)
+        (sends_next order key input of n more.sending sent.has.written cells old.lost more.lost sends_so_far (ready more.sending more.prepared) more.sends.sent) in
+        record {
+          ordered = same_order ∙ sent.has.ordered;
+          keyed = same_key ∙ sent.has.keyed;
+          taken = taken_more;
+          of = all;
+          named = subst (λ k. AreNames (names_of all k) new.names) (sym one_more) named;
+          written = sent.has.written ++ cells;
+          appended = subst (λ xs. Appends there then (sent.has.written ++ xs)) (append-nil cells)
+              (Appends-trans there between then sent.has.written (cells ++ []) sent.has.appended more.sends.appended);
+          sends = subst (λ k. SendsParts order key input all k (sent.has.written ++ cells) new.lost) (sym one_more) sends;
+          cells = more.cells ∙ ap (λ k. k + cell_count more.sending) sent.has.cells
+              ∙ sym (cells_all order key input of n more.sending sent.has.written cells old.lost more.lost)
+              ∙ ap (λ k. sum_by cell_count (map all (range_with_len 0 k))) (sym one_more);
+        }
+
+    pub has_sent_whole : is_last ≡ false → HasSentWhole order key before after there then new
+    has_sent_whole more_to_come =
+        let all_there : order.part ≤ length bytes = ltb-false (length bytes) order.part (sym short ∙ more_to_come) in
+        let next : (n + 1) * order.part ≡ n * order.part + order.part = omega arith in
+        record {
+          input = input;
+          whole = subst (λ k. length input ≡ k * order.part) (sym one_more) (omega (arith, length_more, all_there, reads.few, next));
+          has = has_sent_more;
+        }
+
+    pub sends_stream : is_last ≡ true → (answer : Sent) → answer.parts ≡ new.names.count → answer.cells ≡ new.cells → answer.lost ≡ new.lost
+        → SendsStream order key before after there then answer
+    sends_stream ended answer parts cells lost =
+        let less : length bytes < order.part = ltb-true (length bytes) order.part (sym short ∙ ended) in
+        let last = last_is order.part sent.input bytes n sent.whole less in
+        let has = has_sent_more in
+        record {
+          input = input;
+          taken = taken_more;
+          at_end = reads.at_end less;
+          of = has.of;
+          written = has.written;
+          appended = has.appended;
+          parts = parts ∙ one_more ∙ ap (λ k. k + 1) (sym last);
+          sends = subst (λ k. SendsParts order key input has.of k has.written answer.lost) (sym parts)
+              (subst (SendsParts order key input has.of new.names.count has.written) (sym lost) has.sends);
+          cells = cells ∙ has.cells ∙ ap (λ k. sum_by cell_count (map has.of (range_with_len 0 k))) (sym parts);
+        }
+
+  -- it stops as the part is made ready or sent
+  module _ (lost : ℕ) (then : Option (List ℕ)) (stop : Stop) where
+    few : length input ≤ (n + 1) * order.part
+    few =
+        let next : (n + 1) * order.part ≡ n * order.part + order.part = omega arith in
+        omega (arith, length_more, reads.few, next)
+
+    unsent : (e : Error) → RefusesPart old is_last (names_of of n) bytes e → StopsUnsent order input of n after (Refused e)
+    unsent e refuses = elim refuses [
+      | inl memory ↦ inl memory
+      | inr object ↦
+          inr (inl (
+            is_read,
+            subst (λ xs. RefusesObject order (object_of (n == last_index order.part input) (names_of of n) xs) e) bytes_are
+                (subst (λ b. RefusesObject order (object_of b (names_of of n) bytes) e) last_same
+                (subst (λ o. RefusesObject o (object_of is_last (names_of of n) bytes) e) sent.has.ordered object)),
+          ))
+    ]
+
+    pub stops_at_part : StopsPart is_last (names_of of n) bytes old lost between then stop → StopsStream order key before after there then stop (old.lost + lost)
+    stops_at_part stops = elim stops [
+      | inl (e, is, refuses, none, kept) ↦ record {
+        input = input;
+        taken = taken_more;
+        of = of;
+        index = n;
+        whole = omega (arith, length_more);
+        no_further = few;
+        front = sent.has.written;
+        lost_before = old.lost;
+        sends = sends_so_far;
+        next = [];
+        lost_next = 0;
+        stopped = inl (subst (StopsUnsent order input of n after) (sym is) (unsent e refuses), refl, refl);
+        appended = subst (Appends there then) (sym (append-nil sent.has.written)) (Appends-kept there between then sent.has.written sent.has.appended kept);
+        lost_in_all = omega (arith, none);
+      }
+      | inr (sending, prepared, within) ↦ record {
+        input = input;
+        taken = taken_more;
+        of = of;
+        index = n;
+        whole = omega (arith, length_more);
+        no_further = few;
+        front = sent.has.written;
+        lost_before = old.lost;
+        sends = sends_so_far;
+        next = within.sends.written ++ within.behind;
+        lost_next = lost;
+        stopped = inr (record {
+          read = is_read;
+          sending = sending;
+          prepared = ready sending prepared;
+          number = within.number;
+          within = within.within;
+          cells = within.sends.written;
+          sent = within.sends.sent;
+          behind = within.behind;
+          stopped = within.stopped;
+          is = refl;
+        });
+        appended = Appends-trans there between then sent.has.written (within.sends.written ++ within.behind) sent.has.appended within.sends.appended;
+        lost_in_all = refl;
+      }
+    ]
+
+-- ---- it stops before the next part is read
+
+module _ (order : Order) (key : Key) (some : 0 < order.part) (before mid there then : Option (List ℕ)) (s : StreamSender)
+    (sent : HasSentWhole order key before mid there then s) where
+  pub stops_reading : (after : Option (List ℕ)) (stop : Stop) → ReadsWithin mid after order.part → IsStopOfReads stop → StopsStream order key before after there then stop s.lost
+  stops_reading after stop reads is =
+      let n = s.names.count in
+      let input = sent.input ++ reads.piece in
+      let next : (n + 1) * order.part ≡ n * order.part + order.part = omega arith in
+      record {
+        input = input;
+        taken = Consumes-trans before mid after sent.input reads.piece sent.has.taken reads.taken;
+        of = sent.has.of;
+        index = n;
+        whole = omega (arith, length-append sent.input reads.piece, sent.whole);
+        no_further = omega (arith, length-append sent.input reads.piece, sent.whole, reads.few, next);
+        front = sent.has.written;
+        lost_before = s.lost;
+        sends = sends_longer order key some sent.input reads.piece sent.has.of n (omega (arith, sent.whole)) sent.has.written s.lost sent.has.sends;
+        next = [];
+        lost_next = 0;
+        stopped = inl (stops_unsent input n after stop is, refl, refl);
+        appended = subst (Appends there then) (sym (append-nil sent.has.written)) sent.has.appended;
+        lost_in_all = omega arith;
+      }
+    where
+      stops_unsent : (input : List ℕ) (n : ℕ) (after : Option (List ℕ)) (stop : Stop) → IsStopOfReads stop → StopsUnsent order input sent.has.of n after stop
+      stops_unsent input n after Fault is = tt
+      stops_unsent input n after (Refused e) (inl is) = absurd (cc is)
+      stops_unsent input n after (Refused e) (inr is) = inl (cc is)
+
+  -- there is no number for it
+  pub stops_unnumbered : s.names.count ≡ greatest_count → StopsStream order key before mid there then (Refused TransferTooLong) s.lost
+  stops_unnumbered all =
+      let n = s.names.count in
+      let next : (n + 1) * order.part ≡ n * order.part + order.part = omega arith in
+      record {
+        input = sent.input;
+        taken = sent.has.taken;
+        of = sent.has.of;
+        index = n;
+        whole = omega (arith, sent.whole);
+        no_further = omega (arith, sent.whole, next);
+        front = sent.has.written;
+        lost_before = s.lost;
+        sends = sent.has.sends;
+        next = [];
+        lost_next = 0;
+        stopped = inl (inr (inr (refl, all, sent.whole)), refl, refl);
+        appended = subst (Appends there then) (sym (append-nil sent.has.written)) sent.has.appended;
+        lost_in_all = omega arith;
+      }
+
+-- ---- a call fails when all is written
+
+module _ (order : Order) (key : Key) (some : 0 < order.part) (before after there then : Option (List ℕ)) (sent : Sent)
+    (all : SendsStream order key before after there then sent) where
+  abbrev last : ℕ
+  last = last_index order.part all.input
+
+  parts_are : sent.parts ≡ suc last
+  parts_are = all.parts ∙ (let next : last + 1 ≡ suc last = omega arith in next)
+
+  all_parts : SendsParts order key all.input all.of (suc last) all.written sent.lost
+  all_parts = subst (λ n. SendsParts order key all.input all.of n all.written sent.lost) parts_are all.sends
+
+  stops_in_last : AreSentParts all.of (suc last) all.written sent.lost → StopsStream order key before after there then Fault sent.lost
+  stops_in_last (front, bytes, lost, more, earlier, here, is, count) = record {
+    input = all.input;
+    taken = all.taken;
+    of = all.of;
+    index = last;
+    whole = div-mul-le_self (length all.input) order.part;
+    no_further =
+        let above : length all.input < (last + 1) * order.part = (div-lt_iff_lt-mul some).0 (omega arith) in
+        omega (arith, above);
+    front = front;
+    lost_before = lost;
+    sends = record { prepared = λ i below. all_parts.prepared i (omega (arith, below)); sent = earlier };
+    next = bytes;
+    lost_next = more;
+    stopped = inr (record {
+      read = inr (all.at_end, refl);
+      sending = all.of last;
+      prepared = all_parts.prepared last (omega arith);
+      number = cell_count (all.of last);
+      within = omega arith;
+      cells = bytes;
+      sent = here;
+      behind = [];
+      stopped = inl refl;
+      is = sym (append-nil bytes);
+    });
+    appended = subst (Appends there then) is all.appended;
+    lost_in_all = count;
+  }
+
+  pub stops_behind_all : StopsStream order key before after there then Fault sent.lost
+  stops_behind_all = stops_in_last all_parts.sent

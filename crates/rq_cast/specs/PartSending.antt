@@ -1,0 +1,32 @@
+-- What sending one part more of a stream does.
+use Rattle.std.specs.Prelude.{◌≡◌, ◌⊎◌, ℕ, ◌+◌, Bool, List, [], ◌∷◌, ◌++◌, Option}
+use Rattle.std.specs.Io.KnownBytes.{Keeps}
+use Rattle.rq_bytes.specs.declared.error.Error.{Error}
+use Rattle.rq_bytes.specs.declared.error.Error.TheVariants.{OutOfMemory}
+use Rattle.rq_streams.specs.declared.run.Stop.{Stop}
+use Rattle.rq_streams.specs.declared.run.Stop.TheVariants.{Refused}
+use Rattle.rq_cast.specs.declared.stream_sending.StreamSender.{StreamSender}
+use Rattle.rq_cast.specs.Names.{AreNames}
+use Rattle.rq_cast.specs.Parts.{object_of}
+use Rattle.rq_cast.specs.Preparing.{IsPrepared, RefusesObject}
+use Rattle.rq_cast.specs.Sent.{Sending, cell_count, SendsFirst, StopsSending}
+
+-- memory is refused, or the object of the part behind parts of these names
+abbrev pub RefusesPart : StreamSender → Bool → List (List ℕ) → List ℕ → Error → Type 0
+RefusesPart s is_last names bytes e = (e ≡ OutOfMemory) ⊎ RefusesObject s.order (object_of is_last names bytes) e
+
+-- Bytes are sent as the part behind parts of these names.
+pub record SendsPart (is_last : Bool) (names : List (List ℕ)) (bytes : List ℕ) (old new : StreamSender) (there then : Option (List ℕ)) : Type 0 where
+  pub sending : Sending
+  pub prepared : IsPrepared old.order old.key.now is_last names bytes sending
+  pub lost : ℕ
+  pub sends : SendsFirst sending (cell_count sending) lost [] there then
+  pub named : AreNames (names ++ (sending.head.name ∷ [])) new.names
+  pub cells : new.cells ≡ old.cells + cell_count sending
+  pub lost_more : new.lost ≡ old.lost + lost
+
+-- Nothing of them is, or some first cells.
+abbrev pub StopsPart : Bool → List (List ℕ) → List ℕ → StreamSender → ℕ → Option (List ℕ) → Option (List ℕ) → Stop → Type 0
+StopsPart is_last names bytes old lost there then stop =
+    ((e : Error) × (stop ≡ Refused e) × RefusesPart old is_last names bytes e × (lost ≡ 0) × Keeps there then)
+    ⊎ ((sending : Sending) × IsPrepared old.order old.key.now is_last names bytes sending × StopsSending sending lost there then stop)

@@ -1,0 +1,119 @@
+-- A stream that is sent in parts: what each part is, and what is written.
+use Rattle.std.specs.Prelude.{◌≡◌, ◌⊎◌, ⊤, ℕ, zero, suc, ◌+◌, ◌*◌, ◌/◌, ◌<◌, ◌≤◌, ◌==◌, List, [], ◌++◌, length, take, drop, map, Option, Err}
+use Rattle.std.specs.List.{range_with_len, sum_by}
+use Rattle.std.specs.Io.KnownBytes.{Consumes, Appends, IsAtEnd}
+use Rattle.rq_bytes.specs.declared.error.Error.TheVariants.{OutOfMemory, TransferTooLong}
+use Rattle.rq_streams.specs.declared.counted.Counted.{Counted}
+use Rattle.rq_streams.specs.declared.run.Stop.{Stop}
+use Rattle.rq_streams.specs.declared.run.Stop.TheVariants.{Fault, Refused}
+use Rattle.rq_streams.specs.Counted.{failed_count}
+use Rattle.rq_streams.specs.Ends.{failed_calls}
+use Rattle.rq_cells.specs.Cells.{Key}
+use Rattle.rq_cast.specs.declared.order.Order.{Order}
+use Rattle.rq_cast.specs.declared.output.Output.{Output}
+use Rattle.rq_cast.specs.declared.stream_sending.Sent.{Sent}
+use Rattle.rq_cast.specs.Output.{CountsLost}
+use Rattle.rq_cast.specs.Parts.{greatest_count, object_of}
+use Rattle.rq_cast.specs.Preparing.{IsPrepared, RefusesObject}
+use Rattle.rq_cast.specs.Sent.{Sending, cell_count, AreSent, StopsBehind}
+
+-- ---- the parts of an input, of so many bytes each
+
+-- the bytes of the part of an index: the last one has fewer
+abbrev pub bytes_of_part : ℕ → List ℕ → ℕ → List ℕ
+bytes_of_part size input index = take size (drop (index * size) input)
+
+-- the index of the last one, which may have none
+abbrev pub last_index : ℕ → List ℕ → ℕ
+last_index size input = length input / size
+
+-- the part of an index is read as soon as all its bytes are, and the last one at the end
+abbrev pub IsRead : ℕ → List ℕ → ℕ → Option (List ℕ) → Type 0
+IsRead size input index after = (length input ≡ (index + 1) * size) ⊎ (IsAtEnd after × (last_index size input ≡ index))
+
+-- ---- what sends them
+
+-- the names of the first n
+abbrev pub names_of : (ℕ → Sending) → ℕ → List (List ℕ)
+names_of of n = map (λ i. (of i).head.name) (range_with_len 0 n)
+
+-- the part of an index is made ready to be sent, behind those before it, and the last one as such
+abbrev pub IsPreparedPart : Order → Key → List ℕ → (ℕ → Sending) → ℕ → Sending → Type 0
+IsPreparedPart order key input of index s =
+    IsPrepared order key (index == last_index order.part input) (names_of of index) (bytes_of_part order.part input index) s
+
+-- ---- what is written
+
+-- all cells of the first n parts, one part behind another, but for those that were lost
+abbrev pub AreSentParts : (ℕ → Sending) → ℕ → List ℕ → ℕ → Type 0
+AreSentParts of zero written lost = (written ≡ []) × (lost ≡ 0)
+AreSentParts of (suc n) written lost =
+    (front : List ℕ) × (bytes : List ℕ) × (before : ℕ) × (more : ℕ)
+    × AreSentParts of n front before × AreSent (of n) (cell_count (of n)) bytes more × (written ≡ front ++ bytes) × (lost ≡ before + more)
+
+-- The first n parts of an input are made ready, and sent.
+pub record SendsParts (order : Order) (key : Key) (input : List ℕ) (of : ℕ → Sending) (n : ℕ) (written : List ℕ) (lost : ℕ) : Type 0 where
+  pub prepared : (i : ℕ) → i < n → IsPreparedPart order key input of i (of i)
+  pub sent : AreSentParts of n written lost
+
+-- What is read to its end is sent in parts.
+pub record SendsStream (order : Order) (key : Key) (before after there then : Option (List ℕ)) (sent : Sent) : Type 0 where
+  pub input : List ℕ
+  pub taken : Consumes before after input
+  pub at_end : IsAtEnd after
+  pub of : ℕ → Sending
+  pub written : List ℕ
+  pub appended : Appends there then written
+  pub parts : sent.parts ≡ last_index order.part input + 1
+  pub sends : SendsParts order key input of sent.parts written sent.lost
+  pub cells : sent.cells ≡ sum_by cell_count (map of (range_with_len 0 sent.parts))
+
+-- ---- where something stops it
+
+-- Nothing of the part of an index is sent: a call failed, memory is refused, its object is when it is read, or it has no number.
+abbrev pub StopsUnsent : Order → List ℕ → (ℕ → Sending) → ℕ → Option (List ℕ) → Stop → Type 0
+StopsUnsent order input of index after Fault = ⊤
+StopsUnsent order input of index after (Refused e) =
+    (e ≡ OutOfMemory)
+    ⊎ ((IsRead order.part input index after
+    × RefusesObject order (object_of (index == last_index order.part input) (names_of of index) (bytes_of_part order.part input index)) e)
+    ⊎ ((e ≡ TransferTooLong) × (index ≡ greatest_count) × (length input ≡ index * order.part)))
+
+-- Some first cells of the part of an index are sent, but for so many that were lost, and perhaps a beginning of the next one.
+pub record StopsWithin (order : Order) (key : Key) (input : List ℕ) (of : ℕ → Sending) (index : ℕ) (after : Option (List ℕ)) (stop : Stop)
+    (written : List ℕ) (lost : ℕ) : Type 0 where
+  pub read : IsRead order.part input index after
+  pub sending : Sending
+  pub prepared : IsPreparedPart order key input of index sending
+  pub number : ℕ
+  pub within : number ≤ cell_count sending
+  pub cells : List ℕ
+  pub sent : AreSent sending number cells lost
+  pub behind : List ℕ
+  pub stopped : StopsBehind sending number behind stop
+  pub is : written ≡ cells ++ behind
+
+-- The first parts of what was read are sent, and of the next one what could be. Nothing behind that is read.
+pub record StopsStream (order : Order) (key : Key) (before after there then : Option (List ℕ)) (stop : Stop) (lost : ℕ) : Type 0 where
+  pub input : List ℕ
+  pub taken : Consumes before after input
+  pub of : ℕ → Sending
+  pub index : ℕ
+  pub whole : index * order.part ≤ length input
+  pub no_further : length input ≤ (index + 1) * order.part
+  pub front : List ℕ
+  pub lost_before : ℕ
+  pub sends : SendsParts order key input of index front lost_before
+  pub next : List ℕ
+  pub lost_next : ℕ
+  pub stopped :
+      (StopsUnsent order input of index after stop × (next ≡ []) × (lost_next ≡ 0))
+      ⊎ StopsWithin order key input of index after stop next lost_next
+  pub appended : Appends there then (front ++ next)
+  pub lost_in_all : lost ≡ lost_before + lost_next
+
+-- So many cells are lost, each by a call that was refused. Beside these one call failed where that stops it, of the reader or of the writer.
+abbrev pub CountsStop : {R W : Type 0} → Counted R → Counted R → Output W → Output W → Stop → ℕ → Type 0
+CountsStop reader reader' output output' stop lost =
+    ((failed_count reader' ≡ failed_count reader) × CountsLost output output' lost (failed_calls {X = ℕ} (Err stop)))
+    ⊎ ((failed_count reader' ≡ failed_count reader + failed_calls {X = ℕ} (Err stop)) × CountsLost output output' lost 0)
