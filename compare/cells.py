@@ -8,6 +8,8 @@ from building import all_rows, numbers
 
 MARK, HEAD, AROUND = b"RQC\2", 52, 64
 LAST = 1 << 31
+# How many blocks of a part are sent in turn.
+GROUP = 8
 PRODUCTS = [bytes(256)]
 
 
@@ -189,6 +191,10 @@ class Configuration(NamedTuple):
         return sound and self.largest() <= ROWS[-1][0]
 
 
+def number_in(head):
+    return int.from_bytes(head[12:16], "big")
+
+
 def configuration_of(head):
     parts = [head[at : at + count] for at, count in ((32, 5), (38, 2), (40, 1), (41, 2), (43, 1))]
     return Configuration(*(int.from_bytes(part, "big") for part in parts))
@@ -203,7 +209,12 @@ def check_of(data, key):
     return (hmac.digest(key, data, "sha512") if key else sha512(data).digest())[:8]
 
 
-SEAL = digest_of(b"")
+def seal_of(names):
+    """What ends the last part behind parts of these names."""
+    return digest_of(b"".join(names))
+
+
+SEAL = seal_of(())
 
 
 def name_of(number, configuration, symbols):
@@ -229,18 +240,30 @@ def cut(data, configuration):
 
 
 class Object:
-    """The only part of a stream of these bytes, with its configuration, of one sub-block a block. Its name, number or seal is another one where
-    that is said."""
+    """The part of a stream behind parts of these names, of these bytes, with its configuration, of one sub-block a block. Its name, number, stream
+    or seal is another one where that is said."""
 
-    def __init__(self, data, configuration, key, name=None, number=LAST, seal=SEAL):
+    def __init__(self, data, configuration, key, names=(), is_last=True, **wrong):
         self.data, self.configuration, self.key = data, configuration, key
+        seal = wrong.get("seal", seal_of(names)) if is_last else b""
+        number = wrong.get("number", len(names) | LAST * is_last)
         counts, symbols = configuration.counts(), cut(data + seal, configuration)
-        name = name or name_of(number, configuration, symbols)
-        self.head = head_of(name[:8], number, name, configuration.to_bytes(), key)
+        self.name = wrong.get("name") or name_of(number, configuration, symbols)
+        stream = wrong.get("stream", [*names, self.name][0][:8])
+        self.head = head_of(stream, number, self.name, configuration.to_bytes(), key)
         self.blocks = [Block(symbols[sum(counts[:block]) :][:count]) for block, count in enumerate(counts)]
 
     def cell(self, block, esi):
         return cell_of(self.head, block, esi, self.blocks[block].symbol(esi), self.key)
+
+    def order(self, ids):
+        """The blocks and ids of its cells as they are sent: blocks in groups, group by group, in a group id by id."""
+        blocks = range(self.configuration.blocks)
+        groups = [blocks[at : at + GROUP] for at in blocks[::GROUP]]
+        return [(block, esi) for group in groups for esi in ids for block in group]
+
+    def cells(self, ids):
+        return [self.cell(block, esi) for block, esi in self.order(ids)]
 
 
 class Place(NamedTuple):
@@ -274,12 +297,11 @@ class Part:
     """What is received of a part: by the head of which most cells came, and of those that came since it began last."""
 
     def __init__(self, head, objects):
-        self.objects, self.restarted, self.data = objects, 0, None
-        self.cells, self.rival = 0, None
+        self.objects, self.restarted, self.cells, self.rival = objects, 0, 0, None
         self.begin(head)
 
     def begin(self, head):
-        self.head, self.configuration = head, configuration_of(head)
+        self.head, self.configuration, self.data = head, configuration_of(head), None
         self.made = next((thing for thing in self.objects if thing.head == head), None)
         self.received = [{} for _ in range(self.configuration.blocks)]
         self.answers = [None if count else [] for count in self.configuration.counts()]
@@ -288,26 +310,29 @@ class Part:
         self.restarted += 1
         self.begin(head)
 
+    def fail(self):
+        """What came of its head isn't the part. So none of it counts."""
+        self.cells = 0
+        self.begin_anew(self.head)
+
     def is_outnumbered(self, head):
         """Whether more cells of another head came, by this one. Then they change places."""
         rival, count = self.rival or (head, 0)
         count += 1 if rival == head else -1
-        self.rival = (rival, count) if count else None
-        if count <= self.cells:
+        self.rival = (rival, count) if count > 0 else None
+        if rival != head or count <= self.cells:
             return False
         self.rival, self.cells = (self.head, self.cells), count
         return True
 
     def take(self, place):
-        if self.data is not None:
-            return
         if place.head == self.head:
             self.cells += 1
-        elif not configuration_of(place.head).is_taken() or not self.is_outnumbered(place.head):
+        elif self.data is not None or not configuration_of(place.head).is_taken() or not self.is_outnumbered(place.head):
             return
         else:
             self.begin_anew(place.head)
-        if place.block < self.configuration.blocks:
+        if self.data is None and place.block < self.configuration.blocks:
             self.take_symbol(place.block, place.esi, place.symbol)
 
     def take_symbol(self, block, esi, symbol):
@@ -318,7 +343,7 @@ class Part:
                 return
             self.answers[block] = self.solved(block, count)
         if self.answers[block] is None:
-            self.begin_anew(self.head)
+            self.fail()
         elif None not in self.answers:
             self.end(b"".join(b"".join(symbols) for symbols in self.answers)[: self.configuration.length])
 
@@ -331,18 +356,74 @@ class Part:
         return intermediate and [sum_of(count, self.configuration.size, intermediate, esi) for esi in range(count)]
 
     def end(self, data):
-        """Takes an object for the part, where it is the only one of its stream, as the head says."""
-        number, name = int.from_bytes(self.head[12:16], "big"), self.head[16:32]
-        is_first = number == LAST and self.head[4:12] == name[:8]
-        if is_first and data.endswith(SEAL) and name_of(number, self.configuration, cut(data, self.configuration)) == name:
-            self.data = data[: -len(SEAL)]
+        """Takes an object for the part, where it has the name that the head says."""
+        if name_of(number_in(self.head), self.configuration, cut(data, self.configuration)) == self.head[16:32]:
+            self.data = data
         else:
-            self.begin_anew(self.head)
+            self.fail()
+
+    def settle(self, names):
+        """The bytes of what is there, where it is the part behind parts of these names, and whether it is the last one. Else it begins anew."""
+        number, stream = number_in(self.head), [*names, self.head[16:32]][0][:8]
+        is_last, ends = number >= LAST, self.data.endswith(seal_of(names))
+        if number & ~LAST == len(names) and self.head[4:12] == stream and (ends or not is_last):
+            return self.data[: -len(SEAL)] if is_last else self.data, is_last
+        self.fail()
+        return None
 
     def missing(self):
         """How many packets more its blocks need at least."""
         needs = zip(self.configuration.counts(), self.received, self.answers)
         return sum(max(count - len(received), 1) for count, received, answer in needs if answer is None)
+
+
+class Window:
+    """The parts that are kept at once, from the first unwritten one on, and what is written."""
+
+    def __init__(self, width, objects):
+        self.width, self.objects = width, objects
+        self.parts, self.names, self.written, self.is_ended = {}, [], [], False
+        self.ahead = self.behind = self.restarted = 0
+
+    def take(self, place):
+        index, first = number_in(place.head) & ~LAST, len(self.names)
+        if self.is_ended:
+            return
+        if index < first:
+            self.behind += 1
+        elif index >= first + self.width:
+            self.ahead += 1
+        elif index in self.parts or configuration_of(place.head).is_taken():
+            self.take_in(self.parts.setdefault(index, Part(place.head, self.objects)), place)
+
+    def take_in(self, part, place):
+        """Has a part take a cell, and slides as far as that lets it."""
+        part.take(place)
+        while not self.is_ended and self.has_first():
+            first = self.parts[len(self.names)]
+            settled = first.settle(self.names)
+            if settled:
+                self.slide(first, *settled)
+
+    def has_first(self):
+        first = self.parts.get(len(self.names))
+        return first is not None and first.data is not None
+
+    def slide(self, first, data, is_last):
+        del self.parts[len(self.names)]
+        self.restarted += first.restarted
+        self.names.append(first.head[16:32])
+        self.written.append(data)
+        self.is_ended = is_last
+
+    def counts(self):
+        """What it counts, by its names in JSON: where the last part isn't written, also how many are, and what the next one lacks, if a cell of it came."""
+        restarted = self.restarted + sum(part.restarted for part in self.parts.values())
+        counts = {"restarted": restarted, "ahead": self.ahead, "behind": self.behind}
+        if self.is_ended:
+            return counts
+        first = self.parts.get(len(self.names))
+        return {**counts, "parts": len(self.names), **({"missing": first.missing()} if first else {})}
 
 
 class Received(NamedTuple):
@@ -369,30 +450,28 @@ def find_first(places, name, ends):
     return next(((place, end) for end in ends for place in whole if place.end <= end), None)
 
 
-def receive(data, name, ends, objects, key):
-    """What a receiver makes of bytes that are read up to these ends. Of these objects cells may stand there, which spares the model work."""
-    places = places_in(data, key)
+def receive(data, name, ends, objects, key, width):
+    """What a receiver with a window of so many parts makes of bytes that are read up to these ends. Of these objects cells may stand there, which
+    spares the model work."""
+    places, window, taken = places_in(data, key), Window(width, objects), 0
     found = find_first(places, name, ends)
     if not found:
         wanted = [is_wanted(place.head, name) for place in places]
         damaged = sum(is_one and place.end <= len(data) for is_one, place in zip(wanted, places))
-        return Received(len(data), {"cells": 0, "damaged": damaged, "others": len(places) - sum(wanted), "restarted": 0}, b"", 2)
+        return Received(len(data), {"cells": 0, "damaged": damaged, "others": len(places) - sum(wanted), **window.counts()}, b"", 2)
     first, front = found
     before = [place for place in places if place.at < first.at]
     damaged = sum(is_wanted(place.head, name) and place.end <= front for place in before)
     others = sum(not is_wanted(place.head, name) for place in before)
-    part, taken = Part(first.head, objects), 0
     own = [place for place in places if place.at >= first.at and is_of_stream(place.head, first.head)]
     for end in (end for end in ends if end >= front):
         cells = [place for place in own if place.is_cell and place.end <= end]
         for place in cells[taken:]:
-            part.take(place)
+            window.take(place)
         taken = len(cells)
-        if part.data is not None:
+        if window.is_ended:
             break
     damaged += sum(place.end <= end and not place.is_cell for place in own)
     others += sum(place.at >= first.at and place.at + HEAD <= end for place in places) - sum(place.at + HEAD <= end for place in own)
-    counts = {"cells": taken, "damaged": damaged, "others": others, "restarted": part.restarted}
-    if part.data is None:
-        return Received(len(data), {**counts, "missing": part.missing()}, b"", 2)
-    return Received(end, counts, part.data, 0)
+    counts = {"cells": taken, "damaged": damaged, "others": others, **window.counts()}
+    return Received(end, counts, b"".join(window.written), 0 if window.is_ended else 2)
