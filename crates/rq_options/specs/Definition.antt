@@ -41,9 +41,10 @@ with_repair a = with_rule (with_rule (with_rule (with_rule a (with_default (code
     (with_default (codes "1472") (with_letter 99 (value_rule (codes "cell"))))) (with_letter 108 (value_rule (codes "loss"))))
     (with_letter 114 (value_rule (codes "repair")))
 
--- the options that say which ids are sent, and how fast
+-- the options that say which ids are sent, how fast, and how often
 abbrev pub with_ids : App → App
-with_ids a = with_rule (with_rule (with_rule a (value_rule (codes "rate"))) (value_rule (codes "share"))) (with_default (codes "0") (value_rule (codes "from")))
+with_ids a = with_rule (with_rule (with_rule (with_rule a (value_rule (codes "rate"))) (value_rule (codes "share")))
+    (with_default (codes "0") (value_rule (codes "from")))) (value_rule (codes "rounds"))
 
 -- the options that say which stream is received, where to, and by what window
 abbrev pub with_places : App → App

@@ -3,12 +3,12 @@ use Rattle.std.specs.Prelude.{List, [], Bool, false, Option, Some, None, option_
 use Rattle.std.specs.Str.{bytes_eq}
 use Rattle.clap.specs.Words.{Row, Text, all_of, first_of, subcommand_rows_of}
 use Rattle.clap.specs.declared.error.kind.ErrorKind.{ErrorKind}
-use Rattle.clap.specs.declared.error.kind.ErrorKind.TheVariants.{ArgumentConflict, ValueValidation}
+use Rattle.clap.specs.declared.error.kind.ErrorKind.TheVariants.{ArgumentConflict, MissingRequiredArgument, ValueValidation}
 use Rattle.clap.specs.declared.parser.matches.ArgMatches.{ArgMatches}
 use Rattle.rq_options.specs.declared.matches.Verb.{Verb}
 use Rattle.rq_options.specs.declared.matches.Verb.TheVariants.{Send, Receive, Info}
 use Rattle.rq_options.specs.declared.misuse.Misuse.{Misuse}
-use Rattle.rq_options.specs.declared.misuse.Misuse.TheVariants.{Together, Value}
+use Rattle.rq_options.specs.declared.misuse.Misuse.TheVariants.{Together, Alone, Value}
 use Rattle.rq_options.specs.Definition.{used_of}
 
 -- ---- subcommands
@@ -52,4 +52,5 @@ texts_of rows id = unwrap_or (all_of id rows) []
 -- the kind of the error of options that ask for nothing
 abbrev pub misuse_kind : Misuse → ErrorKind
 misuse_kind (Together one other) = ArgumentConflict
+misuse_kind (Alone option missing reason) = MissingRequiredArgument
 misuse_kind (Value option takes text) = ValueValidation

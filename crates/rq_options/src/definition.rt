@@ -133,7 +133,7 @@ fn repaired<'a>(alloc: Global, command: Command<'a>) -> Result<Command<'a>, Allo
     added(three, repair.short('r'))
 }
 
-// The options that say which ids `send` sends, and how fast.
+// The options that say which ids `send` sends, how fast, and how often.
 fn numbered<'a>(alloc: Global, command: Command<'a>) -> Result<Command<'a>, AllocError>
     ensures app { IfOk result (λ c. app_of c ≡ with_ids (app_of command.entry)) }
     ensures local { IfOk result (λ c. (out-Command c).has_globals ≡ (out-Command command.entry).has_globals) }
@@ -153,7 +153,14 @@ fn numbered<'a>(alloc: Global, command: Command<'a>) -> Result<Command<'a>, Allo
     );
     let two = added(one, share)?;
     let from = value(alloc, "from", "ID", "The first encoding symbol id");
-    added(two, from.default_value("0"))
+    let three = added(two, from.default_value("0"))?;
+    let rounds = value(
+        alloc,
+        "rounds",
+        "N|endless",
+        "How often FILE is sent, each time by the ids that follow [default: 1]",
+    );
+    added(three, rounds)
 }
 
 // The options of `receive` alone.

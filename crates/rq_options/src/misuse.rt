@@ -19,6 +19,15 @@ pub enum Misuse<'a> {
         /// The second.
         other: &'static str,
     },
+    /// It can't be said without another word.
+    Alone {
+        /// The option, as `--rounds <N|endless>`.
+        option: &'static str,
+        /// What is missing, as `FILE`.
+        missing: &'static str,
+        /// Why.
+        reason: &'static str,
+    },
     /// A value says nothing that the option takes.
     Value {
         /// The option, as `--loss <PERCENT>`.
@@ -46,6 +55,11 @@ impl Misuse<'_> {
             Misuse::Together { one, other } => {
                 format!(in alloc; "the argument '{one}' cannot be used with '{other}'")
             }
+            Misuse::Alone {
+                option,
+                missing,
+                reason,
+            } => format!(in alloc; "'{option}' takes a {missing}: {reason}"),
             Misuse::Value {
                 option,
                 takes,
@@ -60,6 +74,7 @@ impl Misuse<'_> {
     {
         match self {
             Misuse::Together { .. } => ErrorKind::ArgumentConflict,
+            Misuse::Alone { .. } => ErrorKind::MissingRequiredArgument,
             Misuse::Value { .. } => ErrorKind::ValueValidation,
         }
     }
