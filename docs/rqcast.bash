@@ -10,10 +10,11 @@ _rqcast() {
     fi
     case $before in
         -r | --repair) mapfile -t COMPREPLY < <(compgen -W "all" -- "$word") && return ;;
+        --rounds) mapfile -t COMPREPLY < <(compgen -W "endless" -- "$word") && return ;;
         --part | -c | --cell | -l | --loss | --rate | --share | --from | --name | --window) return ;;
     esac
     case ${COMP_WORDS[1]} in
-        send) words+=" --part -c --cell -l --loss -r --repair --rate --share --from" ;;
+        send) words+=" --part -c --cell -l --loss -r --repair --rate --share --from --rounds" ;;
         receive) words+=" -o --output --name --window" ;;
     esac
     if [[ $word == -* ]]; then

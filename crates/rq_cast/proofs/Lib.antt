@@ -9,6 +9,7 @@ pub mod EndsWith
 pub mod Failing
 pub mod Fed
 pub mod Groups
+pub mod KnownNames
 pub mod KnownSymbols
 pub mod LeastEnough
 pub mod Listed
@@ -17,6 +18,7 @@ pub mod PartNames
 pub mod PartTaken
 pub mod Prepared
 pub mod Receiving
+pub mod RoundIds
 pub mod RowCells
 pub mod Runs
 pub mod SameHead

@@ -30,7 +30,7 @@ module _ (order : Order) (key : Key) (is_last : Bool) (n : Names) (bytes object 
       → IfOk r (λ s. (before : List (List ℕ)) → AreNames before n → IsSendingOf table is_last before object (sending_of s))
       → IfOk r (λ s. (sending_of s).encoded.configuration ≡ c)
       → IfOk r (λ s. (sending_of s).key ≡ key)
-      → IfOk r (λ s. IsSeriesOf order.ids.first order.ids.step (largest_block c) order.repair (sending_of s).series)
+      → IfOk r (λ s. IsSeriesOf order.ids (largest_block c) order.repair (sending_of s).series)
       → IfOk r (λ s. (before : List (List ℕ)) → AreNames before n → IsPrepared order key is_last before bytes (sending_of s))
   prepared_by (Err e) sends is keyed series = tt
   prepared_by (Ok s) sends is keyed series = λ before are. record {
@@ -39,7 +39,7 @@ module _ (order : Order) (key : Key) (is_last : Bool) (n : Names) (bytes object 
         (subst (IsFitting (length object) order.symbol_size table) (sym is) fits);
     sends = subst (λ o. IsSendingOf table is_last before o (sending_of s)) (is_object before are) (sends before are);
     keyed = keyed;
-    series = subst (λ k. IsSeriesOf order.ids.first order.ids.step (largest_block k) order.repair (sending_of s).series) (sym is) series;
+    series = subst (λ k. IsSeriesOf order.ids (largest_block k) order.repair (sending_of s).series) (sym is) series;
   }
 
   pub refused_by : (r : Result Sender Error) → IfErr r (RefusesEncoder table c (length object))

@@ -7,10 +7,12 @@ use Rattle.std.proofs.lemmas.Nat.{div-mul-add, le-div}
 use Rattle.std.proofs.lemmas.List.{take_all, drop_at, drop-append-le, take-append-le, length-drop}
 use Rattle.std.proofs.lemmas.List.FromFn.{map-range_with_len_more, sum_by-map-range_with_len_more}
 use Rattle.rq_cells.specs.Cells.{Key}
+use Rattle.rq_cast.specs.declared.known.Known.{Known}
 use Rattle.rq_cast.specs.declared.order.Order.{Order}
 use Rattle.rq_cast.specs.Preparing.{IsPrepared}
 use Rattle.rq_cast.specs.Sent.{Sending, cell_count, AreSent}
-use Rattle.rq_cast.specs.SentParts.{bytes_of_part, last_index, names_of, IsPreparedPart, AreSentParts, SendsParts}
+use Rattle.rq_cast.specs.Rounds.{IsAsKnown}
+use Rattle.rq_cast.specs.SentParts.{bytes_of_part, last_index, names_of, IsPreparedPart, IsAsKnownIn, AreSentParts, SendsParts}
 
 -- ---- the parts of what was read, and of more
 
@@ -119,19 +121,28 @@ module _ (order : Order) (key : Key) where
         prepared_same (not_last order.part input i some here ∙ sym (not_last order.part (input ++ more) i some there)) refl
         (sym (bytes_same order.part input more i here)) refl prepared
 
-    pub sends_longer : (written : List ℕ) (lost : ℕ) → SendsParts order key input of n written lost → SendsParts order key (input ++ more) of n written lost
-    sends_longer written lost sends = record {
+    -- none of them is the last one
+    still_first : (i : ℕ) → i < n → (i == last_index order.part input) ≡ (i == last_index order.part (input ++ more))
+    still_first i below =
+        let here = part_whole i below in
+        let there : (i + 1) * order.part ≤ length (input ++ more) = omega (arith, here, length-append input more) in
+        not_last order.part input i some here ∙ sym (not_last order.part (input ++ more) i some there)
+
+    pub sends_longer : (known : Known) (written : List ℕ) (lost : ℕ) → SendsParts order key known input of n written lost
+        → SendsParts order key known (input ++ more) of n written lost
+    sends_longer known written lost sends = record {
       prepared = λ i below. prepared_longer i (of i) below (sends.prepared i below);
+      same = λ i below. subst (λ b. IsAsKnown known i b (of i).head.name) (still_first i below) (sends.same i below);
       sent = sends.sent;
     }
 
   -- ---- one part more
 
-  module _ (input : List ℕ) (of : ℕ → Sending) (n : ℕ) (next : Sending) (front bytes : List ℕ) (lost more : ℕ) where
+  module _ (known : Known) (input : List ℕ) (of : ℕ → Sending) (n : ℕ) (next : Sending) (front bytes : List ℕ) (lost more : ℕ) where
     abbrev all : ℕ → Sending
     all = with_next of n next
 
-    prepared_all : (i : ℕ) → i < n + 1 → SendsParts order key input of n front lost → IsPreparedPart order key input of n next → IsPreparedPart order key input all i (all i)
+    prepared_all : (i : ℕ) → i < n + 1 → SendsParts order key known input of n front lost → IsPreparedPart order key input of n next → IsPreparedPart order key input all i (all i)
     prepared_all i below sends ready = elim (cases_lt i n) [
       | inl before ↦
           prepared_same refl (names_same of all n i (omega (arith, before)) (λ k few. sym (with_next_below of n next k few))) refl
@@ -142,12 +153,21 @@ module _ (order : Order) (key : Key) where
           (prepared_same refl (names_same of all n n (omega arith) (λ k few. sym (with_next_below of n next k few))) refl (sym (with_next_at of n next)) ready)
     ]
 
-    pub sends_next : SendsParts order key input of n front lost → IsPreparedPart order key input of n next → AreSent next (cell_count next) bytes more
-        → SendsParts order key input all (n + 1) (front ++ bytes) (lost + more)
-    sends_next sends ready sent =
+    same_all : (i : ℕ) → i < n + 1 → SendsParts order key known input of n front lost → IsAsKnownIn order known input n next → IsAsKnownIn order known input i (all i)
+    same_all i below sends here = elim (cases_lt i n) [
+      | inl before ↦ subst (IsAsKnownIn order known input i) (sym (with_next_below of n next i before)) (sends.same i before)
+      | inr past ↦
+          let there : n ≡ i = omega (arith, below, past) in
+          subst (λ k. IsAsKnownIn order known input k (all k)) there (subst (IsAsKnownIn order known input n) (sym (with_next_at of n next)) here)
+    ]
+
+    pub sends_next : SendsParts order key known input of n front lost → IsPreparedPart order key input of n next → IsAsKnownIn order known input n next
+        → AreSent next (cell_count next) bytes more → SendsParts order key known input all (n + 1) (front ++ bytes) (lost + more)
+    sends_next sends ready here sent =
         let same : suc n ≡ n + 1 = omega arith in
         record {
           prepared = λ i below. prepared_all i below sends ready;
+          same = λ i below. same_all i below sends here;
           sent = subst (λ m. AreSentParts all m (front ++ bytes) (lost + more)) same (
             front,
             bytes,

@@ -14,17 +14,22 @@ use Rattle.rq_streams.specs.declared.run.Stop.{Stop}
 use Rattle.rq_streams.specs.declared.run.Stop.TheVariants.{Fault, Refused}
 use Rattle.rq_streams.specs.Ends.{failed_calls}
 use Rattle.rq_cells.specs.Cells.{Key}
+use Rattle.rq_cast.specs.declared.halt.Halt.{Halt}
+use Rattle.rq_cast.specs.declared.halt.Halt.TheVariants.{By}
+use Rattle.rq_cast.specs.declared.known.Known.{Known}
 use Rattle.rq_cast.specs.declared.order.Order.{Order}
 use Rattle.rq_cast.specs.declared.stream_sending.Sent.{Sent}
 use Rattle.rq_cast.specs.declared.stream_sending.StreamSender.{StreamSender}
 use Rattle.rq_cast.specs.Names.{AreNames}
 use Rattle.rq_cast.specs.Parts.{greatest_count, object_of}
 use Rattle.rq_cast.specs.PartReading.{ReadsPart, ReadsWithin}
-use Rattle.rq_cast.specs.PartSending.{RefusesPart, SendsPart, StopsPart}
+use Rattle.rq_cast.specs.PartSending.{RefusesPart, RefusesNext, SendsPart, StopsPart}
 use Rattle.rq_cast.specs.Preparing.{IsPrepared, RefusesObject}
 use Rattle.rq_cast.specs.Reading.{IsStopOfReads}
+use Rattle.rq_cast.specs.Rounds.{IsAsKnown, KeepsNames, KnowsAll, next_stage}
 use Rattle.rq_cast.specs.Sent.{Sending, cell_count}
-use Rattle.rq_cast.specs.SentParts.{bytes_of_part, last_index, IsRead, names_of, IsPreparedPart, AreSentParts, SendsParts, SendsStream, StopsUnsent, StopsStream}
+use Rattle.rq_cast.specs.SentParts.{bytes_of_part, last_index, IsRead, names_of, IsPreparedPart, IsAsKnownIn, SendsParts, SendsStream, StopsUnsent, StopsStream}
+use Rattle.rq_cast.proofs.KnownNames.{keeps_none, keeps_more, known_before, known_now, knows_all}
 use Rattle.rq_cast.proofs.SentStreams.{bytes_next, last_is, is_last_next, prepared_same, sends_longer, sends_next, names_all, cells_all, with_next}
 
 -- how many calls failed where a run of any kind is stopped
@@ -33,7 +38,7 @@ same_failed X Y Fault = refl
 same_failed X Y (Refused e) = refl
 
 -- Of what was read the parts are sent that these names are of.
-pub record HasSent (order : Order) (key : Key) (before after there then : Option (List ℕ)) (input : List ℕ) (s : StreamSender) : Type 0 where
+pub record HasSent (order : Order) (key : Key) (known : Known) (before after there then : Option (List ℕ)) (input : List ℕ) (s : StreamSender) : Type 0 where
   pub ordered : s.order ≡ order
   pub keyed : s.key.now ≡ key
   pub taken : Consumes before after input
@@ -41,14 +46,15 @@ pub record HasSent (order : Order) (key : Key) (before after there then : Option
   pub named : AreNames (names_of of s.names.count) s.names
   pub written : List ℕ
   pub appended : Appends there then written
-  pub sends : SendsParts order key input of s.names.count written s.lost
+  pub sends : SendsParts order key known input of s.names.count written s.lost
   pub cells : s.cells ≡ sum_by cell_count (map of (range_with_len 0 s.names.count))
+  pub kept : KeepsNames known (names_of of s.names.count) s.known
 
 -- all that was read, in whole parts
-pub record HasSentWhole (order : Order) (key : Key) (before after there then : Option (List ℕ)) (s : StreamSender) : Type 0 where
+pub record HasSentWhole (order : Order) (key : Key) (known : Known) (before after there then : Option (List ℕ)) (s : StreamSender) : Type 0 where
   pub input : List ℕ
   pub whole : length input ≡ s.names.count * order.part
-  pub has : HasSent order key before after there then input s
+  pub has : HasSent order key known before after there then input s
 
 -- what sends nothing
 no_configuration : Configuration
@@ -65,9 +71,9 @@ no_sending = record {
 no_parts : ℕ → Sending
 no_parts i = no_sending
 
-pub has_sent_none : (order : Order) (key : Key) (before there : Option (List ℕ)) (s : StreamSender) → s.order ≡ order → s.key.now ≡ key
-    → AreNames [] s.names → s.cells ≡ 0 → s.lost ≡ 0 → HasSentWhole order key before before there there s
-has_sent_none order key before there s ordered keyed named none_sent none_lost =
+pub has_sent_none : (order : Order) (key : Key) (known : Known) (before there : Option (List ℕ)) (s : StreamSender) → s.order ≡ order → s.key.now ≡ key
+    → AreNames [] s.names → s.cells ≡ 0 → s.lost ≡ 0 → s.known ≡ known → HasSentWhole order key known before before there there s
+has_sent_none order key known before there s ordered keyed named none_sent none_lost same =
     let none : 0 ≡ s.names.count = sym named.count in
     record {
       input = [];
@@ -80,18 +86,20 @@ has_sent_none order key before there s ordered keyed named none_sent none_lost =
         named = subst (λ n. AreNames (names_of no_parts n) s.names) none named;
         written = [];
         appended = Appends-nil there;
-        sends = subst (λ n. SendsParts order key [] no_parts n [] s.lost) none (record {
+        sends = subst (λ n. SendsParts order key known [] no_parts n [] s.lost) none (record {
           prepared = λ i below. absurd (omega (arith, below));
+          same = λ i below. absurd (omega (arith, below));
           sent = (refl, none_lost);
         });
         cells = none_sent ∙ ap (λ n. sum_by cell_count (map no_parts (range_with_len 0 n))) none;
+        kept = subst (λ n. KeepsNames known (names_of no_parts n) s.known) none (subst (KeepsNames known []) (sym same) (keeps_none known));
       };
     }
 
 -- ---- a part more
 
-module _ (order : Order) (key : Key) (some : 0 < order.part) (before mid after there between : Option (List ℕ)) (old : StreamSender)
-    (sent : HasSentWhole order key before mid there between old) (bytes : List ℕ) (is_last : Bool) (short : is_last ≡ nat_lt (length bytes) order.part)
+module _ (order : Order) (key : Key) (known : Known) (some : 0 < order.part) (before mid after there between : Option (List ℕ)) (old : StreamSender)
+    (sent : HasSentWhole order key known before mid there between old) (bytes : List ℕ) (is_last : Bool) (short : is_last ≡ nat_lt (length bytes) order.part)
     (reads : ReadsPart mid after order.part bytes) where
   abbrev n : ℕ
   n = old.names.count
@@ -132,8 +140,18 @@ module _ (order : Order) (key : Key) (some : 0 < order.part) (before mid after t
       (subst (λ k. IsPrepared order k is_last (names_of of n) bytes s) sent.has.keyed
       (subst (λ o. IsPrepared o old.key.now is_last (names_of of n) bytes s) sent.has.ordered prepared))
 
-  sends_so_far : SendsParts order key input of n sent.has.written old.lost
-  sends_so_far = sends_longer order key some sent.input bytes of n long sent.has.written old.lost sent.has.sends
+  sends_so_far : SendsParts order key known input of n sent.has.written old.lost
+  sends_so_far = sends_longer order key some sent.input bytes of n long known sent.has.written old.lost sent.has.sends
+
+  -- it is what it was, as far as that is known
+  as_before : (s : Sending) → IsAsKnown old.known old.names.count is_last s.head.name → IsAsKnownIn order known input n s
+  as_before s is =
+      subst (λ b. IsAsKnown known n b s.head.name) last_same (known_before known old.known (names_of of n) sent.has.kept n is_last s.head.name is)
+
+  as_now : (s : Sending) → IsAsKnownIn order known input n s → IsAsKnown old.known old.names.count is_last s.head.name
+  as_now s is =
+      known_now known old.known (names_of of n) sent.has.kept n is_last s.head.name
+      (subst (λ b. IsAsKnown known n b s.head.name) (sym last_same) is)
 
   module _ (new : StreamSender) (then : Option (List ℕ)) (more : SendsPart is_last (names_of of n) bytes old new between then)
       (same_order : new.order ≡ old.order) (same_key : new.key.now ≡ old.key.now) where
@@ -143,14 +161,15 @@ module _ (order : Order) (key : Key) (some : 0 < order.part) (before mid after t
     pub one_more : new.names.count ≡ n + 1
     one_more = more.named.count ∙ length_push (names_of of n) more.sending.head.name ∙ ap (λ k. k + 1) (sym sent.has.named.count)
 
-    pub has_sent_more : HasSent order key before after there then input new
+    pub has_sent_more : HasSent order key known before after there then input new
     has_sent_more =
         let cells = more.sends.written in
         let named : AreNames (names_of all (n + 1)) new.names =
-        subst (λ names. AreNames names new.names) (sym (names_all order key input of n more.sending sent.has.written cells old.lost more.lost)) more.named in
-        let sends : SendsParts order key input all (n + 1) (sent.has.written ++ cells) new.lost =
-        subst (SendsParts order key input all (n + 1) (sent.has.written ++ cells)) (sym more.lost_more)
-        (sends_next order key input of n more.sending sent.has.written cells old.lost more.lost sends_so_far (ready more.sending more.prepared) more.sends.sent) in
+        subst (λ names. AreNames names new.names) (sym (names_all order key known input of n more.sending sent.has.written cells old.lost more.lost)) more.named in
+        let sends : SendsParts order key known input all (n + 1) (sent.has.written ++ cells) new.lost =
+        subst (SendsParts order key known input all (n + 1) (sent.has.written ++ cells)) (sym more.lost_more)
+        (sends_next order key known input of n more.sending sent.has.written cells old.lost more.lost sends_so_far (ready more.sending more.prepared)
+        (as_before more.sending more.same) more.sends.sent) in
         record {
           ordered = same_order ∙ sent.has.ordered;
           keyed = same_key ∙ sent.has.keyed;
@@ -160,13 +179,16 @@ module _ (order : Order) (key : Key) (some : 0 < order.part) (before mid after t
           written = sent.has.written ++ cells;
           appended = subst (λ xs. Appends there then (sent.has.written ++ xs)) (append-nil cells)
               (Appends-trans there between then sent.has.written (cells ++ []) sent.has.appended more.sends.appended);
-          sends = subst (λ k. SendsParts order key input all k (sent.has.written ++ cells) new.lost) (sym one_more) sends;
+          sends = subst (λ k. SendsParts order key known input all k (sent.has.written ++ cells) new.lost) (sym one_more) sends;
           cells = more.cells ∙ ap (λ k. k + cell_count more.sending) sent.has.cells
-              ∙ sym (cells_all order key input of n more.sending sent.has.written cells old.lost more.lost)
+              ∙ sym (cells_all order key known input of n more.sending sent.has.written cells old.lost more.lost)
               ∙ ap (λ k. sum_by cell_count (map all (range_with_len 0 k))) (sym one_more);
+          kept = subst (λ k. KeepsNames known (names_of all k) new.known) (sym one_more)
+              (subst (λ names. KeepsNames known names new.known) (sym (names_all order key known input of n more.sending sent.has.written cells old.lost more.lost))
+              (keeps_more known old.known (names_of of n) sent.has.kept new.known more.sending.head.name more.kept));
         }
 
-    pub has_sent_whole : is_last ≡ false → HasSentWhole order key before after there then new
+    pub has_sent_whole : is_last ≡ false → HasSentWhole order key known before after there then new
     has_sent_whole more_to_come =
         let all_there : order.part ≤ length bytes = ltb-false (length bytes) order.part (sym short ∙ more_to_come) in
         let next : (n + 1) * order.part ≡ n * order.part + order.part = omega arith in
@@ -176,9 +198,9 @@ module _ (order : Order) (key : Key) (some : 0 < order.part) (before mid after t
           has = has_sent_more;
         }
 
-    pub sends_stream : is_last ≡ true → (answer : Sent) → answer.parts ≡ new.names.count → answer.cells ≡ new.cells → answer.lost ≡ new.lost
-        → SendsStream order key before after there then answer
-    sends_stream ended answer parts cells lost =
+    pub sends_stream : is_last ≡ true → (answer : Sent) (behind : Known) → answer.parts ≡ new.names.count → answer.cells ≡ new.cells → answer.lost ≡ new.lost
+        → behind.stage ≡ next_stage new.known.stage → behind.names.items ≡ new.known.names.items → SendsStream order key known before after there then answer behind
+    sends_stream ended answer behind parts cells lost stage same =
         let less : length bytes < order.part = ltb-true (length bytes) order.part (sym short ∙ ended) in
         let last = last_is order.part sent.input bytes n sent.whole less in
         let has = has_sent_more in
@@ -190,19 +212,21 @@ module _ (order : Order) (key : Key) (some : 0 < order.part) (before mid after t
           written = has.written;
           appended = has.appended;
           parts = parts ∙ one_more ∙ ap (λ k. k + 1) (sym last);
-          sends = subst (λ k. SendsParts order key input has.of k has.written answer.lost) (sym parts)
-              (subst (SendsParts order key input has.of new.names.count has.written) (sym lost) has.sends);
+          sends = subst (λ k. SendsParts order key known input has.of k has.written answer.lost) (sym parts)
+              (subst (SendsParts order key known input has.of new.names.count has.written) (sym lost) has.sends);
           cells = cells ∙ has.cells ∙ ap (λ k. sum_by cell_count (map has.of (range_with_len 0 k))) (sym parts);
+          names = subst (λ k. KnowsAll known (names_of has.of k) behind) (sym parts)
+              (knows_all known new.known (names_of has.of new.names.count) has.kept behind stage same);
         }
 
   -- it stops as the part is made ready or sent
-  module _ (lost : ℕ) (then : Option (List ℕ)) (stop : Stop) where
+  module _ (lost : ℕ) (then : Option (List ℕ)) (halt : Halt) where
     few : length input ≤ (n + 1) * order.part
     few =
         let next : (n + 1) * order.part ≡ n * order.part + order.part = omega arith in
         omega (arith, length_more, reads.few, next)
 
-    unsent : (e : Error) → RefusesPart old is_last (names_of of n) bytes e → StopsUnsent order input of n after (Refused e)
+    unsent : (e : Error) → RefusesPart old is_last (names_of of n) bytes e → StopsUnsent order key known input of n after (By (Refused e))
     unsent e refuses = elim refuses [
       | inl memory ↦ inl memory
       | inr object ↦
@@ -214,9 +238,17 @@ module _ (order : Order) (key : Key) (some : 0 < order.part) (before mid after t
           ))
     ]
 
-    pub stops_at_part : StopsPart is_last (names_of of n) bytes old lost between then stop → StopsStream order key before after there then stop (old.lost + lost)
+    refused : RefusesNext is_last (names_of of n) bytes old halt → StopsUnsent order key known input of n after halt
+    refused refuses = elim refuses [
+      | inl (e, is, part) ↦ subst (StopsUnsent order key known input of n after) (sym is) (unsent e part)
+      | inr (is, s, prepared, other) ↦
+          subst (StopsUnsent order key known input of n after) (sym is)
+          (refl, is_read, (s, ready s prepared, λ same. other (as_now s same)))
+    ]
+
+    pub stops_at_part : StopsPart is_last (names_of of n) bytes old lost between then halt → StopsStream order key known before after there then halt (old.lost + lost)
     stops_at_part stops = elim stops [
-      | inl (e, is, refuses, none, kept) ↦ record {
+      | inl (refuses, none, kept) ↦ record {
         input = input;
         taken = taken_more;
         of = of;
@@ -228,11 +260,11 @@ module _ (order : Order) (key : Key) (some : 0 < order.part) (before mid after t
         sends = sends_so_far;
         next = [];
         lost_next = 0;
-        stopped = inl (subst (StopsUnsent order input of n after) (sym is) (unsent e refuses), refl, refl);
+        stopped = inl (refused refuses, refl, refl);
         appended = subst (Appends there then) (sym (append-nil sent.has.written)) (Appends-kept there between then sent.has.written sent.has.appended kept);
         lost_in_all = omega (arith, none);
       }
-      | inr (sending, prepared, within) ↦ record {
+      | inr within ↦ record {
         input = input;
         taken = taken_more;
         of = of;
@@ -242,30 +274,35 @@ module _ (order : Order) (key : Key) (some : 0 < order.part) (before mid after t
         front = sent.has.written;
         lost_before = old.lost;
         sends = sends_so_far;
-        next = within.sends.written ++ within.behind;
+        next = within.stopped.sends.written ++ within.stopped.behind;
         lost_next = lost;
         stopped = inr (record {
+          stop = within.stop;
+          by = within.by;
           read = is_read;
-          sending = sending;
-          prepared = ready sending prepared;
-          number = within.number;
-          within = within.within;
-          cells = within.sends.written;
-          sent = within.sends.sent;
-          behind = within.behind;
-          stopped = within.stopped;
+          sending = within.sending;
+          prepared = ready within.sending within.prepared;
+          same = as_before within.sending within.same;
+          number = within.stopped.number;
+          within = within.stopped.within;
+          cells = within.stopped.sends.written;
+          sent = within.stopped.sends.sent;
+          behind = within.stopped.behind;
+          stopped = within.stopped.stopped;
           is = refl;
         });
-        appended = Appends-trans there between then sent.has.written (within.sends.written ++ within.behind) sent.has.appended within.sends.appended;
+        appended = Appends-trans there between then sent.has.written (within.stopped.sends.written ++ within.stopped.behind) sent.has.appended
+            within.stopped.sends.appended;
         lost_in_all = refl;
       }
     ]
 
 -- ---- it stops before the next part is read
 
-module _ (order : Order) (key : Key) (some : 0 < order.part) (before mid there then : Option (List ℕ)) (s : StreamSender)
-    (sent : HasSentWhole order key before mid there then s) where
-  pub stops_reading : (after : Option (List ℕ)) (stop : Stop) → ReadsWithin mid after order.part → IsStopOfReads stop → StopsStream order key before after there then stop s.lost
+module _ (order : Order) (key : Key) (known : Known) (some : 0 < order.part) (before mid there then : Option (List ℕ)) (s : StreamSender)
+    (sent : HasSentWhole order key known before mid there then s) where
+  pub stops_reading : (after : Option (List ℕ)) (stop : Stop) → ReadsWithin mid after order.part → IsStopOfReads stop
+      → StopsStream order key known before after there then (By stop) s.lost
   stops_reading after stop reads is =
       let n = s.names.count in
       let input = sent.input ++ reads.piece in
@@ -279,7 +316,7 @@ module _ (order : Order) (key : Key) (some : 0 < order.part) (before mid there t
         no_further = omega (arith, length-append sent.input reads.piece, sent.whole, reads.few, next);
         front = sent.has.written;
         lost_before = s.lost;
-        sends = sends_longer order key some sent.input reads.piece sent.has.of n (omega (arith, sent.whole)) sent.has.written s.lost sent.has.sends;
+        sends = sends_longer order key some sent.input reads.piece sent.has.of n (omega (arith, sent.whole)) known sent.has.written s.lost sent.has.sends;
         next = [];
         lost_next = 0;
         stopped = inl (stops_unsent input n after stop is, refl, refl);
@@ -287,13 +324,14 @@ module _ (order : Order) (key : Key) (some : 0 < order.part) (before mid there t
         lost_in_all = omega arith;
       }
     where
-      stops_unsent : (input : List ℕ) (n : ℕ) (after : Option (List ℕ)) (stop : Stop) → IsStopOfReads stop → StopsUnsent order input sent.has.of n after stop
+      stops_unsent : (input : List ℕ) (n : ℕ) (after : Option (List ℕ)) (stop : Stop) → IsStopOfReads stop
+          → StopsUnsent order key known input sent.has.of n after (By stop)
       stops_unsent input n after Fault is = tt
       stops_unsent input n after (Refused e) (inl is) = absurd (cc is)
       stops_unsent input n after (Refused e) (inr is) = inl (cc is)
 
   -- there is no number for it
-  pub stops_unnumbered : s.names.count ≡ greatest_count → StopsStream order key before mid there then (Refused TransferTooLong) s.lost
+  pub stops_unnumbered : s.names.count ≡ greatest_count → StopsStream order key known before mid there then (By (Refused TransferTooLong)) s.lost
   stops_unnumbered all =
       let n = s.names.count in
       let next : (n + 1) * order.part ≡ n * order.part + order.part = omega arith in
@@ -313,50 +351,3 @@ module _ (order : Order) (key : Key) (some : 0 < order.part) (before mid there t
         appended = subst (Appends there then) (sym (append-nil sent.has.written)) sent.has.appended;
         lost_in_all = omega arith;
       }
-
--- ---- a call fails when all is written
-
-module _ (order : Order) (key : Key) (some : 0 < order.part) (before after there then : Option (List ℕ)) (sent : Sent)
-    (all : SendsStream order key before after there then sent) where
-  abbrev last : ℕ
-  last = last_index order.part all.input
-
-  parts_are : sent.parts ≡ suc last
-  parts_are = all.parts ∙ (let next : last + 1 ≡ suc last = omega arith in next)
-
-  all_parts : SendsParts order key all.input all.of (suc last) all.written sent.lost
-  all_parts = subst (λ n. SendsParts order key all.input all.of n all.written sent.lost) parts_are all.sends
-
-  stops_in_last : AreSentParts all.of (suc last) all.written sent.lost → StopsStream order key before after there then Fault sent.lost
-  stops_in_last (front, bytes, lost, more, earlier, here, is, count) = record {
-    input = all.input;
-    taken = all.taken;
-    of = all.of;
-    index = last;
-    whole = div-mul-le_self (length all.input) order.part;
-    no_further =
-        let above : length all.input < (last + 1) * order.part = (div-lt_iff_lt-mul some).0 (omega arith) in
-        omega (arith, above);
-    front = front;
-    lost_before = lost;
-    sends = record { prepared = λ i below. all_parts.prepared i (omega (arith, below)); sent = earlier };
-    next = bytes;
-    lost_next = more;
-    stopped = inr (record {
-      read = inr (all.at_end, refl);
-      sending = all.of last;
-      prepared = all_parts.prepared last (omega arith);
-      number = cell_count (all.of last);
-      within = omega arith;
-      cells = bytes;
-      sent = here;
-      behind = [];
-      stopped = inl refl;
-      is = sym (append-nil bytes);
-    });
-    appended = subst (Appends there then) is all.appended;
-    lost_in_all = count;
-  }
-
-  pub stops_behind_all : StopsStream order key before after there then Fault sent.lost
-  stops_behind_all = stops_in_last all_parts.sent

@@ -15,6 +15,7 @@ pub mod Preparing
 pub mod Reading
 pub mod Received
 pub mod Receiving
+pub mod Rounds
 pub mod Rows
 pub mod Searching
 pub mod Sent

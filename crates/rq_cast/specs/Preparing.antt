@@ -34,7 +34,7 @@ pub record IsPrepared (order : Order) (key : Key) (is_last : Bool) (names : List
   pub fitting : IsFitting (length (object_of is_last names bytes)) order.symbol_size table s.encoded.configuration
   pub sends : IsSendingOf table is_last names (object_of is_last names bytes) s
   pub keyed : s.key ≡ key
-  pub series : IsSeriesOf order.ids.first order.ids.step (largest_block s.encoded.configuration) order.repair s.series
+  pub series : IsSeriesOf order.ids (largest_block s.encoded.configuration) order.repair s.series
 
 -- what is refused of an object: its configuration, or its encoder
 abbrev pub RefusesObject : Order → List ℕ → Error → Type 0

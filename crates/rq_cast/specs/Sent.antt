@@ -12,11 +12,13 @@ use Rattle.rq_streams.specs.declared.run.Stop.{Stop}
 use Rattle.rq_streams.specs.declared.run.Stop.TheVariants.{Fault, Refused}
 use Rattle.rq_cells.specs.declared.head.Head.{Head}
 use Rattle.rq_cells.specs.Cells.{Key, cell_bytes}
+use Rattle.rq_cast.specs.declared.order.Ids.{Ids}
 use Rattle.rq_cast.specs.declared.series.Series.{Series}
 use Rattle.rq_cast.specs.declared.sending.Sender.{Sender}
 use Rattle.rq_cast.specs.declared.series.Repair.{Repair}
 use Rattle.rq_cast.specs.Ids.{IsIdEnd}
 use Rattle.rq_cast.specs.Parts.{greatest_count, part_head}
+use Rattle.rq_cast.specs.Rounds.{round_first}
 
 -- ---- which cells
 
@@ -26,9 +28,16 @@ pub record IsSeries (first step end : ℕ) (s : Series) : Type 0 where
   pub by : s.step ≡ step
   pub below : (k : ℕ) → (k < s.count) ↔ (first + step * k < end)
 
--- those below the end that so many repair packets ask for, where the largest block has so many source symbols
-abbrev pub IsSeriesOf : ℕ → ℕ → ℕ → Repair → Series → Type 0
-IsSeriesOf first step largest repair s = (end : ℕ) × IsIdEnd largest repair end × IsSeries first step end s
+-- as many in a round, where the first one has these
+pub record IsRoundOf (round : ℕ) (begun s : Series) : Type 0 where
+  pub begins : 0 < begun.count → s.first ≡ round_first begun.first begun.step begun.count round
+  pub by : s.step ≡ begun.step
+  pub many : s.count ≡ begun.count
+
+-- those of a round, where the first one has those below the end that so many repair packets ask for, and the largest block so many source symbols
+abbrev pub IsSeriesOf : Ids → ℕ → Repair → Series → Type 0
+IsSeriesOf ids largest repair s =
+    (begun : Series) × (end : ℕ) × IsIdEnd largest repair end × IsSeries ids.first ids.step end begun × IsRoundOf ids.round begun s
 
 -- what a sender sends: packets of an object's encoder, under the head of its cells, with these ids and with checks by a key
 pub record Sending : Type 0 where

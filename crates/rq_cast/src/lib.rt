@@ -5,7 +5,9 @@
 mod attempt;
 mod choice;
 mod digests;
+mod halt;
 mod input;
+mod known;
 pub mod laws;
 mod losing;
 mod loss;
@@ -30,7 +32,9 @@ mod stream_sending;
 mod survey;
 mod window;
 
+pub use halt::Halt;
 pub use input::Input;
+pub use known::Known;
 pub use losing::loses;
 pub use loss::Loss;
 pub use missing::missing_packets;

@@ -119,7 +119,8 @@ impl<'a> Sender<'a> {
     ghost use Rattle.rq_cast.specs.Output.{CountsLost};
 
     /// The sender of a part, in cells whose checks are made by a key. It sends the symbols whose ids are
-    /// ordered, up to the last source symbol of the largest block, and to so many repair symbols behind it.
+    /// ordered, up to the last source symbol of the largest block, and to so many repair symbols behind it; in a
+    /// later round as many that follow.
     /// Where the first is none of these it sends nothing.
     ///
     /// Refuses what [`Encoder::new`] refuses.
@@ -137,8 +138,7 @@ impl<'a> Sender<'a> {
             → IsSendingOf table.now part.now.is_last names part.now.object.now (sending_of s)) }
         ensures configuration { IfOk result (λ s. (sending_of s).encoded.configuration ≡ part.now.configuration) }
         ensures keyed { IfOk result (λ s. (sending_of s).key ≡ key.now) }
-        ensures series { IfOk result (λ s. IsSeriesOf order.now.ids.first order.now.ids.step
-            (largest_block part.now.configuration) order.now.repair (sending_of s).series) }
+        ensures series { IfOk result (λ s. IsSeriesOf order.now.ids (largest_block part.now.configuration) order.now.repair (sending_of s).series) }
     {
         // For the proof: the rows of a table pass their checks.
         let _greatest = table.greatest();
@@ -147,12 +147,13 @@ impl<'a> Sender<'a> {
         let digests = source_digests(alloc, &configuration, part.object)?;
         let head = part_head(part, digests.as_slice());
         let end = order.repair.end(configuration.largest_block());
+        let begun = Series::new(order.ids.first, order.ids.step, end);
         Ok(Sender {
             key,
             encoder,
             digests,
             head,
-            series: Series::new(order.ids.first, order.ids.step, end),
+            series: begun.in_round(order.ids.round),
         })
     }
 

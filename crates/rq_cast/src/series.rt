@@ -1,5 +1,5 @@
 //! Which encoding symbol ids are sent.
-ghost use Rattle.std.specs.Prelude.{◌≡◌, ◌^◌, ◌<◌, ◌≤◌};
+ghost use Rattle.std.specs.Prelude.{◌≡◌, ◌/◌, ◌^◌, ◌<◌, ◌≤◌};
 ghost use Rattle.rq_cast.specs.Ids.{AreIds};
 
 use crate::loss::Loss;
@@ -60,7 +60,8 @@ pub struct Series {
 }
 
 impl Series {
-    ghost use Rattle.rq_cast.specs.Sent.{IsSeries};
+    ghost use Rattle.rq_cast.specs.Sent.{IsSeries, IsRoundOf};
+    ghost use Rattle.rq_cast.specs.Rounds.{ids_from};
 
     /// Those of the ids `first`, `first + step`, .. that are below an end.
     pub fn new(first: u32, step: u32, end: u32) -> Series
@@ -72,6 +73,39 @@ impl Series {
             first,
             step,
             count: end.saturating_sub(first).div_ceil(step),
+        }
+    }
+
+    // How many stretches of as many ids stand behind one another from an id on.
+    fn stretches_from(&self, id: u32) -> u64
+        requires step { 0 < self.now.step }
+        requires some { 0 < self.now.count }
+        ensures { result ≡ ids_from id self.now.step / self.now.count }
+    {
+        let ids = ENCODING_SYMBOL_IDS.saturating_sub(id).div_ceil(self.step);
+        u64::from(ids / self.count)
+    }
+
+    /// Those of a round, from 0, where these are those of the first one.
+    pub(crate) fn in_round(self, round: u64) -> Series
+        requires { 0 < self.step }
+        ensures { IsRoundOf round self result }
+    {
+        if self.count == 0 {
+            return self;
+        }
+        let least = self.first % self.step;
+        let fit = self.stretches_from(self.first);
+        let (begin, number) = if round < fit {
+            (self.first, round)
+        } else {
+            (least, (round - fit) % self.stretches_from(least))
+        };
+        let skipped = number as u32 * self.count;
+        Series {
+            first: begin + self.step * skipped,
+            step: self.step,
+            count: self.count,
         }
     }
 }

@@ -1,12 +1,13 @@
 //! How what is read is sent as a stream, part after part.
 ghost use Rattle.std.specs.Prelude.{◌≡◌, ℕ, ◌+◌, ◌-◌, ◌*◌, ◌^◌, ◌<◌, ◌≤◌, List, [], IfOk, IfErr, OnOk, true};
 ghost use Rattle.rq_streams.specs.Counted.{failed_count, inner};
-ghost use Rattle.rq_streams.specs.Ends.{failed_calls};
 ghost use Rattle.rq_cast.specs.Names.{AreNames};
 ghost use Rattle.rq_cast.specs.Parts.{object_of};
 ghost use Rattle.rq_cast.specs.Output.{counting, sink, flushed, CountsLost};
-ghost use Rattle.rq_cast.specs.SentParts.{SendsStream, StopsStream, CountsStop};
+ghost use Rattle.rq_cast.specs.SentParts.{SendsStream, StopsStream, CountsStop, halted_calls};
 
+use crate::halt::Halt;
+use crate::known::Known;
 use crate::names::Names;
 use crate::order::Order;
 use crate::output::Output;
@@ -21,7 +22,7 @@ use std::alloc::Global;
 use std::io::{Read, Write};
 
 /// How much of a stream was sent.
-#[derive(Clone, Copy, Debug, PartialEq, Eq)]
+#[derive(Clone, Copy, Debug, Default, PartialEq, Eq)]
 pub struct Sent {
     /// How many parts it has.
     pub parts: u32,
@@ -29,6 +30,21 @@ pub struct Sent {
     pub cells: u64,
     /// How many of these were lost.
     pub lost: u64,
+}
+
+impl Sent {
+    ghost use Rattle.rq_cast.specs.Rounds.{sum_of};
+
+    /// What was sent in both of two rounds, whose parts are the same. A count stays at `u64::MAX`.
+    pub fn with(self, next: Sent) -> Sent
+        ensures { result ≡ sum_of self next }
+    {
+        Sent {
+            parts: next.parts,
+            cells: self.cells.saturating_add(next.cells),
+            lost: self.lost.saturating_add(next.lost),
+        }
+    }
 }
 
 // The object of a part: its bytes, and the seal behind those of the last one.
@@ -50,6 +66,7 @@ struct StreamSender<'a> {
     key: &'a Key,
     // Of the parts that are sent.
     names: Names,
+    known: Known,
     // Of these.
     cells: u64,
     lost: u64,
@@ -91,7 +108,7 @@ impl<'a> StreamSender<'a> {
         is_last: bool,
         output: &mut Output<W>,
         pace: &mut P,
-    ) -> Result<(), Stop>
+    ) -> Result<(), Halt>
         requires step { 0 < self.old.order.ids.step }
         requires few { self.old.names.count < 2 ^ 30 }
         requires room { failed_count (counting output.old) < 2 ^ 64 - 2 ^ 32 }
@@ -99,13 +116,17 @@ impl<'a> StreamSender<'a> {
             → SendsPart is_last before bytes.items self.old self.new (W.contents (sink output.old)) (W.contents (sink output.new))) }
         ensures counts { OnOk result (CountsLost output.old output.new (self.new.lost - self.old.lost) 0) }
         ensures flushes { OnOk result (flushed output.new ≡ true) }
-        ensures stops { IfErr result (λ stop. (before : List (List ℕ)) → AreNames before self.old.names
-            → (lost : ℕ) × CountsLost output.old output.new lost (failed_calls result)
-            × StopsPart is_last before bytes.items self.old lost (W.contents (sink output.old)) (W.contents (sink output.new)) stop) }
+        ensures stops { IfErr result (λ halt. (before : List (List ℕ)) → AreNames before self.old.names
+            → (lost : ℕ) × CountsLost output.old output.new lost (halted_calls halt)
+            × StopsPart is_last before bytes.items self.old lost (W.contents (sink output.old)) (W.contents (sink output.new)) halt) }
         ensures order { self.new.order ≡ self.old.order }
         ensures key { self.new.key.now ≡ self.old.key.now }
     {
         let sender = self.prepare(alloc, bytes, is_last)?;
+        let index = self.names.count;
+        if !self.known.take(index, is_last, &sender.head().name)? {
+            return Err(Halt::Changed(index));
+        }
         pace.begin_part(&sender);
         let lost = sender.send(alloc, output, pace)?;
         self.cells += sender.cells();
@@ -126,6 +147,9 @@ impl<'a> StreamSender<'a> {
 /// network that is down or without room, and the next one is written then. Behind each part it flushes. Each other failed call ends it
 /// with [`Stop::Fault`], and a beginning of a cell may be written.
 ///
+/// It is one round of a stream, as is ordered. Behind the first one a part that isn't what it was, or a last one that
+/// wasn't, ends it with [`Halt::Changed`] before any of its cells is written.
+///
 /// Refuses, of each part in this order, [`Error::TransferTooLong`] where 2^30 are sent already, what
 /// [`ObjectTransmissionInformation::with_defaults`](raptorq::ObjectTransmissionInformation::with_defaults)
 /// refuses, and what [`Encoder::new`](raptorq::Encoder::new) refuses. [`Error::OutOfMemory`] may come before
@@ -134,32 +158,34 @@ pub fn send_stream<R: Read, W: Write, P: Pace>(
     alloc: Global,
     order: &Order,
     key: &Key,
+    known: Known,
     reader: &mut Counted<R>,
     output: &mut Output<W>,
     pace: &mut P,
-) -> Result<Sent, Stop>
+) -> Result<(Sent, Known), Halt>
     requires part { 0 < order.now.part }
     requires step { 0 < order.now.ids.step }
     requires reads { failed_count reader.old < 2 ^ 64 - 1 }
     requires writes { failed_count (counting output.old) < 2 ^ 63 }
 
     // All that is read is sent.
-    ensures sends { IfOk result (SendsStream order.now key.now (R.remaining (inner reader.old)) (R.remaining (inner reader.new))
-        (W.contents (sink output.old)) (W.contents (sink output.new))) }
-    ensures counts { IfOk result (λ sent. CountsLost output.old output.new sent.lost 0) }
+    ensures sends { IfOk result (λ r. SendsStream order.now key.now known (R.remaining (inner reader.old)) (R.remaining (inner reader.new))
+        (W.contents (sink output.old)) (W.contents (sink output.new)) r.0 r.1) }
+    ensures counts { IfOk result (λ r. CountsLost output.old output.new r.0.lost 0) }
     ensures reader { OnOk result (failed_count reader.new ≡ failed_count reader.old) }
     ensures flushes { OnOk result (flushed output.new ≡ true) }
 
     // Or the parts before the one at which it stops, and of this one what could be.
-    ensures stops { IfErr result (λ stop. (lost : ℕ)
-        × StopsStream order.now key.now (R.remaining (inner reader.old)) (R.remaining (inner reader.new))
-        (W.contents (sink output.old)) (W.contents (sink output.new)) stop lost
-        × CountsStop reader.old reader.new output.old output.new stop lost) }
+    ensures stops { IfErr result (λ halt. (lost : ℕ)
+        × StopsStream order.now key.now known (R.remaining (inner reader.old)) (R.remaining (inner reader.new))
+        (W.contents (sink output.old)) (W.contents (sink output.new)) halt lost
+        × CountsStop reader.old reader.new output.old output.new halt lost) }
 {
     let mut stream = StreamSender {
         order: *order,
         key,
         names: Names::new(),
+        known,
         cells: 0,
         lost: 0,
     };
@@ -168,12 +194,13 @@ pub fn send_stream<R: Read, W: Write, P: Pace>(
         let is_last = (bytes.len() as u64) < order.part;
         stream.send_part(alloc, bytes, is_last, output, pace)?;
         if is_last {
-            return Ok(Sent {
+            let sent = Sent {
                 parts: stream.names.count,
                 cells: stream.cells,
                 lost: stream.lost,
-            });
+            };
+            return Ok((sent, stream.known.behind()));
         }
     }
-    Err(Stop::Refused(Error::TransferTooLong))
+    Err(Halt::By(Stop::Refused(Error::TransferTooLong)))
 }

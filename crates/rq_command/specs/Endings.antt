@@ -11,7 +11,7 @@ use Rattle.rq_cast.specs.declared.run.Ending.{Ending}
 use Rattle.rq_cast.specs.declared.run.Ending.TheVariants.{Written, Incomplete}
 use Rattle.rq_cast.specs.declared.survey.Standing.{Standing}
 use Rattle.rq_command.specs.declared.ending.End.{End}
-use Rattle.rq_command.specs.declared.ending.End.TheVariants.{Unasked, AtTerminal, EmptyKey, Sent, Received, Surveyed, Stopped}
+use Rattle.rq_command.specs.declared.ending.End.TheVariants.{Unasked, AtTerminal, EmptyKey, Sent, Changed, Received, Surveyed, Stopped}
 
 -- of words that ask for no job
 abbrev pub word_status : ErrorKind → ℕ
@@ -55,6 +55,7 @@ status_of (Unasked e) = word_status (kind_of e)
 status_of AtTerminal = 64
 status_of EmptyKey = 64
 status_of (Sent sent) = sent_status sent.cells sent.lost
+status_of (Changed part) = 1
 status_of (Received (Ok ending) seen) = ending_status ending
 status_of (Received (Err stop) seen) = stop_status stop
 status_of (Surveyed standings) = survey_status standings.items

@@ -7,6 +7,8 @@ use Rattle.rq_tables.specs.SystematicTable.{wanted_table}
 use Rattle.rq_rows.specs.declared.further_rows.TheConstants.{FURTHER_ROWS}
 use Rattle.rq_streams.specs.declared.run.Stop.{Stop}
 use Rattle.rq_streams.specs.declared.run.Stop.TheVariants.{Fault, Refused}
+use Rattle.rq_cast.specs.declared.halt.Halt.{Halt}
+use Rattle.rq_cast.specs.declared.halt.Halt.TheVariants.{By, Changed as Differs}
 use Rattle.rq_cast.specs.declared.order.Order.{Order}
 use Rattle.rq_cast.specs.declared.seen.Seen.{Seen}
 use Rattle.rq_cast.specs.declared.run.Ending.{Ending}
@@ -16,18 +18,20 @@ use Rattle.rq_cast.specs.declared.stream_sending.Sent.{Sent as SentParts}
 use Rattle.rq_cast.specs.Preparing.{RefusesParts}
 use Rattle.rq_cast.specs.Received.{EndsReceiving}
 use Rattle.rq_cells.specs.Cells.{Key}
-use Rattle.rq_cast.specs.SentParts.{SendsStream, StopsStream}
+use Rattle.rq_cast.specs.Rounds.{most_at}
 use Rattle.rq_cast.specs.Surveyed.{IsSurvey}
 use Rattle.rq_words.specs.declared.values.TheConstants.{WIDEST_WINDOW}
 use Rattle.rq_words.specs.declared.jobs.Job.{Job}
 use Rattle.rq_words.specs.declared.jobs.Job.TheVariants.{Send, Receive, Info}
 use Rattle.rq_words.specs.declared.jobs.SendJob.{SendJob}
 use Rattle.rq_command.specs.declared.ending.End.{End}
-use Rattle.rq_command.specs.declared.ending.End.TheVariants.{Unasked, AtTerminal, EmptyKey, Sent, Received, Surveyed, Stopped}
+use Rattle.rq_command.specs.declared.ending.End.TheVariants.{Unasked, AtTerminal, EmptyKey, Sent, Changed, Received, Surveyed, Stopped}
 use Rattle.rq_words.specs.Asked.{AsksFor, IsRefused}
+use Rattle.rq_words.specs.Values.{times_of}
 use Rattle.rq_command.specs.Failed.{Fails}
 use Rattle.rq_command.specs.Keyed.{HasKey, IsEmptyKey, IsKeyOf, key_file}
 use Rattle.rq_command.specs.Placed.{Contents, IsPlaced}
+use Rattle.rq_command.specs.Rounds.{SendsRounds, StopsRounds}
 
 -- ---- sending
 
@@ -45,26 +49,23 @@ RefusesLength order length_of_input (Refused e) = RefusesParts order length_of_i
 abbrev pub StopsUnsent : Order → Option Contents → Contents → Stop → Type 0
 StopsUnsent order file input stop = StopsReading stop ⊎ (HasKey file × IfSome input (λ bytes. RefusesLength order (length bytes) stop))
 
--- All that is read is sent by the key of a file, but for cells that were lost.
-pub record SendsAll (order : Order) (file : Option Contents) (input blank new : Contents) (sent : SentParts) : Type 0 where
+-- All that is read is sent by the key of a file in so many rounds, but for cells that were lost.
+pub record SendsAll (order : Order) (rounds : ℕ) (file : Option Contents) (input blank new : Contents) (sent : SentParts) : Type 0 where
   pub key : Key
   pub keyed : IsKeyOf file key
-  pub after : Contents
-  pub sends : SendsStream order key input after blank new sent
+  pub sends : SendsRounds order key rounds input blank new sent
 
--- Some first parts are, and of the next one what could be.
-pub record SendsSome (order : Order) (file : Option Contents) (input blank new : Contents) (stop : Stop) : Type 0 where
+-- Some first rounds are, some first parts of the next one, and of the next part what could be.
+pub record SendsSome (order : Order) (rounds : ℕ) (file : Option Contents) (input blank new : Contents) (halt : Halt) : Type 0 where
   pub key : Key
   pub keyed : IsKeyOf file key
-  pub after : Contents
-  pub lost : ℕ
-  pub stops : StopsStream order key input after blank new stop lost
+  pub stops : StopsRounds order key rounds input blank new halt
 
 -- Nothing is sent, or some first parts are; or all are, and a call failed at the end.
-abbrev pub StopsSending : Order → Option Contents → Contents → Contents → Stop → Contents → Contents → Type 0
-StopsSending order file input blank stop old new =
+abbrev pub StopsSending : Order → ℕ → Option Contents → Contents → Contents → Stop → Contents → Contents → Type 0
+StopsSending order rounds file input blank stop old new =
     ((new ≡ old) × StopsUnsent order file input stop)
-    ⊎ (SendsSome order file input blank new stop ⊎ ((stop ≡ Fault) × (sent : SentParts) × SendsAll order file input blank new sent))
+    ⊎ (SendsSome order rounds file input blank new (By stop) ⊎ ((stop ≡ Fault) × (sent : SentParts) × SendsAll order rounds file input blank new sent))
 
 -- a run ended since its cells would have gone to a terminal
 abbrev pub is_at_terminal : End → Bool
@@ -75,14 +76,15 @@ is_at_terminal _ = false
 abbrev pub MindsTerminal : Option Bool → End → Type 0
 MindsTerminal terminal ended = IfSome terminal (λ is. is ≡ is_at_terminal ended)
 
--- How a run ends that sends what is read by the key of a file. Nothing is read where its cells would go to a terminal, and nothing but the key
+-- How a run ends that sends what is read by the key of a file, in so many rounds. Nothing is read where its cells would go to a terminal, and nothing but the key
 -- where that is empty.
-abbrev pub EndsSend : Order → Option Contents → Contents → Contents → End → Contents → Contents → Type 0
-EndsSend order file input blank AtTerminal old new = new ≡ old
-EndsSend order file input blank EmptyKey old new = IsEmptyKey file × (new ≡ old)
-EndsSend order file input blank (Sent sent) old new = SendsAll order file input blank new sent
-EndsSend order file input blank (Stopped stop) old new = StopsSending order file input blank stop old new
-EndsSend order file input blank _ old new = ⊥
+abbrev pub EndsSend : Order → ℕ → Option Contents → Contents → Contents → End → Contents → Contents → Type 0
+EndsSend order rounds file input blank AtTerminal old new = new ≡ old
+EndsSend order rounds file input blank EmptyKey old new = IsEmptyKey file × (new ≡ old)
+EndsSend order rounds file input blank (Sent sent) old new = SendsAll order rounds file input blank new sent
+EndsSend order rounds file input blank (Changed part) old new = SendsSome order rounds file input blank new (Differs part)
+EndsSend order rounds file input blank (Stopped stop) old new = StopsSending order rounds file input blank stop old new
+EndsSend order rounds file input blank _ old new = ⊥
 
 -- ---- receiving
 
@@ -142,7 +144,7 @@ end_of (Err stop) = Stopped stop
 -- What stands in files, by their names, what a new writer holds, and what stands where is written before and after.
 abbrev pub EndsSending : SendJob → (List (List ℕ) → Contents) → Contents → End → Contents → Contents → Type 0
 EndsSending job stands blank ended old new =
-    EndsSend job.order (key_file stands (option_map (λ s. s.now) job.key)) (stands (map (λ s. s.now) job.files.items)) blank ended old new
+    EndsSend job.order (times_of job.rounds) (key_file stands (option_map (λ s. s.now) job.key)) (stands (map (λ s. s.now) job.files.items)) blank ended old new
 
 -- The same, and whether cells would go to a terminal.
 abbrev pub EndsJob : Job → Option Bool → (List (List ℕ) → Contents) → Contents → End → Contents → Contents → Type 0
@@ -166,9 +168,10 @@ FailsReceiving (Ok _) n = n ≤ 1
 FailsReceiving (Err Fault) n = 0 < n
 FailsReceiving (Err (Refused e)) n = n ≤ 1
 
--- So many failed in a run that ended so. A lost cell is one, and cells may be lost before memory is refused.
+-- So many failed in a run that ended so. A lost cell is one, and cells may be lost before memory is refused, or before what is read has changed.
 abbrev pub FailsIn : End → ℕ → Type 0
-FailsIn (Sent sent) n = n ≡ sent.lost
+FailsIn (Sent sent) n = sent.lost ≡ most_at n
+FailsIn (Changed part) n = ⊤
 FailsIn (Received result seen) n = FailsReceiving result n
 FailsIn (Stopped Fault) n = 0 < n
 FailsIn (Stopped (Refused e)) n = ⊤

@@ -19,6 +19,8 @@ pub enum End {
     EmptyKey,
     /// It has sent a stream, but for cells that a network lost at their call.
     Sent(Sent),
+    /// It has sent some rounds of a stream, and then the part of this index wasn't what it was.
+    Changed(u32),
     /// It has received, and seen so much, also where something stopped it.
     Received(Result<Ending, Stop>, Seen),
     /// It has listed the objects whose cells stand among bytes.
@@ -28,7 +30,8 @@ pub enum End {
 }
 
 impl End {
-    /// The status that the program ends with: 0 where all is done, 1 after a fault of the system, 2 where
+    /// The status that the program ends with: 0 where all is done, 1 after a fault of the system or where what is
+    /// sent has changed, 2 where
     /// too little came, 3 where what was to be sent is refused, and 64 where the words are wrong, cells would
     /// go to a terminal, or the key is empty.
     pub fn status(&self) -> u8
@@ -39,6 +42,7 @@ impl End {
             End::AtTerminal | End::EmptyKey => 64,
             // There may be no cells: of small parts a share may be empty.
             End::Sent(sent) => u8::from(all_lost(sent.cells, sent.lost)),
+            End::Changed(_) => 1,
             End::Received(Ok(ending), _) => ending_status(*ending),
             End::Received(Err(stop), _) => stop_status(*stop),
             End::Surveyed(standings) => if standings.is_empty() { 2 } else { 0 },

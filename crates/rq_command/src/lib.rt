@@ -6,10 +6,11 @@ mod devices;
 mod ending;
 mod messages;
 mod program;
+mod rounds;
 mod told;
 
 pub use devices::{Devices, Teller};
 pub use ending::End;
 pub use messages::{announce, write_end, write_standings};
 pub use program::run;
-pub use rq_words::{InfoJob, Job, ReceiveJob, SendJob, Telling, job};
+pub use rq_words::{InfoJob, Job, ReceiveJob, Rounds, SendJob, Telling, job};

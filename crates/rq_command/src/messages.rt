@@ -212,6 +212,10 @@ pub fn write_end<W: Write>(end: &End, out: &mut W) -> io::Result<()> {
             )
         }
         End::Sent(_) => Ok(()),
+        End::Changed(part) => writeln!(
+            out,
+            "rqcast: FILE changed between rounds: part {part} isn't what it was"
+        ),
         End::Received(Ok(ending), seen) => write_ending(*ending, seen, out),
         End::Received(Err(stop), _) => write_stop(*stop, out),
         End::Surveyed(standings) if standings.is_empty() => {

@@ -8,8 +8,9 @@ ghost use Rattle.rq_command.specs.Program.{StopsReading, StopsJob, MindsTerminal
 
 use crate::devices::{Devices, Teller};
 use crate::ending::End;
+use crate::rounds::{Rounds, send_rounds};
 use crate::told::Told;
-use rq_cast::{Ending, Input, Output, Seen, check_length, run_receive, send_stream, standings_in};
+use rq_cast::{Ending, Halt, Input, Seen, check_length, run_receive, standings_in};
 use rq_cells::{Key, Wanted};
 use rq_rows::full_table;
 use rq_streams::{Counted, Stop, read_all};
@@ -64,36 +65,32 @@ fn key_of<'w, D: Devices<'w>>(
 // a byte of that is read.
 fn prepare<'w, D: Devices<'w>, T: Teller>(
     alloc: Global,
-    job: SendJob<'w>,
+    job: &SendJob<'w>,
     devices: &mut D,
     teller: &mut T,
 ) -> Result<Option<(Key, D::Reader)>, Stop>
-    requires { 0 < job.order.part }
-    ensures key { IfOk result (λ r. IsKeyRead (key_file (D.stands devices.old) (option_map (λ s. s.now) job.entry.key)) (option_map (λ o. o.0) r)) }
-    ensures bytes { IfOk result (λ r. IfSome r (λ o. D.Reader.remaining o.1 ≡ D.stands devices.old (map (λ s. s.now) job.entry.files.items))) }
-    ensures stops { IfErr result (StopsJob job.entry (D.stands devices.old)) }
+    requires { 0 < job.now.order.part }
+    ensures key { IfOk result (λ r. IsKeyRead (key_file (D.stands devices.old) (option_map (λ s. s.now) job.entry.now.key)) (option_map (λ o. o.0) r)) }
+    ensures bytes { IfOk result (λ r. IfSome r (λ o. D.Reader.remaining o.1 ≡ D.stands devices.old (map (λ s. s.now) job.entry.now.files.items))) }
+    ensures stops { IfErr result (StopsJob job.entry.now (D.stands devices.old)) }
     ensures counts { Fails (D.failed devices.old) (D.failed devices.new) (failed_calls result) }
+    ensures stays { IfOk result (λ r. D.stands devices.new ≡ D.stands devices.old) }
     ensures kept { D.placed devices.new ≡ D.placed devices.old }
 {
-    let SendJob {
-        order,
-        key,
-        files,
-        telling,
-    } = job;
-    let Some(key) = key_of(alloc, key, devices)? else {
+    let Some(key) = key_of(alloc, job.key, devices)? else {
         return Ok(None);
     };
-    let reader = devices.open(files)?;
+    let reader = devices.open(Vec::from_slice(alloc, job.files.as_slice())?)?;
     let length = devices.length(&reader);
-    teller.begin(telling, order.ids.rate, length);
+    teller.begin(job.telling, job.rate, length);
     if let Some(length) = length {
-        check_length(alloc, &order, length)?;
+        check_length(alloc, &job.order, length)?;
     }
     Ok(Some((key, reader)))
 }
 
-// Sends a stream part by part. Nothing is read where its cells would go to a terminal.
+// Sends a stream part by part, in as many rounds as are asked for. Nothing is read where its cells would go to a
+// terminal.
 #[tactic(auto, using(crate::proofs::Doing::minds))]
 fn send<'w, D: Devices<'w>, T: Teller>(
     alloc: Global,
@@ -110,20 +107,21 @@ fn send<'w, D: Devices<'w>, T: Teller>(
     if devices.shows_output() {
         return Ok(End::AtTerminal);
     }
-    let order = job.order;
-    let Some((key, reader)) = prepare(alloc, job, devices, teller)? else {
+    let Some((key, reader)) = prepare(alloc, &job, devices, teller)? else {
         return Ok(End::EmptyKey);
     };
-    let mut output = Output::new(Counted::new(devices.create(None)?));
-    let mut input = Counted::new(reader);
-    let sent = send_stream(alloc, &order, &key, &mut input, &mut output, teller);
-    devices.count(&input);
-    let counted = output.into_counted();
-    devices.count(&counted);
-    let finished = devices.finish(None, counted.into_inner(), sent.is_ok());
-    let sent = sent?;
-    finished?;
-    Ok(End::Sent(sent))
+    let writer = devices.create(None)?;
+    let rounds = Rounds::new(alloc, job, key, writer);
+    let (writer, sent) = send_rounds(alloc, rounds, reader, devices, teller);
+    let finished = devices.finish(None, writer, sent.is_ok());
+    match sent {
+        Ok(sent) => {
+            finished?;
+            Ok(End::Sent(sent))
+        }
+        Err(Halt::By(stop)) => Err(stop),
+        Err(Halt::Changed(part)) => Ok(End::Changed(part)),
+    }
 }
 
 // Whether all is written.
@@ -240,8 +238,8 @@ fn end_of(ended: Result<End, Stop>) -> End
     }
 }
 
-/// The program from the words after its name to its end: [`job`] says what they ask for, and [`send_stream`],
-/// [`run_receive`] or [`standings_in`] does it, over all rows.
+/// The program from the words after its name to its end: [`job`] says what they ask for, and
+/// [`send_stream`](rq_cast::send_stream), [`run_receive`] or [`standings_in`] does it, over all rows.
 ///
 /// Words that ask for no job read and write nothing. Of a job with a key the file of that is read first, and
 /// where it is empty nothing else is done. A file is put in its place only where the run has written all of

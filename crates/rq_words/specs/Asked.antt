@@ -1,9 +1,9 @@
 -- What the program's words ask for, and how they are refused.
-use Rattle.std.specs.Prelude.{◌≡◌, ◌⊎◌, ⊤, ℕ, ◌+◌, ◌<◌, List, [], ◌∷◌, Option, Some, None, Result, Ok, Err, map, option_map, codes, Bool, true, false}
+use Rattle.std.specs.Prelude.{◌≡◌, ◌⊎◌, ⊤, ℕ, ◌+◌, ◌<◌, List, [], ◌∷◌, Option, Some, None, Result, Ok, Err, map, option_map, codes, Bool, true, false, if◌then◌else◌, nat_lt}
 use Rattle.clap.specs.Words.{IsAmong, Kinds, Row, first_of}
 use Rattle.clap.specs.Kinds.{or_else}
 use Rattle.clap.specs.declared.error.kind.ErrorKind.{ErrorKind}
-use Rattle.clap.specs.declared.error.kind.ErrorKind.TheVariants.{ArgumentConflict, MissingSubcommand, OutOfMemory, ValueValidation}
+use Rattle.clap.specs.declared.error.kind.ErrorKind.TheVariants.{ArgumentConflict, MissingRequiredArgument, MissingSubcommand, OutOfMemory, ValueValidation}
 use Rattle.rq_cast.specs.declared.order.Ids.{Ids}
 use Rattle.rq_cast.specs.declared.order.Order.{Order}
 use Rattle.rq_cast.specs.declared.series.Repair.{Repair}
@@ -13,6 +13,8 @@ use Rattle.rq_options.specs.declared.matches.Verb.TheVariants as verb
 use Rattle.rq_options.specs.declared.misuse.Misuse.{Misuse}
 use Rattle.rq_options.specs.Definition.{faults_of}
 use Rattle.rq_options.specs.Options.{is_flagged, misuse_kind, text_or, texts_of, verb_used}
+use Rattle.rq_words.specs.declared.jobs.Rounds.{Rounds}
+use Rattle.rq_words.specs.declared.jobs.Rounds.TheVariants.{Times}
 use Rattle.rq_words.specs.declared.jobs.Telling.{Telling}
 use Rattle.rq_words.specs.declared.jobs.Telling.TheVariants.{Usual, Quiet, Progress, Json}
 use Rattle.rq_words.specs.declared.jobs.SendJob.{SendJob}
@@ -20,7 +22,7 @@ use Rattle.rq_words.specs.declared.jobs.ReceiveJob.{ReceiveJob}
 use Rattle.rq_words.specs.declared.jobs.InfoJob.{InfoJob}
 use Rattle.rq_words.specs.declared.jobs.Job.{Job}
 use Rattle.rq_words.specs.declared.jobs.Job.TheVariants.{Send, Receive, Info}
-use Rattle.rq_words.specs.Values.{part_of, window_of, symbol_size_of, loss_of, repair_of, rate_of, id_of, share_of, name_of}
+use Rattle.rq_words.specs.Values.{part_of, window_of, symbol_size_of, loss_of, repair_of, rounds_of, times_of, rate_of, id_of, share_of, name_of}
 
 -- What is asked for, or the kind of its refusal: the first one in the order in which the options are read.
 abbrev pub Asked : Type 0 → Type 0
@@ -86,11 +88,24 @@ from_asked rows = valued (id_of (text_or rows (codes "from") (codes "0")))
 
 -- from the first id on every nth one, behind those of the senders before this one
 unfoldable pub ids_asked : List Row → Asked Ids
-ids_asked rows = and_then (rate_asked rows) (λ rate. and_then (share_asked rows) (λ share. and_then (from_asked rows) (λ from. Ok (record {
+ids_asked rows = and_then (share_asked rows) (λ share. and_then (from_asked rows) (λ from. Ok (record {
   first = from + share.0;
   step = share.1;
-  rate = rate;
-}))))
+  round = 0;
+})))
+
+-- more rounds than one take a file, since standard input can't be read again
+abbrev pub with_file : Rounds → Option (List ℕ) → Asked Rounds
+with_file rounds None = if nat_lt 1 (times_of rounds) then Err MissingRequiredArgument else Ok rounds
+with_file rounds (Some file) = Ok rounds
+
+-- one round where no number is said
+abbrev pub rounds_by : Option (List ℕ) → Option (List ℕ) → Asked Rounds
+rounds_by None file = Ok (Times 1)
+rounds_by (Some text) file = and_then (valued (rounds_of text)) (λ rounds. with_file rounds file)
+
+unfoldable pub rounds_asked : List Row → Asked Rounds
+rounds_asked rows = rounds_by (first_of (codes "rounds") rows) (first_of (codes "file") rows)
 
 unfoldable pub order_asked : List Row → Asked Order
 order_asked rows = and_then (part_asked rows) (λ part. and_then (symbol_size_asked rows) (λ size.
@@ -116,9 +131,13 @@ telling_asked rows = telling_by (is_flagged rows (codes "quiet")) (is_flagged ro
 
 -- ---- jobs
 
--- what is sent, and what is told
-abbrev pub send_asked : List Row → Asked (Order × Telling)
-send_asked rows = both (order_asked rows) (telling_asked rows)
+-- how fast, how often, and what is told
+abbrev pub course_asked : List Row → Asked (Option ℕ × (Rounds × Telling))
+course_asked rows = both (rate_asked rows) (both (rounds_asked rows) (telling_asked rows))
+
+-- what is sent, and that
+abbrev pub send_asked : List Row → Asked (Order × (Option ℕ × (Rounds × Telling)))
+send_asked rows = both (order_asked rows) (course_asked rows)
 
 -- a name, or none
 abbrev pub name_by : Option (List ℕ) → Asked (List ℕ)
@@ -140,7 +159,7 @@ abbrev pub receive_asked : List Row → Asked (List ℕ × (ℕ × Telling))
 receive_asked rows = both (name_asked rows) (receiving_asked rows)
 
 pub record IsSendOf (rows : List Row) (job : SendJob) : Type 0 where
-  pub asked_for : send_asked rows ≡ Ok (job.order, job.telling)
+  pub asked_for : send_asked rows ≡ Ok (job.order, (job.rate, (job.rounds, job.telling)))
   pub key : option_map (λ s. s.now) job.key ≡ first_of (codes "key") rows
   pub files : map (λ s. s.now) job.files.items ≡ texts_of rows (codes "file")
 
@@ -177,6 +196,12 @@ abbrev pub HasParts : Job → Type 0
 HasParts (Send job) = 0 < job.order.part
 HasParts (Receive job) = 0 < job.window
 HasParts (Info job) = ⊤
+
+-- a stream is sent in some rounds
+abbrev pub HasRounds : Job → Type 0
+HasRounds (Send job) = 0 < times_of job.rounds
+HasRounds (Receive job) = ⊤
+HasRounds (Info job) = ⊤
 
 -- ---- words that ask for nothing
 

@@ -1,5 +1,5 @@
 -- What the values of options say.
-use Rattle.std.specs.Prelude.{ℕ, Bool, true, false, ◌-◌, ◌==◌, ◌&&◌, List, length, Option, Some, None, option_and_then, option_map, if◌then◌else◌, nat_lt, nat_le, codes}
+use Rattle.std.specs.Prelude.{ℕ, Bool, true, false, ◌-◌, ◌^◌, ◌==◌, ◌&&◌, List, length, Option, Some, None, option_and_then, option_map, if◌then◌else◌, nat_lt, nat_le, codes}
 use Rattle.std.specs.Result.{result_ok}
 use Rattle.std.specs.Str.{bytes_eq}
 use Rattle.hex.specs.Hex.{decode_of}
@@ -10,6 +10,8 @@ use Rattle.rq_cells.specs.Cells.{greatest_cell_size}
 use Rattle.rq_cast.specs.declared.loss.Loss.{Loss}
 use Rattle.rq_cast.specs.declared.series.Repair.{Repair}
 use Rattle.rq_cast.specs.declared.series.Repair.TheVariants.{Packets, Share, All}
+use Rattle.rq_words.specs.declared.jobs.Rounds.{Rounds}
+use Rattle.rq_words.specs.declared.jobs.Rounds.TheVariants.{Times, Endless}
 use Rattle.rq_words.specs.Numbers.{fitting, scaled_of, count_of, last, without_last, has, before, behind}
 
 -- a number from 1 to a greatest one
@@ -52,6 +54,17 @@ numbered_repair_of text =
 -- or all
 unfoldable pub repair_of : List ℕ → Option Repair
 repair_of text = if bytes_eq text (codes "all") then Some All else numbered_repair_of text
+
+-- ---- rounds
+
+-- a number from 1 on, of 32 bits, or endless
+unfoldable pub rounds_of : List ℕ → Option Rounds
+rounds_of text = if bytes_eq text (codes "endless") then Some Endless else option_map Times (up_to (2 ^ 32 - 1) text)
+
+-- how many these are
+abbrev pub times_of : Rounds → ℕ
+times_of (Times n) = n
+times_of Endless = 2 ^ 64 - 1
 
 -- ---- other numbers
 

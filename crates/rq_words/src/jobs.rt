@@ -16,11 +16,39 @@ pub enum Telling {
     Json,
 }
 
+/// How often a stream is sent.
+#[derive(Clone, Copy, Debug, PartialEq, Eq)]
+pub enum Rounds {
+    /// So many times: not 0.
+    Times(u32),
+    /// Again and again.
+    Endless,
+}
+
+impl Rounds {
+    ghost use Rattle.std.specs.Prelude.{◌≡◌};
+    ghost use Rattle.rq_words.specs.Values.{times_of};
+
+    /// How many there are, where without an end it comes behind 2^64 - 1 of them.
+    pub fn times(self) -> u64
+        ensures { result ≡ times_of self }
+    {
+        match self {
+            Rounds::Times(times) => u64::from(times),
+            Rounds::Endless => u64::MAX,
+        }
+    }
+}
+
 /// How a stream is sent.
 #[derive(Debug, PartialEq, Eq, Drop)]
 pub struct SendJob<'a> {
-    /// Which cells are sent, and how fast.
+    /// Which cells are sent.
     pub order: Order,
+    /// How many bits are sent a second at most.
+    pub rate: Option<u64>,
+    /// How often they are sent.
+    pub rounds: Rounds,
     /// The file whose bytes are the key that its cells are made by, where there is one.
     pub key: Option<&'a str>,
     /// The file that is sent, or none for standard input.

@@ -6,6 +6,6 @@ mod numbers;
 mod values;
 mod words;
 
-pub use jobs::{InfoJob, Job, ReceiveJob, SendJob, Telling};
+pub use jobs::{InfoJob, Job, ReceiveJob, Rounds, SendJob, Telling};
 pub use values::WIDEST_WINDOW;
 pub use words::job;

@@ -1,7 +1,8 @@
 //! What the values of options say.
 ghost use Rattle.std.specs.Prelude.{◌≡◌, ◌<◌, ◌≤◌, option_map, IfOk, IfSome};
-ghost use Rattle.rq_words.specs.Values.{up_to, part_of, window_of, symbol_size_of, percent_of, packets_of, loss_of, repair_of, rate_of, id_of, share_of, sized, is_refused, name_of};
+ghost use Rattle.rq_words.specs.Values.{up_to, part_of, window_of, symbol_size_of, percent_of, packets_of, loss_of, repair_of, rounds_of, times_of, rate_of, id_of, share_of, sized, is_refused, name_of};
 
+use crate::jobs::Rounds;
 use crate::numbers::{count, scaled};
 use hex::FromHexError;
 use raptorq::base::ENCODING_SYMBOL_IDS;
@@ -21,6 +22,9 @@ const LONGEST_CELL: u64 = 65_599;
 
 // How many hundred-thousandths of all are lost at most: half.
 const GREATEST_LOSS: u32 = 50_000;
+
+// How often a stream is sent at most, where it isn't endless.
+const MOST_ROUNDS: u64 = 4_294_967_295;
 
 // How many bytes name a stream.
 const LONGEST_NAME: usize = 8;
@@ -108,6 +112,18 @@ pub(crate) fn repair(text: &str) -> Option<Repair>
         Some(number) => Some(Repair::Share(percent(number)?)),
         None => Some(Repair::Packets(packets(text)?)),
     }
+}
+
+/// How often a text asks for: a number from 1 on, of 32 bits, or endless.
+#[tactic(auto, unfolding(crate::specs::Values::rounds_of))]
+pub(crate) fn rounds(text: &str) -> Option<Rounds>
+    ensures value { result ≡ rounds_of text.now }
+    ensures some { IfSome result (λ rounds. 0 < times_of rounds) }
+{
+    if text == "endless" {
+        return Some(Rounds::Endless);
+    }
+    Some(Rounds::Times(up_to(MOST_ROUNDS, text)? as u32))
 }
 
 /// How many bits a second a text asks for, not 0.

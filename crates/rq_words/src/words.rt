@@ -1,11 +1,11 @@
 //! What the program's words ask for.
-ghost use Rattle.std.specs.Prelude.{◌≡◌, ◌<◌, map, option_map, IfOk, IfErr};
+ghost use Rattle.std.specs.Prelude.{◌≡◌, ◌<◌, codes, map, option_map, IfOk, IfErr};
 ghost use Rattle.std.specs.Result.{result_map_both};
-ghost use Rattle.clap.specs.Words.{FailsBy, found_of, kind_of, rows_of};
-ghost use Rattle.rq_words.specs.Values.{loss_of, repair_of};
-ghost use Rattle.rq_words.specs.Asked.{asked, kinds_of, valued, part_asked, symbol_size_asked, repair_asked, rate_asked, share_asked, from_asked, ids_asked, order_asked, telling_asked, send_asked, name_asked, window_asked, receiving_asked, receive_asked, IsSendOf, IsReceiveOf, IsInfoOf, AsksFor, StepsOn, HasParts, IsRefused};
+ghost use Rattle.clap.specs.Words.{FailsBy, first_of, found_of, kind_of, rows_of};
+ghost use Rattle.rq_words.specs.Values.{loss_of, repair_of, times_of};
+ghost use Rattle.rq_words.specs.Asked.{asked, kinds_of, valued, part_asked, symbol_size_asked, repair_asked, rate_asked, with_file, rounds_asked, share_asked, from_asked, ids_asked, order_asked, telling_asked, course_asked, send_asked, name_asked, window_asked, receiving_asked, receive_asked, IsSendOf, IsReceiveOf, IsInfoOf, AsksFor, StepsOn, HasParts, HasRounds, IsRefused};
 
-use crate::jobs::{InfoJob, Job, ReceiveJob, SendJob, Telling};
+use crate::jobs::{InfoJob, Job, ReceiveJob, Rounds, SendJob, Telling};
 use crate::values;
 use clap::{ArgMatches, Error};
 use rq_cast::{Ids, Order, Repair};
@@ -131,19 +131,51 @@ fn from_of<'a>(matches: &ArgMatches<'a>) -> Result<u32, Misuse<'a>>
     })
 }
 
-// Which ids are sent, and how fast: of n senders each sends every nth one.
+// So often, where a file is there that can be read again.
+fn with_file<'a>(matches: &ArgMatches<'a>, rounds: Rounds) -> Result<Rounds, Misuse<'a>>
+    requires { 0 < times_of rounds }
+    ensures value { asked result ≡ with_file rounds (first_of (codes "file") (rows_of (found_of matches.now))) }
+    ensures some { IfOk result (λ rounds. 0 < times_of rounds) }
+{
+    match text_of(matches, "file") {
+        None if rounds.times() > 1 => Err(Misuse::Alone {
+            option: "--rounds <N|endless>",
+            missing: "FILE",
+            reason: "standard input can't be read again",
+        }),
+        _ => Ok(rounds),
+    }
+}
+
+// How often a stream is sent: once where no word says it.
+#[tactic(auto, unfolding(crate::specs::Asked::rounds_asked))]
+fn rounds_of<'a>(matches: &ArgMatches<'a>) -> Result<Rounds, Misuse<'a>>
+    ensures value { asked result ≡ rounds_asked (rows_of (found_of matches.now)) }
+    ensures some { IfOk result (λ rounds. 0 < times_of rounds) }
+{
+    let Some(text) = text_of(matches, "rounds") else {
+        return Ok(Rounds::Times(1));
+    };
+    let rounds = values::rounds(text).ok_or(Misuse::Value {
+        option: "--rounds <N|endless>",
+        takes: "a number from 1 to 4294967295, or endless",
+        text,
+    })?;
+    with_file(matches, rounds)
+}
+
+// Which ids are sent: of n senders each sends every nth one.
 #[tactic(auto, unfolding(crate::specs::Asked::ids_asked))]
 fn ids_of<'a>(matches: &ArgMatches<'a>) -> Result<Ids, Misuse<'a>>
     ensures steps { IfOk result (λ ids. 0 < ids.step) }
     ensures value { asked result ≡ ids_asked (rows_of (found_of matches.now)) }
 {
-    let rate = rate_of(matches)?;
     let (number, step) = share_of(matches)?;
     let from = from_of(matches)?;
     Ok(Ids {
         first: from + number,
         step,
-        rate,
+        round: 0,
     })
 }
 
@@ -190,15 +222,29 @@ fn telling_of<'a>(matches: &ArgMatches<'a>) -> Result<Telling, Misuse<'a>>
     }
 }
 
-// How a stream is sent, and what is told.
-fn sending_of<'a>(matches: &ArgMatches<'a>) -> Result<(Order, Telling), Misuse<'a>>
+// How fast a stream is sent, how often, and what is told.
+fn course_of<'a>(matches: &ArgMatches<'a>) -> Result<(Option<u64>, (Rounds, Telling)), Misuse<'a>>
+    ensures value { asked result ≡ course_asked (rows_of (found_of matches.now)) }
+    ensures rounds { IfOk result (λ course. 0 < times_of course.1.0) }
+{
+    let rate = rate_of(matches)?;
+    let rounds = rounds_of(matches)?;
+    let telling = telling_of(matches)?;
+    Ok((rate, (rounds, telling)))
+}
+
+// How a stream is sent, and that.
+fn sending_of<'a>(
+    matches: &ArgMatches<'a>,
+) -> Result<(Order, (Option<u64>, (Rounds, Telling))), Misuse<'a>>
     ensures parts { IfOk result (λ sending. 0 < sending.0.part) }
     ensures steps { IfOk result (λ sending. 0 < sending.0.ids.step) }
+    ensures rounds { IfOk result (λ sending. 0 < times_of sending.1.1.0) }
     ensures value { asked result ≡ send_asked (rows_of (found_of matches.now)) }
 {
     let order = order_of(matches)?;
-    let telling = telling_of(matches)?;
-    Ok((order, telling))
+    let course = course_of(matches)?;
+    Ok((order, course))
 }
 
 // How a stream is sent, and which.
@@ -206,15 +252,18 @@ fn send_job<'a>(alloc: Global, matches: &ArgMatches<'a>) -> Result<SendJob<'a>, 
     ensures job { IfOk result (IsSendOf (rows_of (found_of matches.now))) }
     ensures parts { IfOk result (λ job. 0 < job.order.part) }
     ensures steps { IfOk result (λ job. 0 < job.order.ids.step) }
+    ensures rounds { IfOk result (λ job. 0 < times_of job.rounds) }
     ensures fails { FailsBy (kinds_of (send_asked (rows_of (found_of matches.now)))) result }
 {
-    let (order, telling) = match sending_of(matches) {
+    let (order, (rate, (rounds, telling))) = match sending_of(matches) {
         Ok(sending) => sending,
         Err(misuse) => return Err(misuse.error(alloc, Verb::Send)),
     };
     let files = texts_of(alloc, matches, "file")?;
     Ok(SendJob {
         order,
+        rate,
+        rounds,
         key: text_of(matches, "key"),
         files,
         telling,
@@ -307,14 +356,15 @@ fn info_job<'a>(alloc: Global, matches: &ArgMatches<'a>) -> Result<InfoJob<'a>, 
 /// What the words after the program's name ask for, of those that `rqcast --help` names.
 ///
 /// Refuses what the parser refuses, requests for help and the version among it. Then it refuses the first
-/// of these: a value that its option doesn't take, of `--part`, `--cell`, `--loss` or `--repair`, `--rate`,
-/// `--share`, `--from`, `--name` and `--window` in this order, where `--loss` beside `--repair` stands for
-/// theirs; and two of `--quiet`, `--progress` and `--json`.
+/// of these: a value that its option doesn't take, of `--part`, `--cell`, `--loss` or `--repair`, `--share`,
+/// `--from`, `--rate`, `--rounds`, `--name` and `--window` in this order, where `--loss` beside `--repair` stands
+/// for theirs, and `--rounds` of more than 1 without a file for its; and two of `--quiet`, `--progress` and `--json`.
 /// [`ErrorKind::OutOfMemory`](clap::error::ErrorKind) may come before any of them.
 pub fn job<'a, S: AsStr>(alloc: Global, words: &'a [S]) -> Result<Job<'a>, Error>
     ensures job { IfOk result (AsksFor (map S.text words.entry.now)) }
     ensures parts { IfOk result HasParts }
     ensures steps { IfOk result StepsOn }
+    ensures rounds { IfOk result HasRounds }
     ensures refused { IfErr result (λ e. IsRefused (map S.text words.entry.now) (kind_of e)) }
 {
     let matches = matches_of(alloc, words)?;

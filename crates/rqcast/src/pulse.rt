@@ -10,7 +10,7 @@ const PERIOD: u128 = 1000;
 #[derive(Drop)]
 pub struct Pulse<'a, C: Clock> {
     clock: &'a C,
-    // When it began first, when it began last, and when it last said how many came.
+    // When it began first, when it began last or a round did, and when it last said how many came.
     start: Option<Instant>,
     begun: Option<Instant>,
     told: Option<Instant>,
@@ -40,6 +40,11 @@ impl<'a, C: Clock> Pulse<'a, C> {
         self.bytes = 0;
     }
 
+    /// Begins a round: seconds count from here on.
+    pub fn begin_round(&mut self) {
+        self.begun = Instant::now(self.clock).ok();
+    }
+
     /// How many bytes came since it began last.
     pub fn bytes(&self) -> u64 {
         self.bytes
@@ -58,7 +63,7 @@ impl<'a, C: Clock> Pulse<'a, C> {
         self.since(self.start)
     }
 
-    /// How many seconds it is since it began last.
+    /// How many seconds it is since it began last, or a round.
     pub fn seconds(&self) -> u64 {
         self.since(self.begun).as_secs()
     }

@@ -12,7 +12,7 @@ pub struct Sending {
     pub cells: u64,
     /// How many of them were sent.
     pub sent: u64,
-    // How many bytes the parts have before this one, and how many this one has.
+    // How many bytes the parts have before this one in its round, and how many this one has.
     before: u64,
     bytes: u64,
     // How many cells were sent before it, and whether it is the last one.
@@ -21,12 +21,16 @@ pub struct Sending {
 }
 
 impl Sending {
-    /// Begins with the next part.
+    /// Begins with the next part, which may be the first one of a round.
     pub fn begin_part(&mut self, sender: &Sender<'_>) {
         let head = sender.head();
         self.is_begun = true;
         self.cells = self.cells.saturating_add(sender.cells());
-        self.before = self.before.saturating_add(self.bytes);
+        self.before = if sender.index() == 0 {
+            0
+        } else {
+            self.before.saturating_add(self.bytes)
+        };
         self.bytes = head.configuration.transfer_length();
         self.sent_before = self.sent;
         self.is_last = head.number >= LAST_PART;
@@ -37,7 +41,7 @@ impl Sending {
         self.sent = self.sent.saturating_add(1);
     }
 
-    /// About how many bytes of the stream are sent: of a part as great a share as of its cells.
+    /// About how many bytes of the stream are sent in this round: of a part as great a share as of its cells.
     pub fn done(&self) -> u64 {
         let sent = u128::from(self.sent.saturating_sub(self.sent_before));
         let cells = u128::from(self.cells.saturating_sub(self.sent_before));

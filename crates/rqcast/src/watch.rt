@@ -229,6 +229,8 @@ impl<C: Clock, W: Write> Pace for Watch<'_, C, W> {
                 let is_json = self.telling == Telling::Json;
                 let _ = announce(sender, is_json, &mut self.out);
             }
+        } else if sender.index() == 0 {
+            self.pulse.begin_round();
         }
         self.sending.begin_part(sender);
     }

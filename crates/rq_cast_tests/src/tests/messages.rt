@@ -43,6 +43,11 @@ fn ends_are_said(rt: HostRuntime) {
         (sent(5, 1), "", 0),
         (sent(5, 2), "at least 2 of 5 cells were lost", 1),
         (sent(1, 0), "", 0),
+        (
+            End::Changed(3),
+            "rqcast: FILE changed between rounds: part 3 isn't what it was",
+            1,
+        ),
         (received(Ok(Ending::Written)), "", 0),
         (
             received(incomplete(0, Some(7))),

@@ -1,6 +1,7 @@
 //! The program from its words to its end, over memory.
 use crate::tests::stored_cells::{
-    FIRST, FIRST_KEYED, FIRST_MISNAMED, KEY, OBJECT, SECOND, SECOND_KEYED, SECOND_MISNAMED, joined,
+    FIRST, FIRST_KEYED, FIRST_MISNAMED, FOURTH, KEY, OBJECT, SECOND, SECOND_KEYED, SECOND_MISNAMED,
+    THIRD, joined,
 };
 use crate::tests::stored_parts::OF_THREE;
 use raptorq::Decoder;
@@ -38,8 +39,8 @@ impl Write for Written {
     }
 }
 
-// KEY has a key, EMPTY has nothing, and all other files, and standard input, have the same bytes. A file that is
-// written holds some before.
+// KEY has a key, EMPTY has nothing, and all other files, and standard input, have the same bytes, LOG when it is read
+// first. A file that is written holds some before.
 #[derive(Drop)]
 struct Memory<'a> {
     alloc: Global,
@@ -74,6 +75,7 @@ impl<'w, 'a> Devices<'w> for Memory<'a> {
         let rest: &'a [u8] = match files.first() {
             Some(file) if *file == "KEY" => &KEY,
             Some(file) if *file == "EMPTY" => &[],
+            Some(file) if *file == "LOG" && self.read > 1 => &KEY,
             _ => self.input,
         };
         Ok(Bytes { rest })
@@ -171,12 +173,34 @@ fn both(alloc: Global, row: &Row) -> Result<(Done, Done), Error> {
 
 #[test]
 fn words_are_done(rt: HostRuntime) {
-    let rows: [Row; 13] = [
+    let rows: [Row; 17] = [
         ("send --cell 88 --repair 0 FILE", FILE, 0, CELLS, 1),
         ("send --cell=88 -r0 --share 0/2", FILE, 0, (&FIRST, b""), 0),
         ("send -c88 -r 0 --from 1 -q", FILE, 0, (&SECOND, b""), 0),
         ("send --repair 0 --from 2", FILE, 0, NOTHING, 0),
         ("send -c88 -r0 --part 3 FILE", FILE, 0, PARTS, 1),
+        (
+            "send -c88 -r0 --share 0/2 --rounds 2 FILE",
+            FILE,
+            0,
+            (&FIRST, &THIRD),
+            2,
+        ),
+        (
+            "send -c88 -r0 --share 1/16777215 --rounds 2 FILE",
+            FILE,
+            0,
+            (&SECOND, &SECOND),
+            2,
+        ),
+        (
+            "send -c88 -r0 --share 0/2 --rounds 2 LOG",
+            FILE,
+            1,
+            (&FIRST, b""),
+            2,
+        ),
+        ("receive", (&THIRD, &FOURTH), 0, FILE, 0),
         ("receive --window 1", PARTS, 0, FILE, 0),
         ("receive", CELLS, 0, FILE, 0),
         ("receive -o FILE --name 895c A B", CELLS, 0, FILE, 2),

@@ -4,7 +4,9 @@ ghost use Rattle.std.specs.Prelude.{◌<◌};
 use crate::tests::stored_cells::{FIRST, OBJECT, SECOND, joined};
 use crate::tests::stored_parts::{OF_FIVE, OF_THREE};
 use raptorq::error::Error;
-use rq_cast::{Ids, Order, Output, Pace, Repair, Sender, Sent, check_length, send_stream};
+use rq_cast::{
+    Halt, Ids, Known, Order, Output, Pace, Repair, Sender, Sent, check_length, send_stream,
+};
 use rq_cells::Key;
 use rq_streams::{Counted, Stop};
 use std::alloc::Global;
@@ -75,7 +77,7 @@ pub(super) fn order(part: u64, first: u32, step: u32) -> Order
         ids: Ids {
             first,
             step: step.max(1),
-            rate: None,
+            round: 0,
         },
     }
 }
@@ -87,13 +89,23 @@ pub(super) fn sent_to<W: Write, P: Pace>(
     bytes: &[u8],
     link: &mut W,
     pace: &mut P,
-) -> Result<Sent, Stop>
+) -> Result<Sent, Halt>
     requires part { 0 < order.now.part }
     requires step { 0 < order.now.ids.step }
 {
     let mut reader = Counted::new(bytes);
     let mut output = Output::new(Counted::new(link));
-    send_stream(alloc, order, &Key::none(), &mut reader, &mut output, pace)
+    let known = Known::new(alloc, false);
+    let (sent, _known) = send_stream(
+        alloc,
+        order,
+        &Key::none(),
+        known,
+        &mut reader,
+        &mut output,
+        pace,
+    )?;
+    Ok(sent)
 }
 
 // How a run ends, what it writes, and what it was told.
@@ -102,7 +114,7 @@ fn sent(
     order: &Order,
     bytes: &[u8],
     link: Link,
-) -> (Result<Sent, Stop>, Vec<u8>, Waits)
+) -> (Result<Sent, Halt>, Vec<u8>, Waits)
     requires part { 0 < order.now.part }
     requires step { 0 < order.now.ids.step }
 {
@@ -157,7 +169,7 @@ fn lost_cells_are_counted_and_others_written(rt: HostRuntime) {
                 cells: 2,
                 lost,
             }),
-            None => Err(Stop::Fault),
+            None => Err(Halt::By(Stop::Fault)),
         };
         assert_eq!(rt; ended, ending);
         assert_eq!(rt; out.as_slice(), wanted);

@@ -1,13 +1,13 @@
 //! What words ask for, and what is said where they ask for nothing.
 use rq_cast::{Ids, Loss, Order, Repair};
-use rq_command::{Job, job};
+use rq_command::{Job, Rounds, job};
 use std::alloc::{AllocError, Global};
 
-// The order of a line of words behind `send`.
-fn ordered(alloc: Global, line: &str) -> Result<Option<Order>, AllocError> {
+// The order of a line of words behind `send`, how fast and how often it is sent.
+fn ordered(alloc: Global, line: &str) -> Result<Option<(Order, Option<u64>, Rounds)>, AllocError> {
     let words: Vec<&str> = line.split_whitespace().collect(alloc)?;
     match job(alloc, words.as_slice()) {
-        Ok(Job::Send(job)) => Ok(Some(job.order)),
+        Ok(Job::Send(job)) => Ok(Some((job.order, job.rate, job.rounds))),
         _ => Ok(None),
     }
 }
@@ -87,11 +87,15 @@ fn orders_are_read(rt: HostRuntime) {
             part: 16_000_000,
             symbol_size,
             repair,
-            ids: Ids { first, step, rate },
+            ids: Ids {
+                first,
+                step,
+                round: 0,
+            },
         };
         assert_eq!(rt;
             ordered(alloc, line).expect(&rt, "memory"),
-            Some(order),
+            Some((order, rate, Rounds::Times(1))),
             "{line}"
         );
     }
@@ -106,7 +110,22 @@ fn parts_are_read(rt: HostRuntime) {
     ] {
         let order = ordered(rt.alloc(), line).expect(&rt, "memory");
         assert!(rt;
-            matches!(order, Some(order) if order.part == bytes),
+            matches!(order, Some((order, _, _)) if order.part == bytes),
+            "{line}"
+        );
+    }
+}
+
+#[test]
+fn rounds_are_read(rt: HostRuntime) {
+    for (line, rounds) in [
+        ("send --rounds 1", Rounds::Times(1)),
+        ("send --rounds 4294967295 FILE", Rounds::Times(u32::MAX)),
+        ("send --rounds=endless FILE", Rounds::Endless),
+    ] {
+        let order = ordered(rt.alloc(), line).expect(&rt, "memory");
+        assert!(rt;
+            matches!(order, Some((_, _, found)) if found == rounds),
             "{line}"
         );
     }
@@ -185,6 +204,8 @@ fn wrong_words_are_named(rt: HostRuntime) {
         ("send --rate +5", "'+5'"),
         ("send --share 2/2", "'2/2' for '--share <I/N>'"),
         ("send --from 16777216", "'16777216' for '--from <ID>'"),
+        ("send --rounds 0 FILE", "'0' for '--rounds <N|endless>'"),
+        ("send --rounds 2", "'--rounds <N|endless>' takes a FILE"),
         (
             "send -q --progress",
             "'--quiet' cannot be used with '--progress'",

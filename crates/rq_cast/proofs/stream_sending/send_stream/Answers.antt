@@ -3,11 +3,14 @@ use Rattle.std.specs.Prelude.{nat_lt}
 use Rattle.std.proofs.lemmas.Bool.{lt-ltb, le-ltb}
 use Rattle.std.proofs.lemmas.Result.{err_from_is_err_and}
 use Rattle.rq_streams.specs.declared.run.Stop.{Stop}
+use Rattle.rq_cast.specs.declared.halt.Halt.{Halt}
+use Rattle.rq_cast.specs.declared.known.Known.{Known}
+use Rattle.rq_cast.specs.Rounds.{next_stage}
 use Rattle.rq_streams.specs.Counted.{inner}
 use Rattle.rq_streams.specs.Ends.{failed_calls}
 use Rattle.rq_cast.specs.Output.{sink, CountsLost}
 use Rattle.rq_cast.specs.PartSending.{SendsPart, StopsPart}
-use Rattle.rq_cast.specs.SentParts.{names_of, SendsStream, StopsStream}
+use Rattle.rq_cast.specs.SentParts.{names_of, SendsStream, StopsStream, halted_calls}
 use Rattle.rq_cast.proofs.StreamSteps.{HasSentWhole, has_sent_none, stops_reading, stops_unnumbered, stops_at_part, has_sent_whole, sends_stream, one_more, same_failed}
 use Rattle.rq_cast.proofs.stream_sending.send_stream.Goals as goal
 use Rattle.rq_cast.proofs.stream_sending.send_stream.Given.{Over}
@@ -15,8 +18,8 @@ use Rattle.rq_cast.proofs.stream_sending.send_stream.Goals.{After-send_part}
 
 pub parts-init : goal.parts-init
 parts-init g c = record {
-  sent = has_sent_none c.args.order.now c.args.key.now (g.R.Read.remaining (inner c.args.reader.now)) (g.W.Write.contents (sink c.args.output.now)) _
-      refl refl c.new.ensures refl refl;
+  sent = has_sent_none c.args.order.now c.args.key.now c.args.known (g.R.Read.remaining (inner c.args.reader.now)) (g.W.Write.contents (sink c.args.output.now)) _
+      refl refl c.new.ensures refl refl refl;
   few = omega (arith, c.new.ensures.count);
   reader = refl;
   counts = record { lost_more = omega arith; failed = omega arith };
@@ -31,7 +34,7 @@ returns-in_err-bytes-clause-stops g c =
     let p = err_from_is_err_and c.from_residual.result c.from_residual.ensures.1 in
     rw (p.1, p.2) (
       stream.lost,
-      stops_reading c.args.order.now c.args.key.now c.requires.part (g.R.Read.remaining (inner c.args.reader.now)) (g.R.Read.remaining (inner c.parts.reader))
+      stops_reading c.args.order.now c.args.key.now c.args.known c.requires.part (g.R.Read.remaining (inner c.args.reader.now)) (g.R.Read.remaining (inner c.parts.reader))
           (g.W.Write.contents (sink c.args.output.now)) (g.W.Write.contents (sink c.parts.output)) stream kept.sent
           (g.R.Read.remaining (inner c.read_part.new.reader)) stop failed.within failed.stops,
       inr (failed.counts ∙ (λ i. kept.reader i + same_failed (Vec ℕ Global) ℕ stop i), kept.counts),
@@ -69,47 +72,48 @@ module _ (g : Over) (c : After-send_part g) where
       let size : c.len.result ≡ length c.in_ok-bytes.bytes.items = search rules in
       ap (λ k. nat_lt k c.args.order.now.part) size
 
-  stops : (lost : ℕ) (stop : Stop) → StopsPart is_last names c.in_ok-bytes.bytes.items c.parts.stream lost between then stop
-      → StopsStream c.args.order.now c.args.key.now before after there then stop (c.parts.stream.lost + lost)
-  stops lost stop =
-      stops_at_part c.args.order.now c.args.key.now c.requires.part before mid after there between c.parts.stream c.parts.invariant.sent
-      c.in_ok-bytes.bytes.items is_last short c.in_ok-bytes.ensures.reads lost then stop
+  stops : (lost : ℕ) (halt : Halt) → StopsPart is_last names c.in_ok-bytes.bytes.items c.parts.stream lost between then halt
+      → StopsStream c.args.order.now c.args.key.now c.args.known before after there then halt (c.parts.stream.lost + lost)
+  stops lost halt =
+      stops_at_part c.args.order.now c.args.key.now c.args.known c.requires.part before mid after there between c.parts.stream c.parts.invariant.sent
+      c.in_ok-bytes.bytes.items is_last short c.in_ok-bytes.ensures.reads lost then halt
 
   sends : SendsPart is_last names c.in_ok-bytes.bytes.items c.parts.stream c.send_part.new.self between then → is_last ≡ true
-      → SendsStream c.args.order.now c.args.key.now before after there then
-      (record { parts = c.send_part.new.self.names.count; cells = c.send_part.new.self.cells; lost = c.send_part.new.self.lost })
-  sends more ended =
-      sends_stream c.args.order.now c.args.key.now c.requires.part before mid after there between c.parts.stream c.parts.invariant.sent
+      → (behind : Known) → behind.stage ≡ next_stage c.send_part.new.self.known.stage → behind.names.items ≡ c.send_part.new.self.known.names.items
+      → SendsStream c.args.order.now c.args.key.now c.args.known before after there then
+      (record { parts = c.send_part.new.self.names.count; cells = c.send_part.new.self.cells; lost = c.send_part.new.self.lost }) behind
+  sends more ended behind stage same =
+      sends_stream c.args.order.now c.args.key.now c.args.known c.requires.part before mid after there between c.parts.stream c.parts.invariant.sent
       c.in_ok-bytes.bytes.items is_last short c.in_ok-bytes.ensures.reads c.send_part.new.self then more c.send_part.ensures.order c.send_part.ensures.key
-      ended _ refl refl refl
+      ended _ behind refl refl refl stage same
 
   goes_on : SendsPart is_last names c.in_ok-bytes.bytes.items c.parts.stream c.send_part.new.self between then → is_last ≡ false
-      → HasSentWhole c.args.order.now c.args.key.now before after there then c.send_part.new.self
+      → HasSentWhole c.args.order.now c.args.key.now c.args.known before after there then c.send_part.new.self
   goes_on more more_to_come =
-      has_sent_whole c.args.order.now c.args.key.now c.requires.part before mid after there between c.parts.stream c.parts.invariant.sent
+      has_sent_whole c.args.order.now c.args.key.now c.args.known c.requires.part before mid after there between c.parts.stream c.parts.invariant.sent
       c.in_ok-bytes.bytes.items is_last short c.in_ok-bytes.ensures.reads c.send_part.new.self then more c.send_part.ensures.order c.send_part.ensures.key
       more_to_come
 
   counted : SendsPart is_last names c.in_ok-bytes.bytes.items c.parts.stream c.send_part.new.self between then
       → c.send_part.new.self.names.count ≡ c.parts.stream.names.count + 1
   counted more =
-      one_more c.args.order.now c.args.key.now c.requires.part before mid after there between c.parts.stream c.parts.invariant.sent
+      one_more c.args.order.now c.args.key.now c.args.known c.requires.part before mid after there between c.parts.stream c.parts.invariant.sent
       c.in_ok-bytes.bytes.items is_last short c.in_ok-bytes.ensures.reads c.send_part.new.self then more c.send_part.ensures.order c.send_part.ensures.key
 
 pub returns-in_err-send_part-clause-stops : goal.returns-in_err-send_part-clause-stops
 returns-in_err-send_part-clause-stops g c =
     let moved = (goal.at.returns-in_err-send_part-clause-stops g c).After-send_part in
     let kept = c.parts.invariant in
-    let stop = c.in_err-send_part.field-0.0 in
+    let halt = c.in_err-send_part.field-0.0 in
     let stopped = c.in_err-send_part.ensures.stops (names g moved) kept.sent.has.named in
     let p = err_from_is_err_and c.from_residual-in_err-send_part.result c.from_residual-in_err-send_part.ensures.1 in
-    let counts : CountsLost c.args.output.now c.send_part.new.output (c.parts.stream.lost + stopped.0) (failed_calls {X = ℕ} (Err stop)) = record {
+    let counts : CountsLost c.args.output.now c.send_part.new.output (c.parts.stream.lost + stopped.0) (halted_calls halt) = record {
       lost_more = omega (arith, kept.counts.lost_more, stopped.1.lost_more);
-      failed = omega (arith, kept.counts.failed, stopped.1.failed, same_failed (Unit {0}) ℕ stop);
+      failed = omega (arith, kept.counts.failed, stopped.1.failed);
     } in
     rw (p.1, p.2) (
       c.parts.stream.lost + stopped.0,
-      stops g moved stopped.0 stop stopped.2,
+      stops g moved stopped.0 halt stopped.2,
       inl (omega (arith, kept.reader, c.in_ok-bytes.ensures.counts), counts),
     )
 
@@ -117,7 +121,7 @@ pub returns-then-is_last-clause-sends : goal.returns-then-is_last-clause-sends
 returns-then-is_last-clause-sends g c =
     let moved = (goal.at.returns-then-is_last-clause-sends g c).After-send_part in
     let more = c.in_ok-send_part.ensures.sends (names g moved) c.parts.invariant.sent.has.named in
-    sends g moved more (lt-ltb c.len.result c.args.order.now.part c.if-is_last.true)
+    sends g moved more (lt-ltb c.len.result c.args.order.now.part c.if-is_last.true) c.behind.result c.behind.ensures.stage c.behind.ensures.same
 
 pub parts-preserved : goal.parts-preserved
 parts-preserved g c =
@@ -140,7 +144,7 @@ returns-clause-stops g c =
     let stream = c.parts.stream in
     let all : stream.names.count ≡ 2 ^ 30 = omega (arith, kept.few, c.parts-test.false) in (
       stream.lost,
-      stops_unnumbered c.args.order.now c.args.key.now c.requires.part (g.R.Read.remaining (inner c.args.reader.now)) (g.R.Read.remaining (inner c.parts.reader))
+      stops_unnumbered c.args.order.now c.args.key.now c.args.known c.requires.part (g.R.Read.remaining (inner c.args.reader.now)) (g.R.Read.remaining (inner c.parts.reader))
           (g.W.Write.contents (sink c.args.output.now)) (g.W.Write.contents (sink c.parts.output)) stream kept.sent all,
       inl (kept.reader, kept.counts),
     )

@@ -6,7 +6,7 @@ use Rattle.rq_cast.proofs.stream_sending.send_stream.Given as goal
 -- all that was read is sent, in whole parts
 abbrev pub invariant-parts : goal.invariant-parts
 invariant-parts g l = record {
-  sent : HasSentWhole l.order l.key (g.R.Read.remaining l.fn.reader.inner) (g.R.Read.remaining l.reader.inner)
+  sent : HasSentWhole l.order l.key l.fn.known (g.R.Read.remaining l.fn.reader.inner) (g.R.Read.remaining l.reader.inner)
       (g.W.Write.contents (sink l.fn.output)) (g.W.Write.contents (sink l.output)) l.stream;
   few : l.stream.names.count ≤ 2 ^ 30;
   reader : l.reader.failed ≡ l.fn.reader.failed;

@@ -16,7 +16,7 @@ returns-in_err-sender-clause-stops g c =
     rw (p.1, p.2) (λ before are. (
       0,
       counts,
-      inl (c.in_err-sender.field-0.0, refl, c.in_err-sender.ensures.refused before are, refl, Keeps-refl (g.W.Write.contents (sink out))),
+      inl (inl (c.in_err-sender.field-0.0, refl, c.in_err-sender.ensures.refused before are), refl, Keeps-refl (g.W.Write.contents (sink out))),
     ))
 
 pub returns-in_err-lost-clause-stops : goal.returns-in_err-lost-clause-stops
@@ -25,8 +25,15 @@ returns-in_err-lost-clause-stops g c =
     let p = err_from_is_err_and c.from_residual-in_err-lost.result c.from_residual-in_err-lost.ensures.1 in
     rw (p.1, p.2) (λ before are. (
       stopped.0,
-      subst (CountsLost c.args.output.now c.send.new.output stopped.0) (same_failed ℕ (Unit {0}) c.in_err-lost.field-0.0) stopped.1,
-      inr (sending_of c.in_ok-sender.sender, c.in_ok-sender.ensures.prepared before are, stopped.2),
+      stopped.1,
+      inr (record {
+        stop = c.in_err-lost.field-0.0;
+        by = refl;
+        sending = sending_of c.in_ok-sender.sender;
+        prepared = c.in_ok-sender.ensures.prepared before are;
+        same = ?;
+        stopped = stopped.2;
+      }),
     ))
 
 pub returns-clause-sends : goal.returns-clause-sends
@@ -35,6 +42,8 @@ returns-clause-sends g c before are =
     record {
       sending = sending_of c.in_ok-sender.sender;
       prepared = c.in_ok-sender.ensures.prepared before are;
+      same = ?;
+      kept = ?;
       lost = c.in_ok-lost.lost;
       sends = c.in_ok-lost.ensures.sends;
       named = subst (λ (h : Head). AreNames (before ++ (h.name ∷ [])) c.push.new.self) head (c.push.ensures.names before are);

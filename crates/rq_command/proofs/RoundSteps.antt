@@ -1,0 +1,133 @@
+-- Rounds of a stream, one after another.
+use Rattle.std.proofs.Common.{◌≡◌, inl, inr, ℕ, zero, suc, ◌+◌, ◌<◌, ◌^◌, min, Option, Some, None, refl, sym, ap, subst, ◌∙◌, arith}
+use Rattle.std.specs.Prelude.{◌⊎◌}
+use Rattle.rq_bytes.specs.declared.error.Error.TheVariants.{OutOfMemory}
+use Rattle.rq_streams.specs.declared.run.Stop.TheVariants.{Fault, Refused}
+use Rattle.rq_cast.specs.declared.halt.Halt.{Halt}
+use Rattle.rq_cast.specs.declared.halt.Halt.TheVariants.{By}
+use Rattle.rq_cast.specs.declared.known.Known.{Known}
+use Rattle.rq_cast.specs.declared.order.Order.{Order}
+use Rattle.rq_cast.specs.declared.stream_sending.Sent.{Sent}
+use Rattle.rq_cast.specs.Rounds.{in_round, most_at, sum_of}
+use Rattle.rq_cast.specs.SentParts.{SendsStream, StopsStream, halted_calls}
+use Rattle.rq_cells.specs.Cells.{Key}
+use Rattle.rq_command.specs.declared.rounds.Rounds.{Rounds}
+use Rattle.rq_command.specs.Failed.{Fails}
+use Rattle.rq_command.specs.Placed.{Contents}
+use Rattle.rq_command.specs.Rounds.{SendRounds, SendsRounds, StopsRounds, CountsSent, CountsHalt}
+use Rattle.rq_command.specs.RoundsSent.{IsUnsent, SameStream, SendsRound, StopsRound}
+use Rattle.rq_command.proofs.Failing.{failed_then}
+
+-- none failed
+pub none_fails : (a : Option ℕ) → Fails a a 0
+none_fails None = tt
+none_fails (Some n) = let same : n ≡ n + 0 = omega arith in ap (λ k. Some k) same
+
+-- a sum of which some was cut is cut so too
+pub most_sum : (n m : ℕ) → most_at (most_at n + m) ≡ most_at (n + m)
+most_sum n m = omega arith
+
+module _ {W : Type 0} (contents : W → Contents) (first : Rounds W) (input : Contents) where
+  -- so many are sent, and so many calls failed
+  pub record HasSentRounds (now : Rounds W) (n : ℕ) (a b : Option ℕ) : Type 0 where
+    pub same : SameStream first now
+    pub number : now.number ≡ n
+    pub sends : SendRounds first.order first.key first.known input n (contents first.writer) (contents now.writer) now.sent now.known
+    pub counts : CountsSent a b now.sent
+
+  pub none_so_far : (a : Option ℕ) → IsUnsent first → HasSentRounds first 0 a a
+  none_so_far a unsent = record {
+    same = record { order = refl; key = refl; files = refl; all = refl };
+    number = unsent.number;
+    sends = (refl, unsent.none, refl);
+    counts = (0, none_fails a, ap (λ (s : Sent). s.lost) unsent.none);
+  }
+
+  module _ (now : Rounds W) (n : ℕ) (a b c : Option ℕ) (has : HasSentRounds now n a b) where
+    -- the order and the key of the next one are those of the first
+    of_first : (P : Order → Key → Type 0) → P (in_round now.order now.number) now.key → P (in_round first.order n) first.key
+    of_first P holds =
+        subst (λ (k : Key). P (in_round first.order n) k) has.same.key
+        (subst (λ (i : ℕ). P (in_round first.order i) now.key) has.number (subst (λ (o : Order). P (in_round o now.number) now.key) has.same.order holds))
+
+    pub one_more : (next : Rounds W) → SendsRound contents input now next b c → HasSentRounds next (n + 1) a c
+    one_more next more = record {
+      same = record {
+        order = more.same.order ∙ has.same.order;
+        key = more.same.key ∙ has.same.key;
+        files = more.same.files ∙ has.same.files;
+        all = more.same.all ∙ has.same.all;
+      };
+      number = more.number ∙ ap (λ k. k + 1) has.number;
+      sends =
+          let next_is : suc n ≡ n + 1 = omega arith in
+          subst (λ k. SendRounds first.order first.key first.known input k (contents first.writer) (contents next.writer) next.sent next.known) next_is (
+            contents now.writer,
+            now.sent,
+            now.known,
+            more.more,
+            more.left,
+            has.sends,
+            of_first (λ o k. SendsStream o k now.known input more.left (contents now.writer) (contents next.writer) more.more next.known) more.sends,
+            more.sum,
+          );
+      counts = (
+        has.counts.0 + more.more.lost,
+        failed_then a b c has.counts.0 more.more.lost (has.counts.0 + more.more.lost) has.counts.1 more.counts refl,
+        ap (λ (s : Sent). s.lost) more.sum ∙ ap (λ k. most_at (k + more.more.lost)) has.counts.2 ∙ most_sum has.counts.0 more.more.lost,
+      );
+    }
+
+    -- the next one stops
+    pub stops_in : IsUnsent first → n < first.all → (left : W) (halt : Halt) → StopsRound contents input now left halt b c
+        → StopsRounds first.order first.key first.all input (contents first.writer) (contents left) halt × CountsHalt a c halt
+    stops_in unsent fewer left halt stops = (
+      record {
+        first = first.known;
+        fresh = unsent.fresh;
+        number = n;
+        fewer = fewer;
+        mid = contents now.writer;
+        sent = now.sent;
+        known = now.known;
+        sends = has.sends;
+        next = inr (
+          stops.left,
+          stops.lost,
+          of_first (λ o k. StopsStream o k now.known input stops.left (contents now.writer) (contents left) halt stops.lost) stops.stops,
+        );
+      },
+      (
+        has.counts.0 + stops.lost,
+        failed_then a b c has.counts.0 (stops.lost + halted_calls halt) (has.counts.0 + stops.lost + halted_calls halt) has.counts.1 stops.counts (omega arith),
+      ),
+    )
+
+    -- or isn't begun
+    pub stops_before : IsUnsent first → n < first.all → 0 < n → (halt : Halt) → (halt ≡ By Fault) ⊎ (halt ≡ By (Refused OutOfMemory))
+        → Fails b c (halted_calls halt)
+        → StopsRounds first.order first.key first.all input (contents first.writer) (contents now.writer) halt × CountsHalt a c halt
+    stops_before unsent fewer some halt is fails = (
+      record {
+        first = first.known;
+        fresh = unsent.fresh;
+        number = n;
+        fewer = fewer;
+        mid = contents now.writer;
+        sent = now.sent;
+        known = now.known;
+        sends = has.sends;
+        next = inl (refl, some, is);
+      },
+      (has.counts.0, failed_then a b c has.counts.0 (halted_calls halt) (has.counts.0 + halted_calls halt) has.counts.1 fails refl),
+    )
+
+  -- all are sent
+  pub all_sent : IsUnsent first → (now : Rounds W) (n : ℕ) (a b : Option ℕ) → HasSentRounds now n a b → n ≡ first.all
+      → SendsRounds first.order first.key first.all input (contents first.writer) (contents now.writer) now.sent
+  all_sent unsent now n a b has is = record {
+    first = first.known;
+    fresh = unsent.fresh;
+    known = now.known;
+    sends = subst (λ k. SendRounds first.order first.key first.known input k (contents first.writer) (contents now.writer) now.sent now.known) is has.sends;
+  }
