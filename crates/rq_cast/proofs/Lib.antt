@@ -19,6 +19,7 @@ pub mod PartTaken
 pub mod Prepared
 pub mod Receiving
 pub mod RoundIds
+pub mod RoundLaw
 pub mod RowCells
 pub mod Runs
 pub mod SameHead

@@ -241,7 +241,7 @@ module _ (order : Order) (key : Key) (known : Known) (some : 0 < order.part) (be
     refused : RefusesNext is_last (names_of of n) bytes old halt → StopsUnsent order key known input of n after halt
     refused refuses = elim refuses [
       | inl (e, is, part) ↦ subst (StopsUnsent order key known input of n after) (sym is) (unsent e part)
-      | inr (is, s, prepared, other) ↦
+      | inr (is, (s, prepared, other)) ↦
           subst (StopsUnsent order key known input of n after) (sym is)
           (refl, is_read, (s, ready s prepared, λ same. other (as_now s same)))
     ]

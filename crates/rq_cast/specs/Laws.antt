@@ -1,5 +1,5 @@
 -- What senders and receivers of cells promise together.
-use Rattle.std.specs.Prelude.{◌≡◌, ◌≢◌, ℕ, ◌+◌, ◌*◌, ◌<◌, ◌≤◌, Bool, ◌==◌, List, [], ◌++◌, All, Contains}
+use Rattle.std.specs.Prelude.{◌≡◌, ◌≢◌, ℕ, ◌+◌, ◌*◌, ◌%◌, ◌<◌, ◌≤◌, Bool, ◌==◌, List, [], ◌++◌, All, Contains}
 use Rattle.rq_standard.specs.declared.row.TableRow.{TableRow}
 use Rattle.raptorq.specs.Encoder.{IsPacketIn}
 use Rattle.rq_cells.specs.declared.head.Head.{Head}
@@ -8,7 +8,9 @@ use Rattle.rq_cells.specs.Cells.{Key}
 use Rattle.rq_cells.specs.Found.{source_of, cells_in}
 use Rattle.rq_rows.specs.FullTable.{full_rows}
 use Rattle.rq_cast.specs.declared.order.Order.{Order}
+use Rattle.rq_cast.specs.Ids.{AreIds}
 use Rattle.rq_cast.specs.Parts.{object_of}
+use Rattle.rq_cast.specs.Rounds.{round_first}
 use Rattle.rq_cast.specs.Sent.{Sending, cell_count, sent_id, IsSentCell, IsSendingOf}
 use Rattle.rq_cast.specs.SentParts.{last_index, bytes_of_part, names_of, IsPreparedPart}
 use Rattle.rq_cast.specs.Streams.{Parts, AreSenders}
@@ -77,3 +79,18 @@ pub record SendsEachOnce (s : Sending) : Type 0 where
 
 abbrev pub EachIsSentOnce : Type 0
 EachIsSentOnce = (s : Sending) → 0 < s.series.step → SendsEachOnce s
+
+-- ---- the ids of rounds
+
+-- The first round begins at the first id. Each one behind it sends the ids that follow where all of them have 24 bits, and else begins at the least id.
+pub record FollowEachOther (first step count : ℕ) : Type 0 where
+  pub begins : round_first first step count 0 ≡ first
+  pub next :
+      (round : ℕ) → AreIds (round_first first step count round + step * count) step count
+      → round_first first step count (round + 1) ≡ round_first first step count round + step * count
+  pub again :
+      (round : ℕ) → (AreIds (round_first first step count round + step * count) step count → ⊥)
+      → round_first first step count (round + 1) ≡ first % step
+
+abbrev pub RoundsFollow : Type 0
+RoundsFollow = (first step count : ℕ) → 0 < step → 0 < count → AreIds first step count → FollowEachOther first step count

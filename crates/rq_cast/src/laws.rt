@@ -1,5 +1,5 @@
 //! What senders and receivers of cells promise together.
-ghost use Rattle.rq_cast.specs.Laws.{SentCellsAreFound, SentAreOneSenders, PreparedPartsAreSent, EachIsSentOnce};
+ghost use Rattle.rq_cast.specs.Laws.{SentCellsAreFound, SentAreOneSenders, PreparedPartsAreSent, EachIsSentOnce, RoundsFollow};
 ghost use Rattle.rq_cast.specs.Windows.{NoWindowDoesBetter};
 
 /// A cell that a [`Sender`](crate::Sender) sent is found among those of its stream, wherever it stands among bytes.
@@ -28,4 +28,10 @@ pub fn prepared_parts_are_sent()
 /// A [`Sender`](crate::Sender) sends each of its ids of each block, and once.
 pub fn each_is_sent_once()
     ensures { EachIsSentOnce }
+{}
+
+/// Each round of a part sends the ids that follow those of the one before, and where they don't fit below 2^24 it begins
+/// again at the least of its series.
+pub fn rounds_follow()
+    ensures { RoundsFollow }
 {}

@@ -1,8 +1,7 @@
 -- Rounds of a stream, one after another.
-use Rattle.std.proofs.Common.{◌≡◌, inl, inr, ℕ, zero, suc, ◌+◌, ◌<◌, ◌^◌, min, Option, Some, None, refl, sym, ap, subst, ◌∙◌, arith}
-use Rattle.std.specs.Prelude.{◌⊎◌}
-use Rattle.rq_bytes.specs.declared.error.Error.TheVariants.{OutOfMemory}
-use Rattle.rq_streams.specs.declared.run.Stop.TheVariants.{Fault, Refused}
+use Rattle.std.proofs.Common.{◌≡◌, inl, inr, ℕ, zero, suc, ◌+◌, ◌<◌, ◌^◌, min, Option, Some, None, Err, refl, sym, ap, subst, ◌∙◌, arith}
+use Rattle.rq_streams.specs.declared.run.Stop.{Stop}
+use Rattle.rq_streams.specs.Ends.{failed_calls}
 use Rattle.rq_cast.specs.declared.halt.Halt.{Halt}
 use Rattle.rq_cast.specs.declared.halt.Halt.TheVariants.{By}
 use Rattle.rq_cast.specs.declared.known.Known.{Known}
@@ -12,7 +11,7 @@ use Rattle.rq_cast.specs.Rounds.{in_round, most_at, sum_of}
 use Rattle.rq_cast.specs.SentParts.{SendsStream, StopsStream, halted_calls}
 use Rattle.rq_cells.specs.Cells.{Key}
 use Rattle.rq_command.specs.declared.rounds.Rounds.{Rounds}
-use Rattle.rq_command.specs.Failed.{Fails}
+use Rattle.rq_command.specs.Failed.{Fails, StopsReading}
 use Rattle.rq_command.specs.Placed.{Contents}
 use Rattle.rq_command.specs.Rounds.{SendRounds, SendsRounds, StopsRounds, CountsSent, CountsHalt}
 use Rattle.rq_command.specs.RoundsSent.{IsUnsent, SameStream, SendsRound, StopsRound}
@@ -104,10 +103,9 @@ module _ {W : Type 0} (contents : W → Contents) (first : Rounds W) (input : Co
     )
 
     -- or isn't begun
-    pub stops_before : IsUnsent first → n < first.all → 0 < n → (halt : Halt) → (halt ≡ By Fault) ⊎ (halt ≡ By (Refused OutOfMemory))
-        → Fails b c (halted_calls halt)
-        → StopsRounds first.order first.key first.all input (contents first.writer) (contents now.writer) halt × CountsHalt a c halt
-    stops_before unsent fewer some halt is fails = (
+    pub stops_before : IsUnsent first → n < first.all → 0 < n → (stop : Stop) → StopsReading stop → Fails b c (failed_calls {X = ℕ} (Err stop))
+        → StopsRounds first.order first.key first.all input (contents first.writer) (contents now.writer) (By stop) × CountsHalt a c (By stop)
+    stops_before unsent fewer some stop is fails = (
       record {
         first = first.known;
         fresh = unsent.fresh;
@@ -117,9 +115,9 @@ module _ {W : Type 0} (contents : W → Contents) (first : Rounds W) (input : Co
         sent = now.sent;
         known = now.known;
         sends = has.sends;
-        next = inl (refl, some, is);
+        next = inl (refl, some, (stop, refl, is));
       },
-      (has.counts.0, failed_then a b c has.counts.0 (halted_calls halt) (has.counts.0 + halted_calls halt) has.counts.1 fails refl),
+      (has.counts.0, failed_then a b c has.counts.0 (failed_calls {X = ℕ} (Err stop)) (has.counts.0 + failed_calls {X = ℕ} (Err stop)) has.counts.1 fails refl),
     )
 
   -- all are sent

@@ -28,17 +28,12 @@ use Rattle.rq_command.specs.declared.ending.End.{End}
 use Rattle.rq_command.specs.declared.ending.End.TheVariants.{Unasked, AtTerminal, EmptyKey, Sent, Changed, Received, Surveyed, Stopped}
 use Rattle.rq_words.specs.Asked.{AsksFor, IsRefused}
 use Rattle.rq_words.specs.Values.{times_of}
-use Rattle.rq_command.specs.Failed.{Fails}
+use Rattle.rq_command.specs.Failed.{Fails, StopsReading}
 use Rattle.rq_command.specs.Keyed.{HasKey, IsEmptyKey, IsKeyOf, key_file}
 use Rattle.rq_command.specs.Placed.{Contents, IsPlaced}
 use Rattle.rq_command.specs.Rounds.{SendsRounds, StopsRounds}
 
 -- ---- sending
-
--- a call failed, or memory is refused
-abbrev pub StopsReading : Stop → Type 0
-StopsReading Fault = ⊤
-StopsReading (Refused e) = e ≡ OutOfMemory
 
 -- the parts of an input of so many bytes are refused, before one is read
 abbrev pub RefusesLength : Order → ℕ → Stop → Type 0

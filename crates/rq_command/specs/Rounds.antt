@@ -1,7 +1,6 @@
 -- A stream that is sent in rounds.
 use Rattle.std.specs.Prelude.{◌≡◌, ◌⊎◌, ℕ, zero, suc, ◌+◌, ◌<◌, Option, nat_lt}
-use Rattle.rq_bytes.specs.declared.error.Error.TheVariants.{OutOfMemory}
-use Rattle.rq_streams.specs.declared.run.Stop.TheVariants.{Fault, Refused}
+use Rattle.rq_streams.specs.declared.run.Stop.{Stop}
 use Rattle.rq_cast.specs.declared.halt.Halt.{Halt}
 use Rattle.rq_cast.specs.declared.halt.Halt.TheVariants.{By}
 use Rattle.rq_cast.specs.declared.known.Known.{Known}
@@ -10,7 +9,7 @@ use Rattle.rq_cast.specs.declared.stream_sending.Sent.{Sent}
 use Rattle.rq_cast.specs.Rounds.{IsFresh, in_round, most_at, sum_of}
 use Rattle.rq_cast.specs.SentParts.{SendsStream, StopsStream, halted_calls}
 use Rattle.rq_cells.specs.Cells.{Key}
-use Rattle.rq_command.specs.Failed.{Fails}
+use Rattle.rq_command.specs.Failed.{Fails, StopsReading}
 use Rattle.rq_command.specs.Placed.{Contents}
 
 -- before the first round
@@ -35,7 +34,7 @@ pub record SendsRounds (order : Order) (key : Key) (rounds : ℕ) (input there t
 
 -- the next one isn't begun: what is read can't be read again, or memory is refused
 abbrev pub StopsReopening : ℕ → Halt → Type 0
-StopsReopening n halt = (0 < n) × ((halt ≡ By Fault) ⊎ (halt ≡ By (Refused OutOfMemory)))
+StopsReopening n halt = (0 < n) × ((stop : Stop) × (halt ≡ By stop) × StopsReading stop)
 
 -- fewer are, and of the next one what could be
 pub record StopsRounds (order : Order) (key : Key) (rounds : ℕ) (input there then : Contents) (halt : Halt) : Type 0 where

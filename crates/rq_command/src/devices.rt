@@ -1,5 +1,5 @@
 //! What a run reads from, writes to and tells.
-ghost use Rattle.std.specs.Prelude.{◌≡◌, ℕ, Bool, List, length, Option, None, map, IfOk, IfErr, IfSome};
+ghost use Rattle.std.specs.Prelude.{◌≡◌, ℕ, Bool, List, length, Option, None, map, IfOk, IfErr, IfNone, IfSome};
 ghost use Rattle.rq_streams.specs.Counted.{failed_count};
 ghost use Rattle.rq_streams.specs.Ends.{failed_calls};
 ghost use Rattle.rq_command.specs.Failed.{Fails};
@@ -63,6 +63,7 @@ pub trait Devices<'w> {
         ensures empty { IsEmpty blank }
         ensures fault { IfErr result (λ stop. stop ≡ Stop.Fault) }
         ensures counts { Fails (failed self.old) (failed self.new) (failed_calls result) }
+        ensures stays { IfNone file.entry (stands self.new ≡ stands self.old) }
         ensures kept { placed self.new ≡ placed self.old };
 
     /// Puts what is written in the file's place where it is whole, and takes it away where it isn't. What is

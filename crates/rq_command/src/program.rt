@@ -1,14 +1,15 @@
 //! The program from its words to its end, over any devices.
 ghost use Rattle.std.specs.Prelude.{◌≡◌, ◌⊎◌, ℕ, ◌+◌, ◌<◌, map, option_map, Ok, Err, IfOk, IfErr, IfSome};
 ghost use Rattle.rq_streams.specs.Ends.{failed_calls};
-ghost use Rattle.rq_command.specs.Failed.{Fails};
+ghost use Rattle.rq_command.specs.Failed.{Fails, StopsReading};
+ghost use Rattle.rq_words.specs.Values.{times_of};
 ghost use Rattle.rq_command.specs.Keyed.{key_file, IsKeyRead};
 ghost use Rattle.rq_command.specs.Placed.{is_whole, IsPlaced};
-ghost use Rattle.rq_command.specs.Program.{StopsReading, StopsJob, MindsTerminal, EndsSending, EndsJob, end_of, Does, FailsReceiving, Failures};
+ghost use Rattle.rq_command.specs.Program.{StopsJob, MindsTerminal, EndsSending, EndsJob, end_of, Does, FailsReceiving, Failures};
 
 use crate::devices::{Devices, Teller};
 use crate::ending::End;
-use crate::rounds::{Rounds, send_rounds};
+use crate::rounds::{Rounds, open_files, send_rounds};
 use crate::told::Told;
 use rq_cast::{Ending, Halt, Input, Seen, check_length, run_receive, standings_in};
 use rq_cells::{Key, Wanted};
@@ -80,7 +81,7 @@ fn prepare<'w, D: Devices<'w>, T: Teller>(
     let Some(key) = key_of(alloc, job.key, devices)? else {
         return Ok(None);
     };
-    let reader = devices.open(Vec::from_slice(alloc, job.files.as_slice())?)?;
+    let reader = open_files(alloc, job.files.as_slice(), devices)?;
     let length = devices.length(&reader);
     teller.begin(job.telling, job.rate, length);
     if let Some(length) = length {
@@ -100,6 +101,7 @@ fn send<'w, D: Devices<'w>, T: Teller>(
 ) -> Result<End, Stop>
     requires part { 0 < job.order.part }
     requires step { 0 < job.order.ids.step }
+    requires rounds { 0 < times_of job.rounds }
     ensures terminal { MindsTerminal (D.terminal devices.old) (end_of result) }
     ensures does { EndsSending job.entry (D.stands devices.old) D.blank (end_of result) (D.placed devices.old) (D.placed devices.new) }
     ensures failures { Failures (end_of result) (D.failed devices.old) (D.failed devices.new) }

@@ -1,16 +1,14 @@
 //! The rounds of a stream.
-ghost use Rattle.std.specs.Prelude.{◌≡◌, ◌⊎◌, ◌<◌, IfOk, IfErr, map};
-ghost use Rattle.rq_bytes.specs.declared.error.Error.TheVariants.{OutOfMemory};
-ghost use Rattle.rq_streams.specs.declared.run.Stop.TheVariants.{Fault, Refused};
-ghost use Rattle.rq_cast.specs.SentParts.{halted_calls};
-ghost use Rattle.rq_command.specs.Failed.{Fails};
+ghost use Rattle.std.specs.Prelude.{◌≡◌, ◌<◌, IfOk, IfErr, map};
+ghost use Rattle.rq_streams.specs.Ends.{failed_calls};
+ghost use Rattle.rq_command.specs.Failed.{Fails, StopsReading};
 ghost use Rattle.rq_command.specs.Rounds.{SendsRounds, StopsRounds, CountsSent, CountsHalt};
 ghost use Rattle.rq_command.specs.RoundsSent.{IsUnsent, SendsRound, StopsRound};
 
 use crate::devices::{Devices, Teller};
 use rq_cast::{Halt, Known, Order, Output, Sent, send_stream};
 use rq_cells::Key;
-use rq_streams::Counted;
+use rq_streams::{Counted, Stop};
 use rq_words::SendJob;
 use std::alloc::Global;
 
@@ -106,51 +104,49 @@ fn send_round<'w, D: Devices<'w>, T: Teller>(
     }
 }
 
-// Opens the files again.
-fn open_again<'w, D: Devices<'w>>(
+/// Opens files, also again, or standard input, where there are none.
+pub(crate) fn open_files<'w, D: Devices<'w>>(
     alloc: Global,
     files: &[&'w str],
     devices: &mut D,
-) -> Result<D::Reader, Halt>
+) -> Result<D::Reader, Stop>
     ensures bytes { IfOk result (λ r. D.Reader.remaining r ≡ D.stands devices.old (map (λ s. s.now) files.now)) }
-    ensures stops { IfErr result (λ halt. (halt ≡ Halt.By Fault) ⊎ (halt ≡ Halt.By (Refused OutOfMemory))) }
-    ensures counts { IfOk result (λ r. Fails (D.failed devices.old) (D.failed devices.new) 0) }
-    ensures failed { IfErr result (λ halt. Fails (D.failed devices.old) (D.failed devices.new) (halted_calls halt)) }
+    ensures stops { IfErr result StopsReading }
+    ensures counts { Fails (D.failed devices.old) (D.failed devices.new) (failed_calls result) }
     ensures stays { D.stands devices.new ≡ D.stands devices.old }
     ensures kept { D.placed devices.new ≡ D.placed devices.old }
 {
-    let reader = devices.open(Vec::from_slice(alloc, files)?)?;
-    Ok(reader)
+    devices.open(Vec::from_slice(alloc, files)?)
 }
 
 /// Sends all rounds, of which the first reads this. Gives the writer back.
 pub(crate) fn send_rounds<'w, D: Devices<'w>, T: Teller>(
     alloc: Global,
-    rounds: Rounds<'w, D::Writer>,
+    unsent: Rounds<'w, D::Writer>,
     reader: D::Reader,
     devices: &mut D,
     teller: &mut T,
 ) -> (D::Writer, Result<Sent, Halt>)
-    requires part { 0 < rounds.order.part }
-    requires step { 0 < rounds.order.ids.step }
-    requires unsent { IsUnsent rounds }
-    requires bytes { D.Reader.remaining reader ≡ D.stands devices.old (map (λ s. s.now) rounds.files.items) }
-    ensures sends { IfOk result.1 (SendsRounds rounds.entry.order rounds.entry.key rounds.entry.all (D.stands devices.old (map (λ s. s.now) rounds.entry.files.items))
-        (D.Writer.contents rounds.entry.writer) (D.Writer.contents result.0)) }
+    requires part { 0 < unsent.order.part }
+    requires step { 0 < unsent.order.ids.step }
+    requires unsent { IsUnsent unsent }
+    requires bytes { D.Reader.remaining reader ≡ D.stands devices.old (map (λ s. s.now) unsent.files.items) }
+    ensures sends { IfOk result.1 (SendsRounds unsent.entry.order unsent.entry.key unsent.entry.all (D.stands devices.old (map (λ s. s.now) unsent.entry.files.items))
+        (D.Writer.contents unsent.entry.writer) (D.Writer.contents result.0)) }
     ensures counts { IfOk result.1 (CountsSent (D.failed devices.old) (D.failed devices.new)) }
-    ensures stops { IfErr result.1 (StopsRounds rounds.entry.order rounds.entry.key rounds.entry.all (D.stands devices.old (map (λ s. s.now) rounds.entry.files.items))
-        (D.Writer.contents rounds.entry.writer) (D.Writer.contents result.0)) }
+    ensures stops { IfErr result.1 (StopsRounds unsent.entry.order unsent.entry.key unsent.entry.all (D.stands devices.old (map (λ s. s.now) unsent.entry.files.items))
+        (D.Writer.contents unsent.entry.writer) (D.Writer.contents result.0)) }
     ensures failed { IfErr result.1 (CountsHalt (D.failed devices.old) (D.failed devices.new)) }
     ensures kept { D.placed devices.new ≡ D.placed devices.old }
 {
-    let mut rounds = match send_round(alloc, rounds, reader, devices, teller) {
+    let mut rounds = match send_round(alloc, unsent, reader, devices, teller) {
         Ok(rounds) => rounds,
         Err((writer, halt)) => return (writer, Err(halt)),
     };
     for _round in 1..rounds.all {
-        let reader = match open_again(alloc, rounds.files.as_slice(), devices) {
+        let reader = match open_files(alloc, rounds.files.as_slice(), devices) {
             Ok(reader) => reader,
-            Err(halt) => return (rounds.writer, Err(halt)),
+            Err(stop) => return (rounds.writer, Err(Halt::By(stop))),
         };
         rounds = match send_round(alloc, rounds, reader, devices, teller) {
             Ok(rounds) => rounds,

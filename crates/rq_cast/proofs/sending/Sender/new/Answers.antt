@@ -51,3 +51,6 @@ returns-clause-sends c names are =
       head = c.part_head-head.ensures.head names are (c.as_slice.ensures.value ∙ c.in_ok-digests.ensures.digests)
           ∙ ap (λ k. part_head part.is_last names k part.object.now) (same moved);
     }
+
+pub returns-clause-series : goal.returns-clause-series
+returns-clause-series c = (c.new-begun.result, c.end-end.result, c.end-end.ensures, c.new-begun.ensures, c.in_round.ensures)

@@ -1,12 +1,33 @@
-use Rattle.std.proofs.Common.{ℕ, ◌+◌, [], ◌∷◌, ◌++◌, inl, inr, refl, ap, subst, arith}
+use Rattle.std.specs.Prelude.{◌↔◌}
+use Rattle.std.proofs.Common.{◌≡◌, Bool, true, false, sym, ℕ, ◌+◌, [], ◌∷◌, ◌++◌, inl, inr, refl, ap, subst, arith}
 use Rattle.std.proofs.lemmas.Result.{err_from_is_err_and}
 use Rattle.std.proofs.KnownBytes.{Keeps-refl}
+use Rattle.rq_bytes.specs.declared.error.Error.TheVariants.{OutOfMemory}
 use Rattle.rq_cells.specs.declared.head.Head.{Head}
 use Rattle.rq_cast.specs.Output.{sink, CountsLost}
 use Rattle.rq_cast.specs.Names.{AreNames}
+use Rattle.rq_cast.specs.Rounds.{IsAsKnown, KeepsNames}
 use Rattle.rq_cast.specs.Sent.{sending_of}
 use Rattle.rq_cast.proofs.StreamSteps.{same_failed}
 use Rattle.rq_cast.proofs.stream_sending.StreamSender.send_part.Goals as goal
+use Rattle.rq_cast.proofs.stream_sending.StreamSender.send_part.Goals.{After-head}
+use Rattle.rq_cast.proofs.stream_sending.StreamSender.send_part.Given.{Over}
+
+-- the part is what it was
+same_now : (g : Over) (c : After-head g) (b : Bool) → b ≡ true
+    → (b ≡ true) ↔ IsAsKnown c.args.self.now.known c.args.self.now.names.count c.args.is_last c.head.result.name
+    → IsAsKnown c.args.self.now.known c.args.self.now.names.count c.args.is_last (sending_of c.in_ok-sender.sender).head.name
+same_now g c b is tells =
+    subst (λ (h : Head). IsAsKnown c.args.self.now.known c.args.self.now.names.count c.args.is_last h.name) c.head.ensures (tells.0 is)
+
+-- or it isn't
+other_now : (g : Over) (c : After-head g) (b : Bool) → b ≡ false
+    → (b ≡ true) ↔ IsAsKnown c.args.self.now.known c.args.self.now.names.count c.args.is_last c.head.result.name
+    → IsAsKnown c.args.self.now.known c.args.self.now.names.count c.args.is_last (sending_of c.in_ok-sender.sender).head.name → ⊥
+other_now g c b is tells same =
+    let yes =
+    tells.1 (subst (λ (h : Head). IsAsKnown c.args.self.now.known c.args.self.now.names.count c.args.is_last h.name) (sym c.head.ensures) same) in
+    absurd (cc (is, yes))
 
 pub returns-in_err-sender-clause-stops : goal.returns-in_err-sender-clause-stops
 returns-in_err-sender-clause-stops g c =
@@ -18,6 +39,34 @@ returns-in_err-sender-clause-stops g c =
       counts,
       inl (inl (c.in_err-sender.field-0.0, refl, c.in_err-sender.ensures.refused before are), refl, Keeps-refl (g.W.Write.contents (sink out))),
     ))
+
+pub returns-in_err-take-clause-stops : goal.returns-in_err-take-clause-stops
+returns-in_err-take-clause-stops g c =
+    let out = c.args.output.now in
+    let p = err_from_is_err_and c.from_residual-in_err-take.result c.from_residual-in_err-take.ensures.1 in
+    let counts : CountsLost out out 0 0 = record { lost_more = omega arith; failed = omega arith } in
+    rw (p.1, p.2) (λ before are. (0, counts, inl (inl (OutOfMemory, refl, inl refl), refl, Keeps-refl (g.W.Write.contents (sink out)))))
+
+pub returns-then-not-branch-clause-stops : goal.returns-then-not-branch-clause-stops
+returns-then-not-branch-clause-stops g c before are =
+    let out = c.args.output.now in
+    let counts : CountsLost out out 0 0 = record { lost_more = omega arith; failed = omega arith } in
+    let head = (goal.at.returns-then-not-branch-clause-stops g c).After-head in (
+      0,
+      counts,
+      inl (
+        inr (
+          refl,
+          (
+            sending_of c.in_ok-sender.sender,
+            c.in_ok-sender.ensures.prepared before are,
+            λ same. other_now g head c.in_ok-take.field-0 c.if-not-branch.true c.in_ok-take.ensures.same same,
+          ),
+        ),
+        refl,
+        Keeps-refl (g.W.Write.contents (sink out)),
+      ),
+    )
 
 pub returns-in_err-lost-clause-stops : goal.returns-in_err-lost-clause-stops
 returns-in_err-lost-clause-stops g c =
@@ -31,19 +80,19 @@ returns-in_err-lost-clause-stops g c =
         by = refl;
         sending = sending_of c.in_ok-sender.sender;
         prepared = c.in_ok-sender.ensures.prepared before are;
-        same = ?;
+        same = same_now g (goal.at.returns-in_err-lost-clause-stops g c).After-head c.in_ok-take.field-0 c.if-not-branch.false c.in_ok-take.ensures.same;
         stopped = stopped.2;
       }),
     ))
 
 pub returns-clause-sends : goal.returns-clause-sends
 returns-clause-sends g c before are =
-    let head = c.head.ensures in
+    let head = c.head-2.ensures in
     record {
       sending = sending_of c.in_ok-sender.sender;
       prepared = c.in_ok-sender.ensures.prepared before are;
-      same = ?;
-      kept = ?;
+      same = same_now g (goal.at.returns-clause-sends g c).After-head c.in_ok-take.field-0 c.if-not-branch.false c.in_ok-take.ensures.same;
+      kept = subst (λ (h : Head). KeepsNames c.args.self.now.known (h.name ∷ []) c.take.new.self) c.head.ensures c.in_ok-take.ensures.kept;
       lost = c.in_ok-lost.lost;
       sends = c.in_ok-lost.ensures.sends;
       named = subst (λ (h : Head). AreNames (before ++ (h.name ∷ [])) c.push.new.self) head (c.push.ensures.names before are);
