@@ -1,9 +1,6 @@
 -- Rounds follow each other.
-use Rattle.std.proofs.Common.{◌≡◌, inl, inr, ℕ, ◌+◌, ◌-◌, ◌*◌, ◌/◌, ◌%◌, ◌^◌, ◌<◌, ◌≤◌, Bool, if◌then◌else◌, sym, ap, subst, ◌∙◌, arith, mul-le-mul_right, div-add-mod'}
-use Rattle.std.specs.Prelude.{nat_lt}
+use Rattle.std.proofs.Common.{◌≡◌, inl, inr, ℕ, ◌+◌, ◌-◌, ◌*◌, ◌/◌, ◌%◌, ◌^◌, ◌<◌, ◌≤◌, if◌then◌else◌, sym, ap, subst, ◌∙◌, arith, mul-le-mul_right, div-add-mod'}
 use Rattle.std.proofs.lemmas.Bool.{cases_lt, lt-ltb, le-ltb}
-use Rattle.std.proofs.Math.Nat.{lt_of_mul-lt-mul_right}
-use Rattle.std.proofs.lemmas.Grind.{div_ceil_times}
 use Rattle.std.proofs.lemmas.Nat.{le-div, mod_below, mod-mul-add}
 use Rattle.rq_cast.specs.Ids.{AreIds}
 use Rattle.rq_cast.specs.Rounds.{ids_from, round_first}

@@ -1,5 +1,5 @@
 -- A stream as far as it is sent, and where that stops.
-use Rattle.std.proofs.Common.{◌≡◌, inl, inr, ℕ, suc, ◌+◌, ◌*◌, ◌<◌, ◌≤◌, zero-mul, div-mul-le_self, div-lt_iff_lt-mul, Bool, true, false, None, List, [], ◌++◌, length, map, Option, Err, refl, sym, ap, subst, ◌∙◌, arith, append-nil, length-append}
+use Rattle.std.proofs.Common.{◌≡◌, inl, inr, ℕ, ◌+◌, ◌*◌, ◌<◌, ◌≤◌, zero-mul, Bool, true, false, None, List, [], ◌++◌, length, map, Option, Err, refl, sym, ap, subst, ◌∙◌, arith, append-nil, length-append}
 use Rattle.std.specs.Prelude.{nat_lt, ◌==◌}
 use Rattle.std.specs.List.{range_with_len, sum_by}
 use Rattle.std.specs.Io.KnownBytes.{Consumes, Appends}

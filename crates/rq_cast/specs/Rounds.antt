@@ -1,8 +1,7 @@
 -- Rounds of a stream: which ids each sends, and what is known of its parts behind the first one.
-use Rattle.std.specs.Prelude.{◌≡◌, ℕ, ◌+◌, ◌-◌, ◌*◌, ◌/◌, ◌%◌, ◌^◌, min, ◌==◌, Bool, List, [], ◌++◌, length, slice_get, Option, Some, if◌then◌else◌, nat_lt}
+use Rattle.std.specs.Prelude.{◌≡◌, ℕ, ◌+◌, ◌-◌, ◌*◌, ◌/◌, ◌%◌, ◌^◌, min, ◌==◌, Bool, List, [], ◌++◌, length, slice_get, Some, if◌then◌else◌, nat_lt}
 use Rattle.std.specs.Int.{div_ceil}
 use Rattle.rq_cast.specs.declared.order.Order.{Order}
-use Rattle.rq_cast.specs.declared.order.Ids.{Ids}
 use Rattle.rq_cast.specs.declared.known.Known.{Known}
 use Rattle.rq_cast.specs.declared.known.Stage.{Stage}
 use Rattle.rq_cast.specs.declared.known.Stage.TheVariants.{Alone, First, Later}

@@ -1,8 +1,6 @@
 -- What is done by the words.
 use Rattle.std.proofs.Common.{◌≡◌, Bool, ℕ, List, length, Option, Some, None, Result, Ok, Err, IfSome, IfErr, inr, sym, subst, ap, ◌∙◌}
 use Rattle.rq_cast.specs.declared.order.Order.{Order}
-use Rattle.rq_cast.specs.declared.output.Output.{Output}
-use Rattle.rq_cast.specs.Output.{counting, sink}
 use Rattle.rq_bytes.specs.declared.error.Error.{Error}
 use Rattle.rq_standard.specs.declared.row.TableRow.{TableRow}
 use Rattle.rq_tables.specs.SystematicTable.{wanted_table}
@@ -11,15 +9,13 @@ use Rattle.rq_cast.specs.declared.survey.Standing.{Standing}
 use Rattle.rq_cast.specs.Preparing.{RefusesParts}
 use Rattle.rq_cast.specs.Surveyed.{IsSurvey}
 use Rattle.rq_cells.specs.Cells.{Key}
-use Rattle.rq_streams.specs.declared.counted.Counted.{Counted}
 use Rattle.rq_streams.specs.declared.run.Stop.{Stop}
 use Rattle.rq_streams.specs.declared.run.Stop.TheVariants.{Refused}
-use Rattle.rq_streams.specs.Counted.{inner}
 use Rattle.rq_words.specs.declared.values.TheConstants.{WIDEST_WINDOW}
 use Rattle.rq_words.specs.declared.jobs.Job.{Job}
 use Rattle.rq_words.specs.declared.jobs.Job.TheVariants.{Send, Receive, Info}
 use Rattle.rq_command.specs.declared.ending.End.{End}
-use Rattle.rq_command.specs.declared.ending.End.TheVariants.{Unasked, AtTerminal, EmptyKey, Sent, Received, Surveyed, Stopped}
+use Rattle.rq_command.specs.declared.ending.End.TheVariants.{Unasked, AtTerminal, EmptyKey, Sent, Changed, Received, Surveyed, Stopped}
 use Rattle.rq_words.specs.Asked.{AsksFor}
 use Rattle.rq_command.specs.Keyed.{IsKeyOf}
 use Rattle.rq_command.specs.Placed.{Contents}
@@ -34,6 +30,7 @@ module _ (words : List (List ℕ)) (terminal : Option Bool) (stands : List (List
   does AtTerminal old new job asks ends = (job, asks, ends)
   does EmptyKey old new job asks ends = (job, asks, ends)
   does (Sent sent) old new job asks ends = (job, asks, ends)
+  does (Changed part) old new job asks ends = (job, asks, ends)
   does (Received r seen) old new job asks ends = (job, asks, ends)
   does (Surveyed standings) old new job asks ends = (job, asks, ends)
   does (Stopped stop) old new job asks ends = (job, asks, ends)
@@ -64,14 +61,16 @@ refused_early {X} order file input read key known e r is keyed there refused lon
     let all = subst (λ (s : Contents). IfSome s (λ o. length o ≡ known)) there long in
     subst (λ (x : Result X Stop). IfErr x (StopsUnsent order file input)) (sym is) (inr ((key, keyed), known_parts order input known e refused all))
 
--- what an output wrote since its writer was new stands in its place
-pub placed_sent : {W : Type 0} (contents : W → Contents) (P : Contents → Contents → Type 0) (first out : Output W) (began ended : Counted W) (writer left : W)
-    (blank new : Contents) → counting first ≡ began → inner began ≡ writer → contents writer ≡ blank → ended ≡ counting out → left ≡ inner ended → new ≡ contents left
-    → P (contents (sink first)) (contents (sink out)) → P blank new
-placed_sent contents P first out began ended writer left blank new is wraps holds leaves unwraps placed sends =
-    let start : contents (sink first) ≡ blank = ap contents (ap inner is ∙ wraps) ∙ holds in
-    let end : new ≡ contents (sink out) = placed ∙ ap contents (unwraps ∙ ap inner leaves) in
-    subst (λ (o : Contents). P o new) start (subst (P (contents (sink first))) (sym end) sends)
+-- what is so of what was sent is so of what was asked for, and of what stands in its place
+pub as_asked : (P : Order → Key → ℕ → Contents → Contents → Contents → Type 0) {o o' : Order} {k k' : Key} {n n' : ℕ} {input input' there there' then then' : Contents}
+    → o ≡ o' → k ≡ k' → n ≡ n' → input ≡ input' → there ≡ there' → then ≡ then' → P o k n input there then → P o' k' n' input' there' then'
+as_asked P {o} {o'} {k} {k'} {n} {n'} {input} {input'} {there} {there'} {then} {then'} order key rounds read begun ended holds =
+    subst (P o' k' n' input' there') ended
+    (subst (λ t. P o' k' n' input' t then) begun
+    (subst (λ i. P o' k' n' i there then) read
+    (subst (λ m. P o' k' m input there then) rounds
+    (subst (λ l. P o' l n input there then) key
+    (subst (λ p. P p k n input there then) order holds)))))
 
 -- ---- listing
 

@@ -1,13 +1,11 @@
-use Rattle.std.proofs.Common.{◌≡◌, ℕ, ◌+◌, ◌^◌, Bool, true, false, Vec, Global, List, Option, Err, length, inl, inr, refl, ap, ◌∙◌, arith, rules}
+use Rattle.std.proofs.Common.{◌≡◌, ℕ, ◌+◌, ◌^◌, Bool, true, false, Vec, Global, List, Option, length, inl, inr, refl, ap, ◌∙◌, arith, rules}
 use Rattle.std.specs.Prelude.{nat_lt}
 use Rattle.std.proofs.lemmas.Bool.{lt-ltb, le-ltb}
 use Rattle.std.proofs.lemmas.Result.{err_from_is_err_and}
-use Rattle.rq_streams.specs.declared.run.Stop.{Stop}
 use Rattle.rq_cast.specs.declared.halt.Halt.{Halt}
 use Rattle.rq_cast.specs.declared.known.Known.{Known}
 use Rattle.rq_cast.specs.Rounds.{next_stage}
 use Rattle.rq_streams.specs.Counted.{inner}
-use Rattle.rq_streams.specs.Ends.{failed_calls}
 use Rattle.rq_cast.specs.Output.{sink, CountsLost}
 use Rattle.rq_cast.specs.PartSending.{SendsPart, StopsPart}
 use Rattle.rq_cast.specs.SentParts.{names_of, SendsStream, StopsStream, halted_calls}

@@ -6,6 +6,7 @@ use Rattle.rq_standard.specs.TableRows.{greatest_size}
 use Rattle.raptorq.specs.Encoder.{encoded_of}
 use Rattle.rq_base.specs.RefusedInput.{checked_configuration}
 use Rattle.rq_base.proofs.Accepted.{both_ok, accepted_by}
+use Rattle.rq_cast.specs.Ids.{IsIdEnd}
 use Rattle.rq_cast.specs.Parts.{source_digests, part_head}
 use Rattle.rq_cast.proofs.sending.Sender.new.Goals as goal
 use Rattle.rq_cast.proofs.sending.Sender.new.Goals.{After-part_head-head}
@@ -53,4 +54,10 @@ returns-clause-sends c names are =
     }
 
 pub returns-clause-series : goal.returns-clause-series
-returns-clause-series c = (c.new-begun.result, c.end-end.result, c.end-end.ensures, c.new-begun.ensures, c.in_round.ensures)
+returns-clause-series c = (
+  c.new-begun.result,
+  c.end-end.result,
+  subst (λ k. IsIdEnd k c.args.order.now.repair c.end-end.result) c.largest_block.ensures c.end-end.ensures,
+  c.new-begun.ensures,
+  c.in_round.ensures,
+)

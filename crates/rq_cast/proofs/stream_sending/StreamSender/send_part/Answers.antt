@@ -1,5 +1,5 @@
 use Rattle.std.specs.Prelude.{◌↔◌}
-use Rattle.std.proofs.Common.{◌≡◌, Bool, true, false, sym, ℕ, ◌+◌, [], ◌∷◌, ◌++◌, inl, inr, refl, ap, subst, arith}
+use Rattle.std.proofs.Common.{◌≡◌, Bool, true, false, sym, ◌+◌, [], ◌∷◌, ◌++◌, inl, inr, refl, ap, subst, arith}
 use Rattle.std.proofs.lemmas.Result.{err_from_is_err_and}
 use Rattle.std.proofs.KnownBytes.{Keeps-refl}
 use Rattle.rq_bytes.specs.declared.error.Error.TheVariants.{OutOfMemory}
@@ -8,7 +8,6 @@ use Rattle.rq_cast.specs.Output.{sink, CountsLost}
 use Rattle.rq_cast.specs.Names.{AreNames}
 use Rattle.rq_cast.specs.Rounds.{IsAsKnown, KeepsNames}
 use Rattle.rq_cast.specs.Sent.{sending_of}
-use Rattle.rq_cast.proofs.StreamSteps.{same_failed}
 use Rattle.rq_cast.proofs.stream_sending.StreamSender.send_part.Goals as goal
 use Rattle.rq_cast.proofs.stream_sending.StreamSender.send_part.Goals.{After-head}
 use Rattle.rq_cast.proofs.stream_sending.StreamSender.send_part.Given.{Over}
