@@ -1,4 +1,5 @@
 //! What is said of a run.
+use crate::tests::receiving::WRITTEN;
 use crate::tests::sending::{order, sent_to};
 use crate::tests::stored_cells::{FIRST, OBJECT};
 use raptorq::error::Error;
@@ -43,7 +44,7 @@ fn ends_are_said(rt: HostRuntime) {
         (sent(5, 1), "", 0),
         (sent(5, 2), "at least 2 of 5 cells were lost", 1),
         (sent(1, 0), "", 0),
-        (received(Ok(Ending::Written)), "", 0),
+        (received(Ok(WRITTEN)), "", 0),
         (
             received(incomplete(0, Some(7))),
             "rqcast: it takes 7 more packets",
