@@ -1,6 +1,7 @@
 -- What is settled of what came, and what was seen.
 use Rattle.std.proofs.Common.{◌≡◌, ℕ, List, [], ◌++◌, length, refl, sym, ap, subst, ◌∙◌, Option, Some, None, append-nil, arith}
 use Rattle.std.specs.Prelude.{MatchOption, IfSome, unwrap_or, option_map, false}
+use Rattle.std.specs.Option.{IsSomeAnd}
 use Rattle.std.proofs.lemmas.List.{length-map}
 use Rattle.rq_standard.specs.declared.row.TableRow.{TableRow}
 use Rattle.rq_cells.specs.declared.head.Head.{Head}
@@ -144,14 +145,18 @@ module _ (table : List TableRow) (w : Wish) (width most : ℕ) (past given : Lis
 
   none_with : (is : r.stream ≡ None) (e : Ending) → TellsEnding r e → EndsWith table w width most past [] seen (none_so_far is).0 e
   unfolding none_so_far
-  none_with is Written ended = (none_so_far is).1.ended ∙ ended
+  none_with is (Written stream) (ended, name) = absurd (subst (λ (o : Option StreamReceiver). IsSomeAnd o (λ s. stream ≡ s.scanner.stream)) is name)
   none_with is (Incomplete number missing) (open_still, lacks) =
       let l = lacked None is number missing lacks in ((none_so_far is).1.ended ∙ open_still, l.0, l.1)
 
   some_with : IsSoundReceiver r → (now : StreamReceiver) (is : r.stream ≡ Some now) (e : Ending) → TellsEnding r e
       → EndsWith table w width most past (parts_of now is) seen (some_so_far now is).0 e
   unfolding some_so_far receives
-  some_with sound now is Written ended = (some_so_far now is).1.ended ∙ ended
+  some_with sound now is (Written stream) (ended, name) = (
+    (some_so_far now is).1.ended ∙ ended,
+    subst (λ (o : Option StreamReceiver). IsSomeAnd o (λ s. stream ≡ s.scanner.stream)) is name
+    ∙ ap (λ (k : Source). k.stream) (receiving now is).read.read.seen.scans,
+  )
   some_with sound now is (Incomplete number missing) (open_still, lacks) =
       let l = lacked (Some now) is number missing lacks in
       let t = taken table w width most past given now (receiving now is) in

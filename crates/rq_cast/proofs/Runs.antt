@@ -9,7 +9,6 @@ use Rattle.rq_bytes.specs.declared.error.Error.{Error}
 use Rattle.rq_bytes.specs.declared.error.Error.TheVariants.{OutOfMemory}
 use Rattle.rq_standard.specs.declared.row.TableRow.{TableRow}
 use Rattle.rq_streams.specs.declared.run.Stop.TheVariants.{Fault, Refused}
-use Rattle.rq_cells.specs.Cells.{Key}
 use Rattle.rq_cells.specs.Wanted.{Wish}
 use Rattle.rq_cast.specs.declared.receiver.Receiver.{Receiver}
 use Rattle.rq_cast.specs.declared.run.Ending.{Ending}
@@ -18,13 +17,10 @@ use Rattle.rq_cast.specs.declared.seen.Seen.{Seen}
 use Rattle.rq_cast.specs.Reading.{chunk_length}
 use Rattle.rq_cast.specs.Windows.{Settled, bytes_of, has_last}
 use Rattle.rq_cast.specs.Receiving.{HasFed, Feeds, HandsOutOf, Shows, IsSoundReceiver, has_ended, ready_of, TellsEnding}
-use Rattle.rq_cast.specs.Received.{wish_over, Receives, ReceivesSoFar, EndsReceiving}
+use Rattle.rq_cast.specs.Received.{IsNameOf, ReceivesSoFar, EndsReceiving}
 use Rattle.rq_cast.proofs.Ended.{SoFar, so_far, ends}
 
-module _ (table : List TableRow) (key : Key) (name : List ℕ) (width : ℕ) (before there : Option (List ℕ)) where
-  abbrev w : Wish
-  w = wish_over table key name
-
+module _ (table : List TableRow) (w : Wish) (width : ℕ) (before there : Option (List ℕ)) where
   -- So many reads were made. What they brought was fed, and what is settled of it is written, but not the last part.
   pub record IsRunning (after then : Option (List ℕ)) (reads : ℕ) (r : Receiver) (seen : Seen) : Type 0 where
     pub past : List ℕ
@@ -62,8 +58,8 @@ module _ (table : List TableRow) (key : Key) (name : List ℕ) (width : ℕ) (be
     all_written = subst (Appends there then) (sym (append-nil k.given) ∙ ap (λ xs. k.given ++ xs) (sym k.none) ∙ sym far.2.out) k.written
 
     -- a read fails
-    pub stops_unread : (after' : Option (List ℕ)) (n : ℕ) → Keeps after after' → EndsReceiving table key name width (Err Fault) seen before after' n there then
-    stops_unread after' n kept = (
+    pub stops_unread : (after' : Option (List ℕ)) (came : List ℕ) → Keeps after after' → EndsReceiving table w width (Err Fault) seen before after' came there then
+    stops_unread after' came kept = (
       far.0,
       length (bytes_of far.0),
       record {
@@ -77,16 +73,16 @@ module _ (table : List TableRow) (key : Key) (name : List ℕ) (width : ℕ) (be
     )
 
     -- no byte comes, or as many reads were made as are counted
-    module _ (ending : Ending) (told : TellsEnding r ending) (after' : Option (List ℕ)) (n : ℕ) (kept : Consumes after after' [])
+    module _ (ending : Ending) (told : TellsEnding r ending) (after' : Option (List ℕ)) (came : List ℕ) (kept : Consumes after after' [])
         (ended : IsAtEnd after' ⊎ (2 ^ 64 - 1 ≤ length k.past)) where
-      pub ends_unread : EndsReceiving table key name width (Ok ending) seen before after' n there then
+      pub ends_unread : EndsReceiving table w width (Ok ending) seen before after' came there then
       ends_unread = by ending told
         where
           read' : Consumes before after' k.past
           read' = subst (Consumes before after') (append-nil k.past) (Consumes-trans before after after' k.past [] k.read kept)
 
-          by : (e : Ending) → TellsEnding r e → EndsReceiving table key name width (Ok e) seen before after' n there then
-          by Written all = absurd (true≢false (sym all ∙ k.open_still))
+          by : (e : Ending) → TellsEnding r e → EndsReceiving table w width (Ok e) seen before after' came there then
+          by (Written stream) (all, is) = absurd (true≢false (sym all ∙ k.open_still))
           by (Incomplete number missing) t =
               let e = ends table w width chunk_length k.past k.given r k.fed seen k.shows k.sound (Incomplete number missing) t in (
                 e.parts,
@@ -95,8 +91,7 @@ module _ (table : List TableRow) (key : Key) (name : List ℕ) (width : ℕ) (be
               )
 
     -- a piece comes
-    module _ (after' : Option (List ℕ)) (n : ℕ) (piece : List ℕ) (more : Consumes after after' piece) (brought : length piece ≡ n) (some : 0 < n)
-        (few : n ≤ chunk_length) where
+    module _ (after' : Option (List ℕ)) (piece : List ℕ) (more : Consumes after after' piece) (some : 0 < length piece) (few : length piece ≤ chunk_length) where
       abbrev past' : List ℕ
       past' = k.past ++ piece
 
@@ -104,17 +99,17 @@ module _ (table : List TableRow) (key : Key) (name : List ℕ) (width : ℕ) (be
       read_more = Consumes-trans before after after' k.past piece k.read more
 
       -- and there is no memory
-      pub stops_unfed : (e : Error) → e ≡ OutOfMemory → EndsReceiving table key name width (Err (Refused e)) seen before after' n there then
+      pub stops_unfed : (e : Error) → e ≡ OutOfMemory → EndsReceiving table w width (Err (Refused e)) seen before after' piece there then
       stops_unfed e memory = (
         memory,
         far.0,
-        record { past = k.past; last = piece; read = read_more; brought = inr (brought, few); receives = far.1 },
+        record { past = k.past; last = piece; read = read_more; brought = inr (refl, few); receives = far.1 },
         all_written,
       )
 
       module _ (mid : Receiver) (feeds : Feeds piece r mid) (seen' : Seen) (shows' : Shows mid seen') where
         fed' : HasFed table w width chunk_length past' k.given mid
-        fed' = feeds table w width chunk_length k.past k.given (omega (arith, brought, few)) k.fed
+        fed' = feeds table w width chunk_length k.past k.given few k.fed
 
         far' : (parts : List Settled) × ReceivesSoFar table w width chunk_length past' parts seen'
             × SoFar table w width chunk_length past' k.given mid fed' seen' shows' parts
@@ -122,7 +117,7 @@ module _ (table : List TableRow) (key : Key) (name : List ℕ) (width : ℕ) (be
 
         -- not all of it is written
         pub stops_unwritten : (then' : Option (List ℕ)) (count : ℕ) → Appends then then' (take count (ready_of mid))
-            → EndsReceiving table key name width (Err Fault) seen' before after' n there then'
+            → EndsReceiving table w width (Err Fault) seen' before after' piece there then'
         stops_unwritten then' count begun = (
           far'.0,
           length k.given + count,
@@ -137,51 +132,61 @@ module _ (table : List TableRow) (key : Key) (name : List ℕ) (width : ℕ) (be
               (Appends-trans there then then' k.given (take count (ready_of mid)) k.written begun),
         )
 
-        -- it is the last part
-        pub ends_written : (then' : Option (List ℕ)) → Appends then then' (ready_of mid) → has_ended mid ≡ true
-            → EndsReceiving table key name width (Ok Written) seen' before after' n there then'
-        ends_written then' rest all = by far'.1 (far'.2.ended ∙ all)
-          where
-            done : (first : _) → Receives table w width chunk_length past' first far'.0 seen' → has_last far'.0 ≡ true
-                → EndsReceiving table key name width (Ok Written) seen' before after' n there then'
-            done first receives is = (
-              far'.0,
-              record {
-                earlier = k.past;
-                last = piece;
-                read = read_more;
-                brought = brought;
-                some = some;
-                few = few;
-                first = first;
-                receives = receives;
-                all = is;
-                parts_before = far.0;
-                seen_before = seen;
-                before_last = far.1;
-                not_all = far.2.ended ∙ k.open_still;
-              },
-              subst (Appends there then') (sym far'.2.out) (Appends-trans there then then' k.given (ready_of mid) k.written rest),
-            )
+        -- the parts that are settled with the last one
+        done : (stream : List ℕ) (parts : List Settled) (receives : ReceivesSoFar table w width chunk_length past' parts seen') → has_last parts ≡ true
+            → IsNameOf receives.0 stream → (then' : Option (List ℕ)) → Appends there then' (bytes_of parts)
+            → EndsReceiving table w width (Ok (Written stream)) seen' before after' piece there then'
+        done stream parts (None, nothing) all name then' out = absurd name
+        done stream parts (Some first, receives) all name then' out = (
+          parts,
+          record {
+            earlier = k.past;
+            read = read_more;
+            some = some;
+            few = few;
+            first = first;
+            named = name;
+            receives = receives;
+            all = all;
+            parts_before = far.0;
+            seen_before = seen;
+            before_last = far.1;
+            not_all = far.2.ended ∙ k.open_still;
+          },
+          out,
+        )
 
-            by : ReceivesSoFar table w width chunk_length past' far'.0 seen' → has_last far'.0 ≡ true
-                → EndsReceiving table key name width (Ok Written) seen' before after' n there then'
-            by (None, (none, nothing)) is = absurd (true≢false (sym is ∙ ap has_last nothing))
-            by (Some first, receives) is = done first receives is
+        -- what is ready is handed out
+        module _ (then' : Option (List ℕ)) (rest : Appends then then' (ready_of mid)) (new : Receiver) (hands : HandsOutOf mid (ready_of mid) new)
+            (shows : (s : Seen) → Shows mid s → Shows new s) (none : ready_of new ≡ []) (sound : IsSoundReceiver new) where
+          abbrev given' : List ℕ
+          given' = k.given ++ ready_of mid
 
-        -- or not
-        pub runs_on : (then' : Option (List ℕ)) → Appends then then' (ready_of mid) → has_ended mid ≡ false → (new : Receiver)
-            → HandsOutOf mid (ready_of mid) new → ((s : Seen) → Shows mid s → Shows new s) → ready_of new ≡ [] → has_ended new ≡ has_ended mid
-            → IsSoundReceiver new → IsRunning after' then' (reads + 1) new seen'
-        runs_on then' rest open_yet new hands shows none same sound = record {
-          past = past';
-          given = k.given ++ ready_of mid;
-          read = read_more;
-          brought = omega (arith, k.brought, brought, some, length-append k.past piece);
-          fed = hands table w width chunk_length past' k.given fed';
-          shows = shows seen' shows';
-          none = none;
-          written = Appends-trans there then then' k.given (ready_of mid) k.written rest;
-          open_still = same ∙ open_yet;
-          sound = sound;
-        }
+          fed_on : HasFed table w width chunk_length past' given' new
+          fed_on = hands table w width chunk_length past' k.given fed'
+
+          written_on : Appends there then' given'
+          written_on = Appends-trans there then then' k.given (ready_of mid) k.written rest
+
+          -- it is the last part
+          pub ends_written : has_ended new ≡ true → (ending : Ending) → TellsEnding new ending → EndsReceiving table w width (Ok ending) seen' before after' piece there then'
+          ends_written ended (Incomplete number missing) (open_yet, lacked) = absurd (true≢false (sym ended ∙ open_yet))
+          ends_written ended (Written stream) told =
+              let e = ends table w width chunk_length past' given' new fed_on seen' (shows seen' shows') sound (Written stream) told in
+              let out : bytes_of e.parts ≡ given' = e.far.out ∙ ap (λ xs. given' ++ xs) none ∙ append-nil given' in
+              done stream e.parts e.receives_parts e.ends_with.0 e.ends_with.1 then' (subst (Appends there then') (sym out) written_on)
+
+          -- or not
+          pub runs_on : has_ended new ≡ false → IsRunning after' then' (reads + 1) new seen'
+          runs_on open_yet = record {
+            past = past';
+            given = given';
+            read = read_more;
+            brought = omega (arith, k.brought, some, length-append k.past piece);
+            fed = fed_on;
+            shows = shows seen' shows';
+            none = none;
+            written = written_on;
+            open_still = open_yet;
+            sound = sound;
+          }

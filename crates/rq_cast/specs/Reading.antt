@@ -8,9 +8,9 @@ use Rattle.rq_streams.specs.declared.run.Stop.TheVariants.{Fault, Refused}
 abbrev pub chunk_length : ℕ
 chunk_length = 65536
 
--- What the last read brought, which were n bytes, or nothing: where it failed, or nothing is left out.
-abbrev pub IsLastRead : List ℕ → ℕ → Type 0
-IsLastRead bytes n = (bytes ≡ []) ⊎ ((length bytes ≡ n) × (n ≤ chunk_length))
+-- What the last read brought, or nothing: where it failed, or nothing is left out.
+abbrev pub IsLastRead : List ℕ → List ℕ → Type 0
+IsLastRead bytes came = (bytes ≡ []) ⊎ ((bytes ≡ came) × (length came ≤ chunk_length))
 
 -- a failed call, or want of memory
 abbrev pub IsStopOfReads : Stop → Type 0

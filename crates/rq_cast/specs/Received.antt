@@ -1,5 +1,6 @@
 -- What a run writes of the cells among the bytes that it reads.
 use Rattle.std.specs.Prelude.{◌≡◌, ◌⊎◌, ◌↔◌, ℕ, ◌+◌, ◌-◌, ◌^◌, ◌<◌, ◌≤◌, List, [], ◌++◌, length, take, drop, Option, Some, None, Result, Ok, Err, true, false}
+use Rattle.std.specs.Option.{IsSomeAnd}
 use Rattle.std.specs.Io.KnownBytes.{Consumes, Appends, IsAtEnd}
 use Rattle.rq_bytes.specs.declared.error.Error.TheVariants.{OutOfMemory}
 use Rattle.rq_standard.specs.declared.row.TableRow.{TableRow}
@@ -23,8 +24,8 @@ use Rattle.rq_cast.specs.Streams.{Parts, AreSenders}
 use Rattle.rq_cast.specs.Windows.{Settled, bytes_of, has_last, Settles, Lacks}
 
 -- which cells are wanted, over a table
-abbrev pub wish_over : List TableRow → Key → List ℕ → Wish
-wish_over table key name = record { key = key; greatest = greatest_size table; name = name }
+abbrev pub wish_over : List TableRow → Key → List ℕ → List (List ℕ) → Wish
+wish_over table key name passed = record { key = key; greatest = greatest_size table; name = name; passed = passed }
 
 -- ---- which cells are received
 
@@ -86,31 +87,35 @@ abbrev pub LacksSoFar : (table : List TableRow) (w : Wish) (width most : ℕ) (p
     → ReceivesSoFar table w width most past parts seen → Option ℕ → Type 0
 LacksSoFar table w width most past parts seen receives missing = LacksBehind table w width most past parts seen receives.0 receives.1 missing
 
+-- it is the stream that was found
+abbrev pub IsNameOf : Option Head → List ℕ → Type 0
+IsNameOf first stream = IsSomeAnd first (λ h. stream ≡ h.stream)
+
 -- How a run ends with these parts settled that reads no more.
 abbrev pub EndsWith : (table : List TableRow) (w : Wish) (width most : ℕ) (past : List ℕ) (parts : List Settled) (seen : Seen)
     → ReceivesSoFar table w width most past parts seen → Ending → Type 0
-EndsWith table w width most past parts seen receives Written = has_last parts ≡ true
+EndsWith table w width most past parts seen receives (Written stream) = (has_last parts ≡ true) × IsNameOf receives.0 stream
 EndsWith table w width most past parts seen receives (Incomplete number missing) =
     (has_last parts ≡ false) × (number ≡ length parts) × LacksSoFar table w width most past parts seen receives missing
 
--- So it is of all that was read but for what the last read brought at most, which were n bytes.
-pub record StopsReceiving (table : List TableRow) (w : Wish) (width : ℕ) (before after : Option (List ℕ)) (n : ℕ) (parts : List Settled) (seen : Seen) : Type 0
+-- So it is of all that was read but for what the last read brought at most.
+pub record StopsReceiving (table : List TableRow) (w : Wish) (width : ℕ) (before after : Option (List ℕ)) (came : List ℕ) (parts : List Settled) (seen : Seen) : Type 0
   where
     pub past : List ℕ
     pub last : List ℕ
     pub read : Consumes before after (past ++ last)
-    pub brought : IsLastRead last n
+    pub brought : IsLastRead last came
     pub receives : ReceivesSoFar table w width chunk_length past parts seen
 
--- The last part is settled by what was read, and without the last read, which brought n bytes, it wasn't.
-pub record ReceivesAll (table : List TableRow) (w : Wish) (width : ℕ) (before after : Option (List ℕ)) (n : ℕ) (parts : List Settled) (seen : Seen) : Type 0 where
+-- The last part of the stream is settled by what was read, and without the last read it wasn't.
+pub record ReceivesAll (table : List TableRow) (w : Wish) (width : ℕ) (before after : Option (List ℕ)) (last : List ℕ) (parts : List Settled) (stream : List ℕ)
+    (seen : Seen) : Type 0 where
   pub earlier : List ℕ
-  pub last : List ℕ
   pub read : Consumes before after (earlier ++ last)
-  pub brought : length last ≡ n
-  pub some : 0 < n
-  pub few : n ≤ chunk_length
+  pub some : 0 < length last
+  pub few : length last ≤ chunk_length
   pub first : Head
+  pub named : stream ≡ first.stream
   pub receives : Receives table w width chunk_length (earlier ++ last) first parts seen
   pub all : has_last parts ≡ true
   pub parts_before : List Settled
@@ -127,20 +132,20 @@ pub record ReceivesSome (table : List TableRow) (w : Wish) (width : ℕ) (before
   pub receives : ReceivesSoFar table w width chunk_length past parts seen
   pub ends : EndsWith table w width chunk_length past parts seen receives ending
 
--- How a run ends that reads this input, whose last read brought n bytes, and behind whose writer this stood before and after: with all parts written; with
+-- How a run ends that reads this input, whose last read brought these bytes, and behind whose writer this stood before and after: with all parts written; with
 -- those that are settled at the end of the input; so too for want of memory; or at a failed call, where a beginning of them is written. And what was seen.
-abbrev pub EndsReceiving : List TableRow → Key → List ℕ → ℕ → Result Ending Stop → Seen → Option (List ℕ) → Option (List ℕ) → ℕ
+abbrev pub EndsReceiving : List TableRow → Wish → ℕ → Result Ending Stop → Seen → Option (List ℕ) → Option (List ℕ) → List ℕ
     → Option (List ℕ) → Option (List ℕ) → Type 0
-EndsReceiving table key name width (Ok Written) seen before after n there then =
-    (parts : List Settled) × ReceivesAll table (wish_over table key name) width before after n parts seen × Appends there then (bytes_of parts)
-EndsReceiving table key name width (Ok (Incomplete number missing)) seen before after n there then =
-    (parts : List Settled) × ReceivesSome table (wish_over table key name) width before after parts (Incomplete number missing) seen
+EndsReceiving table w width (Ok (Written stream)) seen before after came there then =
+    (parts : List Settled) × ReceivesAll table w width before after came parts stream seen × Appends there then (bytes_of parts)
+EndsReceiving table w width (Ok (Incomplete number missing)) seen before after came there then =
+    (parts : List Settled) × ReceivesSome table w width before after parts (Incomplete number missing) seen
     × Appends there then (bytes_of parts)
-EndsReceiving table key name width (Err (Refused e)) seen before after n there then =
-    (e ≡ OutOfMemory) × (parts : List Settled) × StopsReceiving table (wish_over table key name) width before after n parts seen
+EndsReceiving table w width (Err (Refused e)) seen before after came there then =
+    (e ≡ OutOfMemory) × (parts : List Settled) × StopsReceiving table w width before after came parts seen
     × Appends there then (bytes_of parts)
-EndsReceiving table key name width (Err Fault) seen before after n there then =
-    (parts : List Settled) × (count : ℕ) × StopsReceiving table (wish_over table key name) width before after n parts seen
+EndsReceiving table w width (Err Fault) seen before after came there then =
+    (parts : List Settled) × (count : ℕ) × StopsReceiving table w width before after came parts seen
     × Appends there then (take count (bytes_of parts))
 
 -- ---- failed calls

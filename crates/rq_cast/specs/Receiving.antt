@@ -1,5 +1,6 @@
 -- What a receiver makes of bytes that come in pieces, among which cells of its stream stand.
 use Rattle.std.specs.Prelude.{◌≡◌, ℕ, ◌+◌, ◌<◌, ◌≤◌, List, [], ◌++◌, length, drop, Option, None, Some, MatchOption, IfSome, Bool, true, false, unwrap_or, option_map}
+use Rattle.std.specs.Option.{IsSomeAnd}
 use Rattle.rq_standard.specs.declared.row.TableRow.{TableRow}
 use Rattle.rq_cells.specs.declared.head.Head.{Head}
 use Rattle.rq_cells.specs.declared.cell.Cell.{Cell}
@@ -185,5 +186,5 @@ TellsLacked r number missing =
 
 -- how a run ends that reads no more
 abbrev pub TellsEnding : Receiver → Ending → Type 0
-TellsEnding r Written = has_ended r ≡ true
+TellsEnding r (Written stream) = (has_ended r ≡ true) × IsSomeAnd r.stream (λ s. stream ≡ s.scanner.stream)
 TellsEnding r (Incomplete number missing) = (has_ended r ≡ false) × TellsLacked r number missing

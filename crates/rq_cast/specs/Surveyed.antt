@@ -22,11 +22,11 @@ pub record ListsStreams (w : Wish) (bytes : List ℕ) (heads : List Head) : Type
 -- What is settled of the stream, which is how many bytes, how a run ends so, and what it sees.
 pub record IsStanding (table : List TableRow) (key : Key) (width : ℕ) (bytes : List ℕ) (s : Standing) : Type 0 where
   pub parts : List Settled
-  pub receives : ReceivesSoFar table (wish_over table key s.head.stream) width chunk_length bytes parts s.seen
+  pub receives : ReceivesSoFar table (wish_over table key s.head.stream []) width chunk_length bytes parts s.seen
   pub length_is : s.bytes ≡ counted (length (bytes_of parts))
-  pub ends : EndsWith table (wish_over table key s.head.stream) width chunk_length bytes parts s.seen receives s.ended
+  pub ends : EndsWith table (wish_over table key s.head.stream []) width chunk_length bytes parts s.seen receives s.ended
 
 -- each stream that stands among the bytes, and no other
 pub record IsSurvey (table : List TableRow) (key : Key) (width : ℕ) (bytes : List ℕ) (standings : List Standing) : Type 0 where
-  pub heads : ListsStreams (wish_over table key []) bytes (map (λ s. s.head) standings)
+  pub heads : ListsStreams (wish_over table key [] []) bytes (map (λ s. s.head) standings)
   pub each : All (IsStanding table key width bytes) standings

@@ -136,7 +136,9 @@ impl<'a> Receiver<'a> {
         ensures { TellsEnding self.now result }
     {
         match &self.stream {
-            Some(stream) if stream.window.ended => Ending::Written,
+            Some(stream) if stream.window.ended => Ending::Written {
+                stream: stream.scanner.stream(),
+            },
             Some(stream) => Ending::Incomplete {
                 parts: stream.window.names.count,
                 missing: stream.window.missing(),

@@ -1,16 +1,17 @@
 //! Bytes in, the stream of the cells among them out.
-ghost use Rattle.std.specs.Prelude.{◌≡◌, ◌+◌, ◌-◌, ◌<◌, ◌^◌, [], take, ℕ, OnOk, OnErr, IfErr};
+ghost use Rattle.std.specs.Prelude.{◌≡◌, ◌+◌, ◌-◌, ◌<◌, ◌^◌, [], take, ℕ, OnOk, false, OnErr, IfErr};
 ghost use Rattle.std.specs.Io.KnownBytes.{Appends};
 ghost use Rattle.rq_streams.specs.Counted.{failed_count, inner};
 ghost use Rattle.rq_streams.specs.Ends.{failed_calls};
-ghost use Rattle.rq_cast.specs.Input.{counted_of, source, last_length};
+ghost use Rattle.rq_cells.specs.Wanted.{wish_of};
+ghost use Rattle.rq_cast.specs.Input.{counted_of, is_put_back, last_piece, unread};
 ghost use Rattle.rq_cast.specs.Received.{EndsAtFailedCall, EndsReceiving};
 
-use crate::input::{CHUNK, Input};
+use crate::input::Input;
 use crate::progress::Progress;
 use crate::receiver::Receiver;
 use crate::seen::Seen;
-use rq_cells::Wanted;
+use rq_cells::{STREAM_LENGTH, Wanted};
 use rq_streams::{Counted, Stop, flush, write_bytes};
 use std::alloc::Global;
 use std::io::{Read, Write};
@@ -19,7 +20,10 @@ use std::io::{Read, Write};
 #[derive(Clone, Copy, Debug, PartialEq, Eq)]
 pub enum Ending {
     /// All parts of the stream are written.
-    Written,
+    Written {
+        /// The stream.
+        stream: [u8; STREAM_LENGTH],
+    },
     /// What was read doesn't determine the next part, and no further one is written.
     Incomplete {
         /// How many parts are written.
@@ -78,29 +82,29 @@ pub fn run_receive<R: Read, W: Write, P: Progress>(
     // The first failed call ends the run, and nothing else is a fault.
     ensures failures { EndsAtFailedCall (counted_of input.old) writer.old result (counted_of input.new) writer.new }
 
+    // The last read isn't put back.
+    ensures once { OnOk result (is_put_back input.new ≡ false) }
+
     // The parts of the stream, as far as the cells determine them, exactly so far if one sender made them, and not the
     // last one before the last read that was made.
-    ensures ends { EndsReceiving wanted.now.table.now wanted.now.key.now wanted.now.name.now window result seen.new
-        (R.remaining (source input.old)) (R.remaining (source input.new)) (last_length input.new)
+    ensures ends { EndsReceiving wanted.now.table.now (wish_of wanted.now) window result seen.new
+        (unread R.remaining input.old) (unread R.remaining input.new) (last_piece input.new)
         (W.contents (inner writer.old)) (W.contents (inner writer.new)) }
 {
-    let mut chunk = [0u8; CHUNK];
     let mut receiver = Receiver::new(alloc, wanted, window);
     *seen = receiver.all_seen();
     // For the proof that it ends: more reads than these are never made.
     'reading: for _reads in 0..u64::MAX {
-        let Ok(n) = input.read(&mut chunk) else {
-            return Err(Stop::Fault);
-        };
+        let n = input.read()?;
         if n == 0 {
             return Ok(receiver.ending());
         }
-        receiver.feed(alloc, &chunk[..n])?;
+        receiver.feed(alloc, input.piece())?;
         *seen = receiver.all_seen();
         progress.tell(n, seen, receiver.decoder());
         write_part(writer, receiver.take_ready().as_slice())?;
         if receiver.has_ended() {
-            return Ok(Ending::Written);
+            return Ok(receiver.ending());
         }
     }
     Ok(receiver.ending())

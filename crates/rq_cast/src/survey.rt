@@ -43,13 +43,14 @@ fn heads_in(
     key: &Key,
     bytes: &[u8],
 ) -> Result<Vec<Head>, Error>
-    ensures heads { IfOk result (λ v. ListsStreams (wish_over table.now key.now []) bytes.now v.items) }
+    ensures heads { IfOk result (λ v. ListsStreams (wish_over table.now key.now [] []) bytes.now v.items) }
     ensures memory { IfErr result (λ e. e ≡ Error.OutOfMemory) }
 {
     let wanted = Wanted {
         key,
         table,
         name: &[],
+        passed: &[],
     };
     let mut heads = Vec::new(alloc);
     let mut at = 0;
@@ -108,6 +109,7 @@ fn standing_of<'a>(
         key,
         table,
         name: &head.stream,
+        passed: &[],
     };
     let mut receiver = Receiver::new(alloc, &wanted, window);
     let written = feed_all(alloc, &mut receiver, bytes)?;

@@ -9,3 +9,4 @@ pub mod WantedCells
 pub mod NotedHeads
 pub mod Walks
 pub mod FirstCell
+pub mod Passed

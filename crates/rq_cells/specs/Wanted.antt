@@ -1,6 +1,6 @@
 -- The first cell that a receiver takes says what it receives.
-use Rattle.std.specs.Prelude.{◌≡◌, ℕ, ◌-◌, ◌<◌, ◌≤◌, List, ◌++◌, length, take, drop, Option, Some, None, option_and_then, option_map, unwrap_or, is_ok, is_none, if◌then◌else◌, Bool, true, false, not, ◌&&◌, ◌||◌, nat_le, nat_lt, nat_eq, count_by}
-use Rattle.std.specs.List.{starts_with}
+use Rattle.std.specs.Prelude.{◌≡◌, ℕ, ◌-◌, ◌<◌, ◌≤◌, List, ◌++◌, length, map, take, drop, Option, Some, None, option_and_then, option_map, unwrap_or, is_ok, is_none, if◌then◌else◌, Bool, true, false, not, ◌&&◌, ◌||◌, nat_le, nat_lt, nat_eq, count_by}
+use Rattle.std.specs.List.{list_any, starts_with}
 use Rattle.rq_standard.specs.TableRows.{greatest_size}
 use Rattle.rq_base.specs.RefusedInput.{checked_configuration}
 use Rattle.rq_cells.specs.declared.head.Head.{Head}
@@ -16,18 +16,31 @@ use Rattle.rq_cells.specs.Cells.{Key, head_size, cell_size, greatest_cell_size, 
 use Rattle.rq_cells.specs.Found.{places}
 
 -- Which cells are wanted: their checks are made by a key, coders take their configuration over a table whose greatest row has so many symbols, and their
--- stream begins with these bytes.
+-- stream begins with these bytes, and with none of those that are passed over.
 pub record Wish : Type 0 where
   pub key : Key
   pub greatest : ℕ
   pub name : List ℕ
+  pub passed : List (List ℕ)
 
 -- what is wanted by the program
 abbrev pub wish_of : Wanted → Wish
-wish_of wanted = record { key = wanted.key.now; greatest = greatest_size wanted.table.now; name = wanted.name.now }
+wish_of wanted = record {
+  key = wanted.key.now;
+  greatest = greatest_size wanted.table.now;
+  name = wanted.name.now;
+  passed = map (λ v. v.items) wanted.passed.now;
+}
+
+-- a stream begins with one of these
+abbrev pub is_passed : List (List ℕ) → List ℕ → Bool
+is_passed passed stream = list_any (λ begins. starts_with nat_eq stream begins) passed
+
+abbrev pub is_named : Wish → Head → Bool
+is_named w h = starts_with nat_eq h.stream w.name && not (is_passed w.passed h.stream)
 
 abbrev pub is_wanted : Wish → Head → Bool
-is_wanted w h = is_ok (checked_configuration w.greatest h.configuration) && starts_with nat_eq h.stream w.name
+is_wanted w h = is_ok (checked_configuration w.greatest h.configuration) && is_named w h
 
 -- the head of the wanted cell that bytes begin with
 abbrev pub wanted_at : Wish → List ℕ → Option Head

@@ -70,6 +70,13 @@ impl CellScanner {
         }
     }
 
+    /// The stream whose cells it finds.
+    pub fn stream(&self) -> [u8; STREAM_LENGTH]
+        ensures { result ≡ self.now.stream }
+    {
+        self.stream
+    }
+
     // How many bytes its cells have.
     fn cell_length(&self) -> usize
         ensures { result ≡ cell_size self.now.symbol_size }

@@ -1,17 +1,18 @@
 //! Which cells a receiver takes first.
-ghost use Rattle.std.specs.Prelude.{◌≡◌, IfOk, IfErr, Some, true};
+ghost use Rattle.std.specs.Prelude.{◌≡◌, IfOk, IfErr, Some, true, nat_eq};
+ghost use Rattle.std.specs.List.{list_any, starts_with};
 ghost use Rattle.rq_cells.specs.Cells.{head_at};
-ghost use Rattle.rq_cells.specs.Wanted.{wish_of, is_wanted, IsSight, WasNoted};
+ghost use Rattle.rq_cells.specs.Wanted.{wish_of, is_passed, is_wanted, IsSight, WasNoted};
 
 use crate::cell::Cell;
-use crate::head::Head;
+use crate::head::{Head, STREAM_LENGTH};
 use crate::key::Key;
 use rq_bytes::error::Error;
 use rq_tables::systematic_constants::SystematicTable;
 use std::alloc::Global;
 
 /// Which cells are wanted: those whose configuration coders take over a table, and whose stream begins
-/// with some bytes.
+/// with some bytes, and with none of those that are passed over.
 #[derive(Clone, Copy)]
 pub struct Wanted<'a> {
     /// What their checks are made with.
@@ -20,14 +21,34 @@ pub struct Wanted<'a> {
     pub table: &'a SystematicTable,
     /// How the stream begins: any does where there are no bytes.
     pub name: &'a [u8],
+    /// The beginnings of streams that are passed over.
+    pub passed: &'a [Vec<u8>],
+}
+
+// Whether a stream begins with one of these.
+fn begins_with_one(stream: &[u8; STREAM_LENGTH], beginnings: &[Vec<u8>]) -> bool
+    ensures { result ≡ list_any (λ v. starts_with nat_eq stream.now v.items) beginnings.now }
+{
+    beginnings
+        .iter()
+        .any(|begins| stream.starts_with(begins.as_slice()))
 }
 
 impl Wanted<'_> {
+    // Whether a stream is passed over.
+    fn passes(&self, stream: &[u8; STREAM_LENGTH]) -> bool
+        ensures { result ≡ is_passed (wish_of self.now).passed stream.now }
+    {
+        begins_with_one(stream, self.passed)
+    }
+
     // Whether a head is that of wanted cells.
     fn wants(&self, head: &Head) -> bool
         ensures { result ≡ is_wanted (wish_of self.now) head.now }
     {
-        head.configuration.check(self.table).is_ok() && head.stream.starts_with(self.name)
+        head.configuration.check(self.table).is_ok()
+            && head.stream.starts_with(self.name)
+            && !self.passes(&head.stream)
     }
 }
 

@@ -42,13 +42,13 @@ stopped_later r (Refused e) a b more is fails = subst (λ (e : Result End Stop).
 -- ---- what is placed
 
 pub not_whole : (ended : Result Ending Stop) (n : ℕ) → is_whole ended ≡ false → n ≤ 1 → FailsReceiving ended (failed_calls ended + n)
-not_whole (Ok Written) n is few = absurd (cc is)
+not_whole (Ok (Written stream)) n is few = absurd (cc is)
 not_whole (Ok (Incomplete parts missing)) n is few = omega (arith, few)
 not_whole (Err Fault) n is few = omega arith
 not_whole (Err (Refused e)) n is few = omega (arith, few)
 
-pub whole : (ended : Result Ending Stop) → is_whole ended ≡ true → ended ≡ Ok Written
-whole (Ok Written) is = refl
+pub whole : (ended : Result Ending Stop) → is_whole ended ≡ true → (stream : List ℕ) × (ended ≡ Ok (Written stream))
+whole (Ok (Written stream)) is = (stream, refl)
 whole (Ok (Incomplete parts missing)) is = absurd (cc is)
 whole (Err stop) is = absurd (cc is)
 
@@ -62,7 +62,7 @@ once (Err (Refused e)) = omega arith
 pub taken_away : {X D : Type 0} (file : Option X) (ended : Result Ending Stop) (finished : Result D Stop) (written old new : Contents) → is_whole ended ≡ false
     → IsFinished file false finished written old new → IsPlaced file ended written old new
 taken_away None ended finished written old new is h = h
-taken_away (Some file) (Ok Written) finished written old new is h = absurd (cc is)
+taken_away (Some file) (Ok (Written stream)) finished written old new is h = absurd (cc is)
 taken_away (Some file) (Ok (Incomplete parts missing)) finished written old new is h = h
 taken_away (Some file) (Err stop) finished written old new is h = h
 
@@ -83,9 +83,9 @@ fails_at_end ended r stop a b is fault ends fails =
 pub put : {X D : Type 0} (file : Option X) (ended : Result Ending Stop) (d : D) (written old new : Contents) → is_whole ended ≡ true
     → IsFinished file true (Ok d) written old new → IsPlaced file ended written old new
 put None ended d written old new is h = h
-put (Some file) ended d written old new is h = subst (λ (e : Result Ending Stop). IsPlaced (Some file) e written old new) (sym (whole ended is)) h
+put (Some file) ended d written old new is h = subst (λ (e : Result Ending Stop). IsPlaced (Some file) e written old new) (sym (whole ended is).1) h
 
 pub fails_nowhere : (ended : Result Ending Stop) (a b : Option ℕ) → is_whole ended ≡ true → Fails a b 0
     → (n : ℕ) × Fails a b n × FailsReceiving ended (failed_calls ended + n)
 fails_nowhere ended a b is fails =
-    (0, fails, subst (λ (e : Result Ending Stop). FailsReceiving e (failed_calls e + 0)) (sym (whole ended is)) refl)
+    (0, fails, subst (λ (e : Result Ending Stop). FailsReceiving e (failed_calls e + 0)) (sym (whole ended is).1) refl)

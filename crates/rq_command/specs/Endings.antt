@@ -21,7 +21,7 @@ word_status kind.OutOfMemory = 1
 word_status _ = 64
 
 abbrev pub ending_status : Ending → ℕ
-ending_status Written = 0
+ending_status (Written stream) = 0
 ending_status (Incomplete parts missing) = 2
 
 -- memory that is refused is a fault of the system

@@ -20,11 +20,11 @@ IsFinished (Some file) _ _ written old new = new ≡ old
 
 -- all is written
 abbrev pub is_whole : Result Ending Stop → Bool
-is_whole (Ok Written) = true
+is_whole (Ok (Written stream)) = true
 is_whole _ = false
 
 -- What was received is put in a file's place where it is all written, and only then.
 abbrev pub IsPlaced : {X : Type 0} → Option X → Result Ending Stop → Contents → Contents → Contents → Type 0
 IsPlaced None result written old new = new ≡ written
-IsPlaced (Some file) (Ok Written) written old new = new ≡ written
+IsPlaced (Some file) (Ok (Written stream)) written old new = new ≡ written
 IsPlaced (Some file) _ written old new = new ≡ old

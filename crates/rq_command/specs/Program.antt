@@ -16,7 +16,7 @@ use Rattle.rq_cast.specs.declared.run.Ending.TheVariants.{Written}
 use Rattle.rq_cast.specs.declared.survey.Standing.{Standing}
 use Rattle.rq_cast.specs.declared.stream_sending.Sent.{Sent as SentParts}
 use Rattle.rq_cast.specs.Preparing.{RefusesParts}
-use Rattle.rq_cast.specs.Received.{EndsReceiving}
+use Rattle.rq_cast.specs.Received.{EndsReceiving, wish_over}
 use Rattle.rq_cells.specs.Cells.{Key}
 use Rattle.rq_cast.specs.Rounds.{most_at}
 use Rattle.rq_cast.specs.Surveyed.{IsSurvey}
@@ -30,7 +30,7 @@ use Rattle.rq_words.specs.Asked.{AsksFor, IsRefused}
 use Rattle.rq_words.specs.Values.{times_of}
 use Rattle.rq_command.specs.Failed.{Fails, StopsReading}
 use Rattle.rq_command.specs.Keyed.{HasKey, IsEmptyKey, IsKeyOf, key_file}
-use Rattle.rq_command.specs.Placed.{Contents, IsPlaced}
+use Rattle.rq_command.specs.Placed.{Contents, IsPlaced, is_whole}
 use Rattle.rq_command.specs.Rounds.{SendsRounds, StopsRounds}
 
 -- ---- sending
@@ -84,7 +84,7 @@ EndsSend order rounds file input blank _ old new = ⊥
 -- ---- receiving
 
 -- A run over all rows ends so that takes the cells made by the key, and this is what it wrote. A fault may come when all is written, as it is put in its place.
-pub record Receives {X : Type 0} (name : List ℕ) (window : ℕ) (file : Option Contents) (output : Option X) (result : Result Ending Stop) (seen : Seen)
+pub record Receives {X : Type 0} (name : List ℕ) (passed : List (List ℕ)) (window : ℕ) (file : Option Contents) (output : Option X) (result : Result Ending Stop) (seen : Seen)
     (input blank old new : Contents) : Type 0 where
   pub key : Key
   pub keyed : IsKeyOf file key
@@ -94,8 +94,8 @@ pub record Receives {X : Type 0} (name : List ℕ) (window : ℕ) (file : Option
   pub last : ℕ
   pub written : Contents
   pub ended : Result Ending Stop
-  pub ends : EndsReceiving table key name window ended seen input after last blank written
-  pub same : (ended ≡ result) ⊎ ((ended ≡ Ok Written) × (result ≡ Err Fault))
+  pub ends : EndsReceiving table (wish_over table key name passed) window ended seen input after last blank written
+  pub same : (ended ≡ result) ⊎ ((is_whole ended ≡ true) × (result ≡ Err Fault))
   pub placed : IsPlaced output result written old new
 
 -- a call failed, memory is refused, or there is no table of all rows
@@ -103,11 +103,11 @@ abbrev pub StopsBefore : Stop → Type 0
 StopsBefore Fault = ⊤
 StopsBefore (Refused e) = (e ≡ OutOfMemory) ⊎ (wanted_table FURTHER_ROWS ≡ Err e)
 
-abbrev pub EndsReceive : {X : Type 0} → List ℕ → ℕ → Option Contents → Option X → Contents → Contents → End → Contents → Contents → Type 0
-EndsReceive name window file output input blank EmptyKey old new = IsEmptyKey file × (new ≡ old)
-EndsReceive name window file output input blank (Received result seen) old new = Receives name window file output result seen input blank old new
-EndsReceive name window file output input blank (Stopped stop) old new = StopsBefore stop × (new ≡ old)
-EndsReceive name window file output input blank _ old new = ⊥
+abbrev pub EndsReceive : {X : Type 0} → List ℕ → List (List ℕ) → ℕ → Option Contents → Option X → Contents → Contents → End → Contents → Contents → Type 0
+EndsReceive name passed window file output input blank EmptyKey old new = IsEmptyKey file × (new ≡ old)
+EndsReceive name passed window file output input blank (Received result seen) old new = Receives name passed window file output result seen input blank old new
+EndsReceive name passed window file output input blank (Stopped stop) old new = StopsBefore stop × (new ≡ old)
+EndsReceive name passed window file output input blank _ old new = ⊥
 
 -- ---- listing
 
@@ -145,7 +145,7 @@ EndsSending job stands blank ended old new =
 abbrev pub EndsJob : Job → Option Bool → (List (List ℕ) → Contents) → Contents → End → Contents → Contents → Type 0
 EndsJob (Send job) terminal stands blank ended old new = MindsTerminal terminal ended × EndsSending job stands blank ended old new
 EndsJob (Receive job) terminal stands blank ended old new =
-    EndsReceive job.name.items job.window (key_file stands (option_map (λ s. s.now) job.key)) job.output (stands (map (λ s. s.now) job.files.items)) blank ended old new
+    EndsReceive job.name.items (map (λ v. v.items) job.passed.items) job.window (key_file stands (option_map (λ s. s.now) job.key)) job.output (stands (map (λ s. s.now) job.files.items)) blank ended old new
 EndsJob (Info job) terminal stands blank ended old new =
     EndsInfo (key_file stands (option_map (λ s. s.now) job.key)) (stands (map (λ s. s.now) job.files.items)) ended old new
 
@@ -158,7 +158,7 @@ Does words terminal stands blank ended old new = (job : Job) × AsksFor words jo
 
 -- So many calls failed in a run that received so: one that ended it, and one at most at what isn't whole, as it was taken away.
 abbrev pub FailsReceiving : Result Ending Stop → ℕ → Type 0
-FailsReceiving (Ok Written) n = n ≡ 0
+FailsReceiving (Ok (Written stream)) n = n ≡ 0
 FailsReceiving (Ok _) n = n ≤ 1
 FailsReceiving (Err Fault) n = 0 < n
 FailsReceiving (Err (Refused e)) n = n ≤ 1

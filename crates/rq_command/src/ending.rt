@@ -76,7 +76,7 @@ fn ending_status(ending: Ending) -> u8
     ensures { result ≡ ending_status ending }
 {
     match ending {
-        Ending::Written => 0,
+        Ending::Written { .. } => 0,
         Ending::Incomplete { .. } => 2,
     }
 }

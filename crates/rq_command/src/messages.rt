@@ -95,7 +95,7 @@ fn write_standing_json<W: Write>(standing: &Standing, out: &mut W) -> io::Result
     write_name(&standing.head, out)?;
     write!(out, "\",\"bytes\":{bytes}")?;
     match standing.ended {
-        Ending::Written => write!(out, ",\"missing\":0")?,
+        Ending::Written { .. } => write!(out, ",\"missing\":0")?,
         Ending::Incomplete { parts, missing } => {
             write!(out, ",\"parts\":{parts}")?;
             if let Some(missing) = missing {

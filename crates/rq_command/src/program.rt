@@ -130,7 +130,7 @@ fn send<'w, D: Devices<'w>, T: Teller>(
 fn is_whole(ended: &Result<Ending, Stop>) -> bool
     ensures { result ≡ is_whole ended.now }
 {
-    matches!(ended, Ok(Ending::Written))
+    matches!(ended, Ok(Ending::Written { .. }))
 }
 
 // Puts what was received in its place where it is all written, and else takes it away, at which a failed call
@@ -141,7 +141,7 @@ fn place<'w, D: Devices<'w>>(
     writer: D::Writer,
     ended: Result<Ending, Stop>,
 ) -> Result<Ending, Stop>
-    ensures same { (ended ≡ result) ⊎ ((ended ≡ Ok Ending.Written) × (result ≡ Err Stop.Fault)) }
+    ensures same { (ended ≡ result) ⊎ ((is_whole ended ≡ true) × (result ≡ Err Stop.Fault)) }
     ensures placed { IsPlaced file.entry result (D.Writer.contents writer) (D.placed devices.old) (D.placed devices.new) }
     ensures failures { (n : ℕ) × Fails (D.failed devices.old) (D.failed devices.new) n × FailsReceiving result (failed_calls ended + n) }
 {
@@ -167,6 +167,7 @@ fn receive<'w, D: Devices<'w>, T: Teller>(
 {
     let ReceiveJob {
         name,
+        passed,
         window,
         key,
         output,
@@ -181,6 +182,7 @@ fn receive<'w, D: Devices<'w>, T: Teller>(
         key: &key,
         table: &table,
         name: name.as_slice(),
+        passed: passed.as_slice(),
     };
     let reader = devices.open(files)?;
     teller.begin(telling, None, devices.length(&reader));

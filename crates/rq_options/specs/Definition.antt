@@ -8,6 +8,10 @@ use Rattle.clap.specs.declared.builder.action.ArgAction.TheVariants.{Set, Append
 abbrev pub value_rule : Text → Rule
 value_rule id = record (new_rule id) { long = Some id; action = Some Set; value_names = 1 }
 
+-- one that may be said several times
+abbrev pub several_rule : Text → Rule
+several_rule id = record (new_rule id) { long = Some id; action = Some Append; value_names = 1 }
+
 -- one with a letter, and one with a default
 abbrev pub with_letter : ℕ → Rule → Rule
 with_letter letter rule = record rule { short = Some letter }
@@ -48,8 +52,8 @@ with_ids a = with_rule (with_rule (with_rule (with_rule a (value_rule (codes "ra
 
 -- the options that say which stream is received, where to, and by what window
 abbrev pub with_places : App → App
-with_places a = with_rule (with_rule (with_rule a (with_letter 111 (value_rule (codes "output")))) (value_rule (codes "name")))
-    (with_default (codes "2") (value_rule (codes "window")))
+with_places a = with_rule (with_rule (with_rule (with_rule a (with_letter 111 (value_rule (codes "output")))) (value_rule (codes "name")))
+    (several_rule (codes "not"))) (with_default (codes "2") (value_rule (codes "window")))
 
 unfoldable pub send_app : App
 send_app = with_rule (with_common (with_ids (with_repair (subcommand_app (codes "send"))))) file_rule

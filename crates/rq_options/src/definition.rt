@@ -2,7 +2,7 @@
 ghost use Rattle.std.specs.Prelude.{◌≡◌, IfOk, false};
 ghost use Rattle.clap.specs.Words.{app_of, rule_of, with_rule};
 ghost use Rattle.clap.specs.declared.builder.command.Command.TheViews.{out-Command};
-ghost use Rattle.rq_options.specs.Definition.{value_rule, flag_rule, file_rule, cells_rule, subcommand_app, top_app, with_common, with_repair, with_ids, with_places, send_app, receive_app, info_app, program_app};
+ghost use Rattle.rq_options.specs.Definition.{value_rule, several_rule, flag_rule, file_rule, cells_rule, subcommand_app, top_app, with_common, with_repair, with_ids, with_places, send_app, receive_app, info_app, program_app};
 
 use crate::version::VERSION;
 use clap::{Arg, ArgAction, Command};
@@ -28,6 +28,14 @@ fn value<'a>(alloc: Global, id: &'a str, name: &'a str, help: &'a str) -> Arg<'a
         .value_name(name)
         .action(ArgAction::Set)
         .help(help)
+}
+
+// An option that takes a value each time it is said.
+fn several<'a>(alloc: Global, id: &'a str, name: &'a str, help: &'a str) -> Arg<'a>
+    ensures rule { rule_of result ≡ several_rule id.entry.now }
+    ensures local { result.global ≡ false }
+{
+    value(alloc, id, name, help).action(ArgAction::Append)
 }
 
 // An option that is there or not.
@@ -182,13 +190,20 @@ fn placed<'a>(alloc: Global, command: Command<'a>) -> Result<Command<'a>, AllocE
         "What `send` printed as name, or its beginning",
     );
     let two = added(one, name)?;
+    let not = several(
+        alloc,
+        "not",
+        "HEX",
+        "A name, or its beginning, that is passed over",
+    );
+    let three = added(two, not)?;
     let window = value(
         alloc,
         "window",
         "PARTS",
         "How many parts are kept at once, from the first missing one on",
     );
-    added(two, window.default_value("2"))
+    added(three, window.default_value("2"))
 }
 
 /// `send`, with its options.

@@ -1,5 +1,5 @@
 -- What the program's words ask for, and how they are refused.
-use Rattle.std.specs.Prelude.{◌≡◌, ◌⊎◌, ⊤, ℕ, ◌+◌, ◌<◌, List, [], ◌∷◌, Option, Some, None, Result, Ok, Err, map, option_map, codes, Bool, true, false, if◌then◌else◌, nat_lt}
+use Rattle.std.specs.Prelude.{◌≡◌, ◌⊎◌, ⊤, ℕ, ◌+◌, ◌<◌, List, [], ◌∷◌, Option, Some, None, Result, Ok, Err, map, option_map, codes, Bool, true, false, if◌then◌else◌, nat_lt, length}
 use Rattle.clap.specs.Words.{IsAmong, Kinds, Row, first_of}
 use Rattle.clap.specs.Kinds.{or_else}
 use Rattle.clap.specs.declared.error.kind.ErrorKind.{ErrorKind}
@@ -147,6 +147,19 @@ name_by (Some text) = valued (name_of text)
 unfoldable pub name_asked : List Row → Asked (List ℕ)
 name_asked rows = name_by (first_of (codes "name") rows)
 
+-- the values in order, of which the first that names nothing is refused
+abbrev pub each_named : List (List ℕ) → Asked (List (List ℕ))
+each_named [] = Ok []
+each_named (text ∷ texts) = and_then (valued (name_of text)) (λ name. and_then (each_named texts) (λ names. Ok (name ∷ names)))
+
+-- 64 of them at most
+abbrev pub passed_by : List (List ℕ) → Asked (List (List ℕ))
+passed_by texts = if nat_lt 64 (length texts) then Err ValueValidation else each_named texts
+
+-- what is passed over
+unfoldable pub passed_asked : List Row → Asked (List (List ℕ))
+passed_asked rows = passed_by (texts_of rows (codes "not"))
+
 unfoldable pub window_asked : List Row → Asked ℕ
 window_asked rows = valued (window_of (text_or rows (codes "window") []))
 
@@ -154,9 +167,13 @@ window_asked rows = valued (window_of (text_or rows (codes "window") []))
 abbrev pub receiving_asked : List Row → Asked (ℕ × Telling)
 receiving_asked rows = both (window_asked rows) (telling_asked rows)
 
--- and what is received
-abbrev pub receive_asked : List Row → Asked (List ℕ × (ℕ × Telling))
-receive_asked rows = both (name_asked rows) (receiving_asked rows)
+-- what is received, and what isn't
+abbrev pub which_asked : List Row → Asked (List ℕ × List (List ℕ))
+which_asked rows = both (name_asked rows) (passed_asked rows)
+
+-- and all of it
+abbrev pub receive_asked : List Row → Asked ((List ℕ × List (List ℕ)) × (ℕ × Telling))
+receive_asked rows = both (which_asked rows) (receiving_asked rows)
 
 pub record IsSendOf (rows : List Row) (job : SendJob) : Type 0 where
   pub asked_for : send_asked rows ≡ Ok (job.order, (job.rate, (job.rounds, job.telling)))
@@ -164,7 +181,7 @@ pub record IsSendOf (rows : List Row) (job : SendJob) : Type 0 where
   pub files : map (λ s. s.now) job.files.items ≡ texts_of rows (codes "file")
 
 pub record IsReceiveOf (rows : List Row) (job : ReceiveJob) : Type 0 where
-  pub asked_for : receive_asked rows ≡ Ok (job.name.items, (job.window, job.telling))
+  pub asked_for : receive_asked rows ≡ Ok ((job.name.items, map (λ v. v.items) job.passed.items), (job.window, job.telling))
   pub key : option_map (λ s. s.now) job.key ≡ first_of (codes "key") rows
   pub output : option_map (λ s. s.now) job.output ≡ first_of (codes "output") rows
   pub files : map (λ s. s.now) job.files.items ≡ texts_of rows (codes "cells")

@@ -62,6 +62,8 @@ pub struct SendJob<'a> {
 pub struct ReceiveJob<'a> {
     /// How the stream's name begins: any does where there are no bytes.
     pub name: Vec<u8>,
+    /// The beginnings of the names of streams that are passed over, 64 at most.
+    pub passed: Vec<Vec<u8>>,
     /// How many parts are kept at once, from the first one on that isn't written: not 0.
     pub window: u32,
     /// The file whose bytes are the key that its cells are made by, where there is one.

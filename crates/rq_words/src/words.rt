@@ -3,7 +3,8 @@ ghost use Rattle.std.specs.Prelude.{◌≡◌, ◌<◌, codes, map, option_map, 
 ghost use Rattle.std.specs.Result.{result_map_both};
 ghost use Rattle.clap.specs.Words.{FailsBy, first_of, found_of, kind_of, rows_of};
 ghost use Rattle.rq_words.specs.Values.{loss_of, repair_of, times_of};
-ghost use Rattle.rq_words.specs.Asked.{asked, kinds_of, valued, part_asked, symbol_size_asked, repair_asked, rate_asked, with_file, rounds_asked, share_asked, from_asked, ids_asked, order_asked, telling_asked, course_asked, send_asked, name_asked, window_asked, receiving_asked, receive_asked, IsSendOf, IsReceiveOf, IsInfoOf, AsksFor, StepsOn, HasParts, HasRounds, IsRefused};
+ghost use Rattle.rq_words.specs.Asked.{asked, kinds_of, valued, part_asked, symbol_size_asked, repair_asked, rate_asked, with_file, rounds_asked, share_asked, from_asked, ids_asked, order_asked, telling_asked, course_asked, send_asked, name_asked, window_asked, receiving_asked, receive_asked, IsSendOf, IsReceiveOf, IsInfoOf, AsksFor, StepsOn, HasParts, HasRounds, IsRefused, passed_asked, which_asked};
+ghost use Rattle.rq_options.specs.Options.{misuse_kind};
 
 use crate::jobs::{InfoJob, Job, ReceiveJob, Rounds, SendJob, Telling};
 use crate::values;
@@ -17,6 +18,9 @@ use std::convert::AsStr;
 
 // The loss that is lived through where no word says one.
 const USUAL_LOSS: &str = "5";
+
+// How many names are passed over at most.
+const MOST_PASSED: usize = 64;
 
 // How many bytes a part has.
 #[tactic(auto, unfolding(crate::specs::Asked::part_asked))]
@@ -288,6 +292,57 @@ fn name_of<'a>(
     }))
 }
 
+// A value of `--not` that is refused.
+fn no_name(text: &str) -> Misuse<'_>
+    ensures { misuse_kind result ≡ ErrorKind.ValueValidation }
+{
+    Misuse::Value {
+        option: "--not <HEX>",
+        takes: "2 to 16 hexadecimal digits, an even number of them, 64 times at most",
+        text,
+    }
+}
+
+// How the streams begin that are passed over.
+#[tactic(auto, unfolding(crate::specs::Asked::passed_asked))]
+fn passed_of<'a>(
+    alloc: Global,
+    matches: &ArgMatches<'a>,
+) -> Result<Result<Vec<Vec<u8>>, Misuse<'a>>, AllocError>
+    ensures { IfOk result (λ passed. asked (result_map_both (λ v. map (λ n. n.items) v.items) (λ misuse. misuse) passed) ≡ passed_asked (rows_of (found_of matches.now))) }
+{
+    let texts = texts_of(alloc, matches, "not")?;
+    if let Some(text) = texts.get(MOST_PASSED) {
+        return Ok(Err(no_name(text)));
+    }
+    let mut passed = Vec::new(alloc);
+    'names: for text in &texts {
+        let Some(name) = values::name(alloc, text)? else {
+            return Ok(Err(no_name(text)));
+        };
+        passed.push(name)?;
+    }
+    Ok(Ok(passed))
+}
+
+// How the stream begins that is received, and those that are passed over.
+fn which_of<'a>(
+    alloc: Global,
+    matches: &ArgMatches<'a>,
+) -> Result<Result<(Vec<u8>, Vec<Vec<u8>>), Misuse<'a>>, AllocError>
+    ensures { IfOk result (λ which. asked (result_map_both (λ v. (v.0.items, map (λ n. n.items) v.1.items)) (λ misuse. misuse) which)
+        ≡ which_asked (rows_of (found_of matches.now))) }
+{
+    let name = match name_of(alloc, matches)? {
+        Ok(name) => name,
+        Err(misuse) => return Ok(Err(misuse)),
+    };
+    Ok(match passed_of(alloc, matches)? {
+        Ok(passed) => Ok((name, passed)),
+        Err(misuse) => Err(misuse),
+    })
+}
+
 // How many parts are kept at once.
 #[tactic(auto, unfolding(crate::specs::Asked::window_asked))]
 fn window_of<'a>(matches: &ArgMatches<'a>) -> Result<u32, Misuse<'a>>
@@ -317,8 +372,8 @@ fn receive_job<'a>(alloc: Global, matches: &ArgMatches<'a>) -> Result<ReceiveJob
     ensures parts { IfOk result (λ job. 0 < job.window) }
     ensures fails { FailsBy (kinds_of (receive_asked (rows_of (found_of matches.now)))) result }
 {
-    let name = match name_of(alloc, matches)? {
-        Ok(name) => name,
+    let (name, passed) = match which_of(alloc, matches)? {
+        Ok(which) => which,
         Err(misuse) => return Err(misuse.error(alloc, Verb::Receive)),
     };
     let (window, telling) = match receiving_of(matches) {
@@ -328,6 +383,7 @@ fn receive_job<'a>(alloc: Global, matches: &ArgMatches<'a>) -> Result<ReceiveJob
     let files = texts_of(alloc, matches, "cells")?;
     Ok(ReceiveJob {
         name,
+        passed,
         window,
         key: text_of(matches, "key"),
         output: text_of(matches, "output"),
@@ -357,7 +413,7 @@ fn info_job<'a>(alloc: Global, matches: &ArgMatches<'a>) -> Result<InfoJob<'a>, 
 ///
 /// Refuses what the parser refuses, requests for help and the version among it. Then it refuses the first
 /// of these: a value that its option doesn't take, of `--part`, `--cell`, `--loss` or `--repair`, `--share`,
-/// `--from`, `--rate`, `--rounds`, `--name` and `--window` in this order, where `--loss` beside `--repair` stands
+/// `--from`, `--rate`, `--rounds`, `--name`, `--not` and `--window` in this order, where `--loss` beside `--repair` stands
 /// for theirs, and `--rounds` of more than 1 without a file for its; and two of `--quiet`, `--progress` and `--json`.
 /// [`ErrorKind::OutOfMemory`](clap::error::ErrorKind) may come before any of them.
 pub fn job<'a, S: AsStr>(alloc: Global, words: &'a [S]) -> Result<Job<'a>, Error>

@@ -101,25 +101,28 @@ fn first_wanted_cell_is_found(rt: HostRuntime) {
         head,
         before: Heads { damaged, others },
     };
-    let not_yet = |from, others| {
-        let heads = Heads { damaged: 0, others };
+    let not_yet = |damaged, others| {
+        let heads = Heads { damaged, others };
         Search::NotYet {
-            from,
+            from: 239,
             before: heads,
             all: heads,
         }
     };
-    let rows: [(&Key, &[u8], Search); 4] = [
-        (&none, &[], found(2, 0)),
-        (&none, &[137, 92], found(1, 1)),
-        (&none, &[1], not_yet(239, 4)),
-        (&key, &[], not_yet(239, 0)),
+    let rows: [(&Key, &[u8], u8, Search); 5] = [
+        (&none, &[], 0, found(2, 0)),
+        (&none, &[137, 92], 0, found(1, 1)),
+        (&none, &[1], 0, not_yet(0, 4)),
+        (&none, &[], 137, not_yet(1, 3)),
+        (&key, &[], 0, not_yet(0, 0)),
     ];
-    for (key, name, wanted) in rows {
+    for (key, name, passed, wanted) in rows {
+        let passed = [Vec::from_slice(alloc, &[passed]).expect(&rt, "a beginning")];
         let wish = Wanted {
             key,
             table: &table,
             name,
+            passed: &passed,
         };
         let search = first_wanted(alloc, &wish, bytes.as_slice()).expect(&rt, "a search");
         assert_eq!(rt; search, wanted);

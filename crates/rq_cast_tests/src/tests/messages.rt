@@ -1,4 +1,5 @@
 //! What is said of a run.
+use crate::tests::receiving::WRITTEN;
 use crate::tests::sending::{order, sent_to};
 use crate::tests::stored_cells::{FIRST, OBJECT};
 use raptorq::error::Error;
@@ -48,7 +49,7 @@ fn ends_are_said(rt: HostRuntime) {
             "rqcast: FILE changed between rounds: part 3 isn't what it was",
             1,
         ),
-        (received(Ok(Ending::Written)), "", 0),
+        (received(Ok(WRITTEN)), "", 0),
         (
             received(incomplete(0, Some(7))),
             "rqcast: it takes 7 more packets",

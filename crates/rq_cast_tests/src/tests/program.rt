@@ -173,7 +173,7 @@ fn both(alloc: Global, row: &Row) -> Result<(Done, Done), Error> {
 
 #[test]
 fn words_are_done(rt: HostRuntime) {
-    let rows: [Row; 17] = [
+    let rows: [Row; 18] = [
         ("send --cell 88 --repair 0 FILE", FILE, 0, CELLS, 1),
         ("send --cell=88 -r0 --share 0/2", FILE, 0, (&FIRST, b""), 0),
         ("send -c88 -r 0 --from 1 -q", FILE, 0, (&SECOND, b""), 0),
@@ -205,6 +205,8 @@ fn words_are_done(rt: HostRuntime) {
         ("receive", CELLS, 0, FILE, 0),
         ("receive -o FILE --name 895c A B", CELLS, 0, FILE, 2),
         ("receive -o FILE --name 895d", CELLS, 2, OLD, 0),
+        ("receive -o FILE --not 895d --not 88", CELLS, 0, FILE, 0),
+        ("receive -o FILE --name 89 --not 895c", CELLS, 2, OLD, 0),
         ("receive -o FILE", (&FIRST, &SECOND[..87]), 2, OLD, 0),
         ("receive -o FILE", MISNAMED, 2, OLD, 0),
         ("receive", MISNAMED, 2, NOTHING, 0),

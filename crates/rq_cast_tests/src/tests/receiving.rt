@@ -32,6 +32,11 @@ impl<'a> Read for Open<'a> {
 /// How a run ends, what it has seen, and what it writes.
 pub type Ended = (Result<Ending, Stop>, Seen, Vec<u8>);
 
+/// The end of a run that received it.
+pub const WRITTEN: Ending = Ending::Written {
+    stream: [137, 92, 45, 10, 94, 179, 13, 50],
+};
+
 /// Receives over a table, by a window of so many parts, what a reader brings of streams that begin so.
 pub fn received<R: Read + Drop>(
     alloc: Global,
@@ -48,6 +53,7 @@ pub fn received<R: Read + Drop>(
         key: &key,
         table,
         name,
+        passed: &[],
     };
     let mut seen = Seen::default();
     let ended = run_receive(
@@ -92,7 +98,7 @@ fn cells_among_other_bytes_are_received(rt: HostRuntime) {
             most,
         };
         let (ended, told, out) = received(alloc, &table, &[137, 92], 2, reader);
-        assert_eq!(rt; (ended, told), (Ok(Ending::Written), seen));
+        assert_eq!(rt; (ended, told), (Ok(WRITTEN), seen));
         assert_eq!(rt; out.as_slice(), OBJECT.as_slice());
     }
 }
@@ -154,7 +160,7 @@ fn forged_cells_delay_a_run(rt: HostRuntime) {
         let parts: [&[u8]; 4] = [first.as_slice(), &SECOND, &FIRST, &SECOND];
         let bytes = joined(alloc, &parts).expect(&rt, "bytes");
         let (ended, told, out) = received(alloc, &table, b"", 2, bytes.as_slice());
-        assert_eq!(rt; (ended, told), (Ok(Ending::Written), seen));
+        assert_eq!(rt; (ended, told), (Ok(WRITTEN), seen));
         assert_eq!(rt; out.as_slice(), OBJECT.as_slice());
     }
 }

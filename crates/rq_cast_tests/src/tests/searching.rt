@@ -40,6 +40,7 @@ fn find(
         key: &key,
         table: &table,
         name: &[],
+        passed: &[],
     };
     let mut search = CellSearch::new(alloc, &wanted);
     let (mut fed, mut gone, mut damaged) = (0, 0usize, 0usize);

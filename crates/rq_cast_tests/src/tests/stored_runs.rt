@@ -1,6 +1,6 @@
 //! Runs of receivers by the model of `compare/cells.py`, as `compare/damage store` prints them.
-use crate::tests::runs::Run;
-use rq_cast::{Ending, Seen};
+use crate::tests::runs::{Ending, Run};
+use rq_cast::Seen;
 
 pub const RUNS: [Run; 12] = [
     Run {

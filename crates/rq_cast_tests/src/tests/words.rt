@@ -215,6 +215,10 @@ fn wrong_words_are_named(rt: HostRuntime) {
             "'--progress' cannot be used with '--json'",
         ),
         ("receive --name b", "'b' for '--name <HEX>'"),
+        (
+            "receive --not 01 --not 0 --name 02",
+            "'0' for '--not <HEX>'",
+        ),
         ("receive --window 0", "'0' for '--window <PARTS>'"),
         ("receive --window 1025 -q --json", "'1025'"),
         ("receive --output", "'--output <FILE>'"),

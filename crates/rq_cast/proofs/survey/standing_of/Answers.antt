@@ -1,4 +1,4 @@
-use Rattle.std.proofs.Common.{◌≡◌, [], ◌++◌, length, sym, ap, ◌∙◌, arith, append-nil}
+use Rattle.std.proofs.Common.{[], ◌++◌, length, sym, ap, ◌∙◌, append-nil}
 use Rattle.rq_cast.specs.Reading.{chunk_length}
 use Rattle.rq_cast.specs.Received.{wish_over}
 use Rattle.rq_cast.specs.Searching.{counted}
@@ -7,7 +7,7 @@ use Rattle.rq_cast.proofs.survey.standing_of.Goals as goal
 
 pub returns-clause-standing : goal.returns-clause-standing
 returns-clause-standing c =
-    let w = wish_over c.args.table.now c.args.key.now c.args.head.now.stream in
+    let w = wish_over c.args.table.now c.args.key.now c.args.head.now.stream [] in
     let (given, fed, count) = c.in_ok-written.ensures.feeds c.args.table.now w c.args.window (c.new-receiver.ensures.fed chunk_length) in
     let e = ends c.args.table.now w c.args.window chunk_length c.args.bytes.now given c.feed_all.new.receiver fed c.all_seen.result c.all_seen.ensures
     c.in_ok-written.ensures.sound c.ending.result c.ending.ensures in

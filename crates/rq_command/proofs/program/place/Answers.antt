@@ -19,7 +19,7 @@ returns-then-not-is_whole-clause-failures g c = (
 pub returns-in_err-finish-clause-same : goal.returns-in_err-finish-clause-same
 returns-in_err-finish-clause-same g c =
     let p = err_from_is_err_and c.from_residual.result c.from_residual.ensures.1 in
-    inr (whole c.args.ended (sym c.is_whole.ensures ∙ c.if-not-is_whole.false), p.1 ∙ ap (λ s. Err s) (p.2 ∙ c.in_err-finish.ensures.fault))
+    inr (sym c.is_whole.ensures ∙ c.if-not-is_whole.false, p.1 ∙ ap (λ s. Err s) (p.2 ∙ c.in_err-finish.ensures.fault))
 
 pub returns-in_err-finish-clause-placed : goal.returns-in_err-finish-clause-placed
 returns-in_err-finish-clause-placed g c =
