@@ -93,7 +93,7 @@ EndsWith table w width most past parts seen receives Written = has_last parts �
 EndsWith table w width most past parts seen receives (Incomplete number missing) =
     (has_last parts ≡ false) × (number ≡ length parts) × LacksSoFar table w width most past parts seen receives missing
 
--- So it is of all that was read but for what the last read brought at most, which were n bytes.
+-- So it is of all that was read but for what the last read brought at most, which were n bytes. The last part isn't settled by it.
 pub record StopsReceiving (table : List TableRow) (w : Wish) (width : ℕ) (before after : Option (List ℕ)) (n : ℕ) (parts : List Settled) (seen : Seen) : Type 0
   where
     pub past : List ℕ
@@ -101,6 +101,35 @@ pub record StopsReceiving (table : List TableRow) (w : Wish) (width : ℕ) (befo
     pub read : Consumes before after (past ++ last)
     pub brought : IsLastRead last n
     pub receives : ReceivesSoFar table w width chunk_length past parts seen
+    pub not_all : has_last parts ≡ false
+
+-- A call failed. All parts are written that what was read settles without what the last read brought at most, which were n bytes, and the last one isn't
+-- among them. Behind these stands a beginning of what all that was read settles more.
+pub record FailsReceiving (table : List TableRow) (w : Wish) (width : ℕ) (before after : Option (List ℕ)) (n : ℕ) (seen : Seen) (there then : Option (List ℕ))
+    : Type 0 where
+  pub earlier : List ℕ
+  pub last : List ℕ
+  pub read : Consumes before after (earlier ++ last)
+  pub brought : IsLastRead last n
+  pub parts_before : List Settled
+  pub seen_before : Seen
+  pub before_last : ReceivesSoFar table w width chunk_length earlier parts_before seen_before
+  pub not_all : has_last parts_before ≡ false
+  pub parts : List Settled
+  pub receives : ReceivesSoFar table w width chunk_length (earlier ++ last) parts seen
+  pub more : List ℕ
+  pub longer : bytes_of parts ≡ bytes_of parts_before ++ more
+  pub count : ℕ
+  pub written : Appends there then (bytes_of parts_before ++ take count more)
+
+-- All parts are written that what was read settles.
+pub record WritesAllRead (table : List TableRow) (w : Wish) (width : ℕ) (before after : Option (List ℕ)) (seen : Seen) (there then : Option (List ℕ)) : Type 0
+  where
+    pub past : List ℕ
+    pub read : Consumes before after past
+    pub parts : List Settled
+    pub receives : ReceivesSoFar table w width chunk_length past parts seen
+    pub written : Appends there then (bytes_of parts)
 
 -- The last part is settled by what was read, and without the last read, which brought n bytes, it wasn't.
 pub record ReceivesAll (table : List TableRow) (w : Wish) (width : ℕ) (before after : Option (List ℕ)) (n : ℕ) (parts : List Settled) (seen : Seen) : Type 0 where
@@ -128,7 +157,8 @@ pub record ReceivesSome (table : List TableRow) (w : Wish) (width : ℕ) (before
   pub ends : EndsWith table w width chunk_length past parts seen receives ending
 
 -- How a run ends that reads this input, whose last read brought n bytes, and behind whose writer this stood before and after: with all parts written; with
--- those that are settled at the end of the input; so too for want of memory; or at a failed call, where a beginning of them is written. And what was seen.
+-- those that are settled at the end of the input; for want of memory with those that were settled before the last read; or at a failed call, where of what
+-- the last read settled a beginning may be written. And what was seen.
 abbrev pub EndsReceiving : List TableRow → Key → List ℕ → ℕ → Result Ending Stop → Seen → Option (List ℕ) → Option (List ℕ) → ℕ
     → Option (List ℕ) → Option (List ℕ) → Type 0
 EndsReceiving table key name width (Ok Written) seen before after n there then =
@@ -140,8 +170,7 @@ EndsReceiving table key name width (Err (Refused e)) seen before after n there t
     (e ≡ OutOfMemory) × (parts : List Settled) × StopsReceiving table (wish_over table key name) width before after n parts seen
     × Appends there then (bytes_of parts)
 EndsReceiving table key name width (Err Fault) seen before after n there then =
-    (parts : List Settled) × (count : ℕ) × StopsReceiving table (wish_over table key name) width before after n parts seen
-    × Appends there then (take count (bytes_of parts))
+    FailsReceiving table (wish_over table key name) width before after n seen there then
 
 -- ---- failed calls
 

@@ -4,7 +4,8 @@ ghost use Rattle.std.specs.Io.KnownBytes.{Appends};
 ghost use Rattle.rq_streams.specs.Counted.{failed_count, inner};
 ghost use Rattle.rq_streams.specs.Ends.{failed_calls};
 ghost use Rattle.rq_cast.specs.Input.{counted_of, source, last_length};
-ghost use Rattle.rq_cast.specs.Received.{EndsAtFailedCall, EndsReceiving};
+ghost use Rattle.rq_cells.specs.Wanted.{wish_of};
+ghost use Rattle.rq_cast.specs.Received.{EndsAtFailedCall, EndsReceiving, WritesAllRead};
 
 use crate::input::{CHUNK, Input};
 use crate::progress::Progress;
@@ -82,6 +83,12 @@ pub fn run_receive<R: Read, W: Write, P: Progress>(
     // last one before the last read that was made.
     ensures ends { EndsReceiving wanted.now.table.now wanted.now.key.now wanted.now.name.now window result seen.new
         (R.remaining (source input.old)) (R.remaining (source input.new)) (last_length input.new)
+        (W.contents (inner writer.old)) (W.contents (inner writer.new)) }
+
+    // What is settled is written before the next read.
+    ensures unread { failed_count (counted_of input.old) < failed_count (counted_of input.new)
+        → WritesAllRead wanted.now.table.now (wish_of wanted.now) window
+        (R.remaining (source input.old)) (R.remaining (source input.new)) seen.new
         (W.contents (inner writer.old)) (W.contents (inner writer.new)) }
 {
     let mut chunk = [0u8; CHUNK];

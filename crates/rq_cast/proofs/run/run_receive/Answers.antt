@@ -11,7 +11,7 @@ use Rattle.rq_cast.specs.Input.{counted_of, source, last_length}
 use Rattle.rq_cast.specs.Receiving.{HandsOutOf}
 use Rattle.rq_cast.specs.Received.{EndsReceiving, EndsAtFailedCall}
 use Rattle.rq_cast.proofs.Failing.{counted_calls}
-use Rattle.rq_cast.proofs.Runs.{runs_first, stops_unread, ends_unread, stops_unfed, stops_unwritten, ends_written, runs_on}
+use Rattle.rq_cast.proofs.Runs.{runs_first, stops_unread, writes_all_read, ends_unread, stops_unfed, stops_unwritten, ends_written, runs_on}
 use Rattle.rq_cast.proofs.run.run_receive.Given.{Over}
 use Rattle.rq_cast.proofs.run.run_receive.Goals as goal
 use Rattle.rq_cast.proofs.run.run_receive.Goals.{In-Ok}
@@ -38,7 +38,30 @@ returns-in_default-clause-ends g c =
     let w = c.args.wanted.now in
     stops_unread w.table.now w.key.now w.name.now c.args.window (g.R.Read.remaining (source c.args.input.now)) (g.W.Write.contents (inner c.args.writer.now))
     (g.R.Read.remaining (source c.reading.input)) (g.W.Write.contents (inner c.reading.writer)) c.reading._reads c.reading.receiver c.reading.seen
-    c.reading.invariant.running (g.R.Read.remaining (source c.read.new.self)) (last_length c.read.new.self) c.in_default.ensures.bytes
+    c.reading.invariant.running (g.R.Read.remaining (source c.read.new.self)) c.in_default.ensures.bytes (last_length c.read.new.self)
+
+pub returns-in_default-clause-unread : goal.returns-in_default-clause-unread
+returns-in_default-clause-unread g c = λ failed.
+    let w = c.args.wanted.now in
+    writes_all_read w.table.now w.key.now w.name.now c.args.window (g.R.Read.remaining (source c.args.input.now)) (g.W.Write.contents (inner c.args.writer.now))
+    (g.R.Read.remaining (source c.reading.input)) (g.W.Write.contents (inner c.reading.writer)) c.reading._reads c.reading.receiver c.reading.seen
+    c.reading.invariant.running (g.R.Read.remaining (source c.read.new.self)) c.in_default.ensures.bytes
+
+-- no read failed
+pub returns-then-n-eq0-clause-unread : goal.returns-then-n-eq0-clause-unread
+returns-then-n-eq0-clause-unread g c = λ failed. absurd (omega (arith, failed, c.in-Ok.ensures.ok, c.reading.invariant.reads))
+
+pub returns-in_err-feed-clause-unread : goal.returns-in_err-feed-clause-unread
+returns-in_err-feed-clause-unread g c = λ failed. absurd (omega (arith, failed, c.in-Ok.ensures.ok, c.reading.invariant.reads))
+
+pub returns-in_err-write_part-clause-unread : goal.returns-in_err-write_part-clause-unread
+returns-in_err-write_part-clause-unread g c = λ failed. absurd (omega (arith, failed, c.in-Ok.ensures.ok, c.reading.invariant.reads))
+
+pub returns-then-has_ended-clause-unread : goal.returns-then-has_ended-clause-unread
+returns-then-has_ended-clause-unread g c = λ failed. absurd (omega (arith, failed, c.in-Ok.ensures.ok, c.reading.invariant.reads))
+
+pub returns-clause-unread : goal.returns-clause-unread
+returns-clause-unread g c = λ failed. absurd (omega (arith, failed, c.reading.invariant.reads))
 
 pub returns-then-n-eq0-clause-failures : goal.returns-then-n-eq0-clause-failures
 returns-then-n-eq0-clause-failures g c =
