@@ -20,7 +20,7 @@ use Rattle.rq_cast.specs.declared.seen.Seen.{Seen}
 use Rattle.rq_cast.specs.Searching.{counted, SeesNoWanted}
 use Rattle.rq_cast.specs.Reading.{chunk_length, IsLastRead}
 use Rattle.rq_cast.specs.Streams.{Parts, AreSenders}
-use Rattle.rq_cast.specs.Windows.{Settled, bytes_of, has_last, Settles, Lacks}
+use Rattle.rq_cast.specs.Windows.{Settled, bytes_of, has_last, Settles, CountsDropped, StandsExactly, IsLed, Lacks}
 
 -- which cells are wanted, over a table
 abbrev pub wish_over : List TableRow → Key → List ℕ → Wish
@@ -61,11 +61,18 @@ pub record IsSeen (table : List TableRow) (w : Wish) (most : ℕ) (past : List �
 
 -- ---- what is settled
 
--- These parts are settled of the cells of the stream that was found, with a window of so many parts, and this was seen.
+-- These parts are settled of the cells of the stream that was found, with a window of so many parts, and this was seen. Cells count as dropped that were of
+-- parts settled when they came, or of parts behind the window as it stood then. As long as the last part isn't settled, the next one's head doesn't lead by
+-- cells that determine it.
 pub record Receives (table : List TableRow) (w : Wish) (width most : ℕ) (past : List ℕ) (first : Head) (parts : List Settled) (seen : Seen) : Type 0 where
   pub received : IsReceived w most past first
   pub settles : Settles table first.stream width (cells_from w most past first received) parts
   pub sees : IsSeen table w most past first received seen
+  pub drops : CountsDropped table width (cells_from w most past first received) parts seen.behind seen.ahead
+  pub exactly : (s : Parts) → AreSenders table first.stream s (cells_from w most past first received)
+      → StandsExactly table s width (cells_from w most past first received) drops.stands
+  -- whoever sent them
+  pub unled : has_last parts ≡ false → IsLed table width (cells_from w most past first received) drops.stands parts → ⊥
 
 -- So it is of what came, or no wanted cell is whole in it and nothing settled.
 abbrev pub ReceivesOf : List TableRow → Wish → ℕ → ℕ → List ℕ → List Settled → Seen → Option Head → Type 0
@@ -80,7 +87,7 @@ abbrev pub LacksBehind : (table : List TableRow) (w : Wish) (width most : ℕ) (
     → ReceivesOf table w width most past parts seen first → Option ℕ → Type 0
 LacksBehind table w width most past parts seen None none missing = missing ≡ None
 LacksBehind table w width most past parts seen (Some first) receives missing =
-    Lacks table first.stream width (cells_from w most past first receives.received) (length parts) missing
+    Lacks table first.stream width (cells_from w most past first receives.received) receives.drops.stands (length parts) missing
 
 abbrev pub LacksSoFar : (table : List TableRow) (w : Wish) (width most : ℕ) (past : List ℕ) (parts : List Settled) (seen : Seen)
     → ReceivesSoFar table w width most past parts seen → Option ℕ → Type 0
