@@ -322,7 +322,7 @@ class Part:
         self.rival = (rival, count) if count > 0 else None
         if rival != head or count <= self.cells:
             return False
-        self.rival, self.cells = (self.head, self.cells), count
+        self.rival, self.cells = (self.head, self.cells) if self.cells else None, count
         return True
 
     def take(self, place):

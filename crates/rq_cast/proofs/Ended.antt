@@ -77,7 +77,23 @@ module _ (table : List TableRow) (w : Wish) (width most : ℕ) (past given : Lis
       }
 
   pub receives : (seen : Seen) → SeesAll now seen → Receives table w width most past first taken.parts seen
-  receives seen sees = record { received = received; settles = taken.settles; sees = sees_all seen sees }
+  receives seen sees =
+      let t = taken in
+      record {
+        received = received;
+        settles = t.settles;
+        sees = sees_all seen sees;
+        drops = record {
+          stands = t.drops.stands;
+          as_many = t.drops.as_many;
+          each = t.drops.each;
+          behind_is = sees.behind ∙ t.drops.behind_is;
+          ahead_is = sees.ahead ∙ t.drops.ahead_is;
+        };
+        exactly = λ parts senders.
+            let st = t.standing parts senders in record { reached = st.0; moves = st.1; same = st.3 };
+        unled = λ more. t.unled (t.ended ∙ more);
+      }
 
 -- ---- of a receiver
 
@@ -163,7 +179,7 @@ module _ (table : List TableRow) (w : Wish) (width most : ℕ) (past given : Lis
       let counted : now.window.names.count ≡ length (parts_of now is) = t.names.count ∙ length-map (parts_of now is) (λ (p : Settled). p.head.name) in (
         (some_so_far now is).1.ended ∙ open_still,
         l.0 ∙ counted,
-        subst (λ k. Lacks table (receiving now is).found.head.stream width (cells table w width most past given now (receiving now is)) k missing) counted
+        subst (λ k. Lacks table (receiving now is).found.head.stream width (cells table w width most past given now (receiving now is)) t.drops.stands k missing) counted
             (l.1 table (receiving now is).found.head.stream width (cells table w width most past given now (receiving now is)) given
             (sound_window sound now is) (ap (λ (o : Option StreamReceiver). unwrap_or (option_map (λ k. k.window.ended) o) false) (sym is) ∙ open_still) t),
       )

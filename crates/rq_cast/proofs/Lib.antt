@@ -4,6 +4,7 @@ pub mod Answering
 pub mod AttemptSteps
 pub mod Attempts
 pub mod ChosenHeads
+pub mod Dropped
 pub mod Ended
 pub mod EndsWith
 pub mod Failing
@@ -11,11 +12,14 @@ pub mod Fed
 pub mod Groups
 pub mod KnownNames
 pub mod KnownSymbols
+pub mod Leads
 pub mod LeastEnough
+pub mod LedParts
 pub mod Listed
 pub mod Needed
 pub mod PartNames
 pub mod PartTaken
+pub mod PartVotes
 pub mod Prepared
 pub mod Receiving
 pub mod RoundIds
@@ -36,10 +40,11 @@ pub mod Shaped
 pub mod StreamSteps
 pub mod SymbolDigests
 pub mod TakenPackets
-pub mod WindowCounts
+pub mod Votes
 pub mod WindowFirst
 pub mod WindowLacks
 pub mod WindowLaw
 pub mod WindowPlaces
 pub mod WindowSenders
 pub mod WindowSteps
+pub mod WindowVotes

@@ -3,7 +3,6 @@ use Rattle.std.proofs.Common.{◌≡◌, inl, inr, ℕ, ◌+◌, ◌-◌, ◌^�
 use Rattle.std.specs.Prelude.{◌⊎◌, true, false}
 use Rattle.std.specs.Io.KnownBytes.{Consumes, Appends, Keeps, IsAtEnd}
 use Rattle.std.proofs.KnownBytes.{Consumes-trans, Consumes-kept, Consumes-nil, Appends-trans, Appends-nil}
-use Rattle.std.proofs.Math.Seq.{take-append-add, take-length}
 use Rattle.std.proofs.lemmas.Bool.{true≢false}
 use Rattle.rq_bytes.specs.declared.error.Error.{Error}
 use Rattle.rq_bytes.specs.declared.error.Error.TheVariants.{OutOfMemory}
@@ -17,7 +16,7 @@ use Rattle.rq_cast.specs.declared.seen.Seen.{Seen}
 use Rattle.rq_cast.specs.Reading.{chunk_length}
 use Rattle.rq_cast.specs.Windows.{Settled, bytes_of, has_last}
 use Rattle.rq_cast.specs.Receiving.{HasFed, Feeds, HandsOutOf, Shows, IsSoundReceiver, has_ended, ready_of, TellsEnding}
-use Rattle.rq_cast.specs.Received.{IsNameOf, ReceivesSoFar, EndsReceiving}
+use Rattle.rq_cast.specs.Received.{IsNameOf, ReceivesSoFar, WritesAllRead, EndsReceiving}
 use Rattle.rq_cast.proofs.Ended.{SoFar, so_far, ends}
 
 module _ (table : List TableRow) (w : Wish) (width : ℕ) (before there : Option (List ℕ)) where
@@ -54,23 +53,40 @@ module _ (table : List TableRow) (w : Wish) (width : ℕ) (before there : Option
     far : (parts : List Settled) × ReceivesSoFar table w width chunk_length k.past parts seen × SoFar table w width chunk_length k.past k.given r k.fed seen k.shows parts
     far = so_far table w width chunk_length k.past k.given r k.fed seen k.shows
 
+    given_is : bytes_of far.0 ≡ k.given
+    given_is = far.2.out ∙ ap (λ xs. k.given ++ xs) k.none ∙ append-nil k.given
+
     all_written : Appends there then (bytes_of far.0)
-    all_written = subst (Appends there then) (sym (append-nil k.given) ∙ ap (λ xs. k.given ++ xs) (sym k.none) ∙ sym far.2.out) k.written
+    all_written = subst (Appends there then) (sym given_is) k.written
+
+    not_all : has_last far.0 ≡ false
+    not_all = far.2.ended ∙ k.open_still
 
     -- a read fails
-    pub stops_unread : (after' : Option (List ℕ)) (came : List ℕ) → Keeps after after' → EndsReceiving table w width (Err Fault) seen before after' came there then
-    stops_unread after' came kept = (
-      far.0,
-      length (bytes_of far.0),
-      record {
-        past = k.past;
+    module _ (after' : Option (List ℕ)) (kept : Keeps after after') where
+      read_still : Consumes before after' k.past
+      read_still = Consumes-kept before after after' k.past k.read kept
+
+      pub stops_unread : (came : List ℕ) → EndsReceiving table w width (Err Fault) seen before after' came there then
+      stops_unread came = record {
+        earlier = k.past;
         last = [];
-        read = subst (Consumes before after') (sym (append-nil k.past)) (Consumes-kept before after after' k.past k.read kept);
+        read = subst (Consumes before after') (sym (append-nil k.past)) read_still;
         brought = inl refl;
-        receives = far.1;
-      },
-      subst (Appends there then) (sym (take-length (bytes_of far.0))) all_written,
-    )
+        parts_before = far.0;
+        seen_before = seen;
+        before_last = far.1;
+        not_all = not_all;
+        parts = far.0;
+        receives = subst (λ xs. ReceivesSoFar table w width chunk_length xs far.0 seen) (sym (append-nil k.past)) far.1;
+        more = [];
+        longer = sym (append-nil (bytes_of far.0));
+        count = 0;
+        written = subst (Appends there then) (sym (append-nil (bytes_of far.0))) all_written;
+      }
+
+      pub writes_all_read : WritesAllRead table w width before after' seen there then
+      writes_all_read = record { past = k.past; read = read_still; parts = far.0; receives = far.1; written = all_written }
 
     -- no byte comes, or as many reads were made as are counted
     module _ (ending : Ending) (told : TellsEnding r ending) (after' : Option (List ℕ)) (came : List ℕ) (kept : Consumes after after' [])
@@ -103,7 +119,7 @@ module _ (table : List TableRow) (w : Wish) (width : ℕ) (before there : Option
       stops_unfed e memory = (
         memory,
         far.0,
-        record { past = k.past; last = piece; read = read_more; brought = inr (refl, few); receives = far.1 },
+        record { past = k.past; last = piece; read = read_more; brought = inr (refl, few); receives = far.1; not_all = not_all },
         all_written,
       )
 
@@ -118,19 +134,23 @@ module _ (table : List TableRow) (w : Wish) (width : ℕ) (before there : Option
         -- not all of it is written
         pub stops_unwritten : (then' : Option (List ℕ)) (count : ℕ) → Appends then then' (take count (ready_of mid))
             → EndsReceiving table w width (Err Fault) seen' before after' piece there then'
-        stops_unwritten then' count begun = (
-          far'.0,
-          length k.given + count,
-          record {
-            past = past';
-            last = [];
-            read = subst (Consumes before after') (sym (append-nil past')) read_more;
-            brought = inl refl;
-            receives = far'.1;
-          },
-          subst (Appends there then') (sym (ap (take (length k.given + count)) far'.2.out ∙ take-append-add k.given (ready_of mid) count))
-              (Appends-trans there then then' k.given (take count (ready_of mid)) k.written begun),
-        )
+        stops_unwritten then' count begun = record {
+          earlier = k.past;
+          last = piece;
+          read = read_more;
+          brought = inr (refl, few);
+          parts_before = far.0;
+          seen_before = seen;
+          before_last = far.1;
+          not_all = not_all;
+          parts = far'.0;
+          receives = far'.1;
+          more = ready_of mid;
+          longer = far'.2.out ∙ ap (λ xs. xs ++ ready_of mid) (sym given_is);
+          count = count;
+          written = subst (λ xs. Appends there then' (xs ++ take count (ready_of mid))) (sym given_is)
+              (Appends-trans there then then' k.given (take count (ready_of mid)) k.written begun);
+        }
 
         -- the parts that are settled with the last one
         done : (stream : List ℕ) (parts : List Settled) (receives : ReceivesSoFar table w width chunk_length past' parts seen') → has_last parts ≡ true
@@ -151,7 +171,7 @@ module _ (table : List TableRow) (w : Wish) (width : ℕ) (before there : Option
             parts_before = far.0;
             seen_before = seen;
             before_last = far.1;
-            not_all = far.2.ended ∙ k.open_still;
+            not_all = not_all;
           },
           out,
         )

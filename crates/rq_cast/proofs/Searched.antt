@@ -22,6 +22,8 @@ sees_more w bytes from n old new heads before are sees =
     record {
       no_cells = sees.cells ∙ before.no_cells;
       no_restarts = sees.restarted ∙ before.no_restarts;
+      none_ahead = sees.ahead ∙ before.none_ahead;
+      none_behind = sees.behind ∙ before.none_behind;
       damaged = omega (arith, sees.damaged, before.damaged, are.damaged, damaged);
       others = omega (arith, sees.others, before.others, are.others, others);
     }
@@ -35,19 +37,6 @@ fed w s new piece given search wish is found left = (
   ap (λ (k : Searching). k.wish) left ∙ wish,
   ap (λ (k : Searching). k.bytes) left ∙ ap (λ xs. drop (place_of search) (s.bytes ++ xs)) is,
 )
-
--- nothing came yet
-pub searches_nothing : (w : Wish) (none : Seen) → none.cells ≡ 0 → none.restarted ≡ 0 → none.damaged ≡ 0 → none.others ≡ 0
-    → IsSearching w [] [] none none
-searches_nothing w none cells restarted damaged others = record {
-  from = 0;
-  within = omega arith;
-  from_there = refl;
-  never = λ rest i below. absurd (omega (arith, below));
-  none = λ i below. absurd (omega (arith, below));
-  seen = λ rest. record { no_cells = cells; no_restarts = restarted; damaged = damaged; others = others };
-  all_seen = record { no_cells = cells; no_restarts = restarted; damaged = damaged; others = others };
-}
 
 -- a piece more came
 module _ (w : Wish) (past kept piece : List ℕ) (settled every : Seen) (u : IsSearching w past kept settled every) where

@@ -8,13 +8,13 @@ use Rattle.std.proofs.lemmas.List.Elements.{All-take, All-contains, Contains-pus
 use Rattle.rq_standard.specs.declared.row.TableRow.{TableRow}
 use Rattle.rq_standard.specs.Configuration.{Configuration, IsAccepted, largest_block}
 use Rattle.rq_standard.specs.Packet.{Packet}
-use Rattle.rq_standard.specs.Headline.{IsPacketOf, IsHonestRun, IsAnswerable}
+use Rattle.rq_standard.specs.Headline.{IsPacketOf, IsHonestRun, IsAnswerable, IsOnlyObject}
 use Rattle.rq_standard.proofs.BlockRows.{answerable_only}
 use Rattle.rq_base.specs.RefusedInput.{checked_configuration}
 use Rattle.rq_cells.specs.declared.head.Head.{Head}
 use Rattle.rq_cells.specs.declared.cell.Cell.{Cell}
 use Rattle.rq_cast.specs.Taken.{received_packets}
-use Rattle.rq_cast.specs.Streams.{Parts, IsCellOf, AreSenders, index_of, Behind, is_in, came_with, Moves, MovesOver}
+use Rattle.rq_cast.specs.Streams.{Parts, IsCellOf, AreSenders, index_of, Reached, is_in, came_with, Moves, MovesOver}
 use Rattle.rq_cast.proofs.TakenPackets.{received_both, first_run}
 
 -- coders take a configuration that is accepted
@@ -26,6 +26,15 @@ checked_by greatest c a =
     let blocks = ne_eqb c.source_blocks 0 (λ zero. omega (arith, a.blocks_positive, zero)) in
     let room = le-ltb greatest (largest_block c) a.in_table in
     rw (size, alignment, aligned, blocks, room) refl
+
+-- each object of a length makes no packets
+pub none_only : (table : List TableRow) (c : Configuration) (object : List ℕ) → object ≢ [] → IsHonestRun table c object [] → IsOnlyObject table c [] object → ⊥
+none_only table c object some run only =
+    not_longer object some (only (map suc object) (record { long = length-map object suc ∙ run.long; nonsingular = run.nonsingular; honest = tt }))
+  where
+    not_longer : (object : List ℕ) → object ≢ [] → map suc object ≡ object → ⊥
+    not_longer [] some same = some refl
+    not_longer (x ∷ xs) some same = absurd (omega (arith, ap (λ l. get_or l 0 0) same))
 
 module _ (table : List TableRow) (stream : List ℕ) (s : Parts) where
   -- the first ones are one sender's too
@@ -47,25 +56,19 @@ module _ (table : List TableRow) (stream : List ℕ) (s : Parts) where
     abbrev c : Configuration
     c = (s.head i).configuration
 
-    not_longer : (object : List ℕ) → object ≢ [] → map suc object ≡ object → ⊥
-    not_longer [] some same = some refl
-    not_longer (x ∷ xs) some same = absurd (omega (arith, ap (λ l. get_or l 0 0) same))
-
     pub none_undetermined : IsAnswerable table c [] → ⊥
     none_undetermined answerable =
         let run : IsHonestRun table c (s.object i) [] = first_run (s.head i) table (s.object i) [] came (all.honest i below) in
-        let other : IsHonestRun table c (map suc (s.object i)) [] =
-        record { long = length-map (s.object i) suc ∙ run.long; nonsingular = run.nonsingular; honest = tt } in
-        not_longer (s.object i) (all.are.full i below)
-        ((answerable_only table c (s.object i) [] all.checked (all.accepted i below) run).0 answerable (map suc (s.object i)) other)
+        none_only table c (s.object i) (all.are.full i below) run
+        ((answerable_only table c (s.object i) [] all.checked (all.accepted i below) run).0 answerable)
 
 -- ---- packets of an object
 
-all_back : (P : Packet → Type 0) (front rest : List Packet) → AllByRecursion P (front ++ rest) → AllByRecursion P rest
+pub all_back : (P : Packet → Type 0) (front rest : List Packet) → AllByRecursion P (front ++ rest) → AllByRecursion P rest
 all_back P [] rest h = h
 all_back P (x ∷ front) rest h = all_back P front rest h.1
 
-all_both : (P : Packet → Type 0) (front rest : List Packet) → AllByRecursion P front → AllByRecursion P rest → AllByRecursion P (front ++ rest)
+pub all_both : (P : Packet → Type 0) (front rest : List Packet) → AllByRecursion P front → AllByRecursion P rest → AllByRecursion P (front ++ rest)
 all_both P [] rest f r = r
 all_both P (x ∷ front) rest f r = (f.0, all_both P front rest f.1 r)
 
@@ -87,7 +90,7 @@ honest_more table h object some came cell run all =
 -- ---- moves of the window
 
 module _ (table : List TableRow) (s : Parts) (width : ℕ) where
-  pub moves_more : (came : List Cell) (old mid new : Behind) (cell : Cell) → MovesOver table s width old came mid → Moves table s width mid cell new
+  unfoldable pub moves_more : (came : List Cell) (old mid new : Reached) (cell : Cell) → MovesOver table s width old came mid → Moves table s width mid cell new
       → MovesOver table s width old (came ++ cell ∷ []) new
   moves_more [] old mid new cell over moves = (new, subst (λ b. Moves table s width b cell new) over moves, refl)
   moves_more (x ∷ came) old mid new cell over moves = (over.0, over.1, moves_more came over.0 mid new cell over.2 moves)
@@ -98,7 +101,7 @@ passed true true x y out = absurd (true≢false (out refl))
 passed true false x y out = refl
 passed false q x y out = refl
 
-pub came_passed : (width : ℕ) (b : Behind) (cell : Cell) → is_in width b.first (index_of cell) ≡ false → (i : ℕ) → came_with width b cell i ≡ b.came i
+pub came_passed : (width : ℕ) (b : Reached) (cell : Cell) → is_in width b.first (index_of cell) ≡ false → (i : ℕ) → came_with width b cell i ≡ b.came i
 came_passed width b cell out i =
     passed (is_in width b.first i) (index_of cell == i) (b.came i ++ (cell ∷ [])) (b.came i)
     (λ same. subst (λ n. is_in width b.first n ≡ false) (eqb-true (index_of cell) i same) out)

@@ -47,7 +47,7 @@ module _ (table : List TableRow) (came more : List Cell) where
 
 -- ---- one part more
 
-either : (a b : Bool) → (a || b) ≡ false → (a ≡ false) × (b ≡ false)
+pub either : (a b : Bool) → (a || b) ≡ false → (a ≡ false) × (b ≡ false)
 either true b is = absurd (true≢false is)
 either false b is = (refl, is)
 

@@ -8,13 +8,14 @@ use Rattle.rq_cast.specs.declared.part_receiver.PartReceiver.{PartReceiver}
 use Rattle.rq_cast.specs.declared.settled.SettledPart.{SettledPart}
 use Rattle.rq_cast.specs.declared.settled.Settling.TheVariants.{Waits, Anew, Settled}
 use Rattle.rq_cast.specs.declared.window.Window.{Window}
-use Rattle.rq_cast.specs.PartReceiving.{IsSound, GivesUp}
+use Rattle.rq_cast.specs.PartReceiving.{IsAttempt, IsSound, GivesUp}
 use Rattle.rq_cast.specs.Settling.{SettlesAs, IsMisplaced}
-use Rattle.rq_cast.specs.Windows.{open_at, IsSoundWindow, IsOpen, HasAll, HasTaken, IsMoving, SettlesIn}
+use Rattle.rq_cast.specs.Windows.{names_of, open_at, IsSoundWindow, IsOpen, HasVoted, HasAll, HasTaken, IsMoving, SettlesIn}
 use Rattle.rq_cast.proofs.PartTaken.{sound_begun}
 use Rattle.rq_cast.proofs.WindowPlaces.{place_here, sound_set, open_begun}
 use Rattle.rq_cast.proofs.WindowSenders.{at_first}
-use Rattle.rq_cast.proofs.WindowSteps.{rested, first_changed, not_misplaced}
+use Rattle.rq_cast.proofs.LedParts.{misplaced_votes}
+use Rattle.rq_cast.proofs.WindowSteps.{attempt_first, rested, first_changed, not_misplaced}
 
 -- ---- what becomes of its place
 
@@ -67,7 +68,7 @@ few_parts table w p sound opened =
 module _ (table : List TableRow) (stream : List ℕ) (width : ℕ) (came : List Cell) (cell : Cell) (given : List ℕ) (old new : Window)
     (m : IsMoving table stream width came cell given old) (sound : IsSoundWindow table old) (slot : Option PartReceiver)
     (places : new.parts.items ≡ set old.parts.items 0 slot) (some : 0 < length old.parts.items) (names : new.names ≡ old.names)
-    (ready : new.ready.items ≡ old.ready.items) (ended : new.ended ≡ old.ended) where
+    (ready : new.ready.items ≡ old.ready.items) (ended : new.ended ≡ old.ended) (behind : new.behind ≡ old.behind) (ahead : new.ahead ≡ old.ahead) where
   abbrev seen : List Cell
   seen = came ++ cell ∷ []
 
@@ -80,8 +81,9 @@ module _ (table : List TableRow) (stream : List ℕ) (width : ℕ) (came : List 
   pub first_waits : new.restarted ≡ old.restarted → SettlesIn table old.names (open_at old 0) Waits slot → HasTaken table stream width seen given new
   first_waits restarted settles =
       let waits = in_waits table old.names (open_at old 0) slot settles in
-      let moving = first_changed table stream width came cell given old m sound new slot places some names ready ended
+      let moving = first_changed table stream width came cell given old m sound new slot places some names ready ended behind ahead
       (λ is. subst (λ o. IfSome o (IsOpen table seen)) (sym waits.0) is)
+      (λ cells has. subst (HasVoted table (Some (names_of m.parts)) cells) (sym waits.0) has)
       (λ s senders b st. (
         subst (HasAll table (s.head b.first) (b.came b.first)) (sym waits.0) (at_first table stream s seen senders b m.parts old st),
         restarted ∙ st.restarted,
@@ -93,9 +95,13 @@ module _ (table : List TableRow) (stream : List ℕ) (width : ℕ) (came : List 
   pub first_anew : old.ended ≡ false → SettlesIn table old.names (open_at old 0) Anew slot → HasTaken table stream width seen given new
   first_anew open_still settles =
       let anew = in_anew table old.names (open_at old 0) slot settles in
-      let moving = first_changed table stream width came cell given old m sound new slot places some names ready ended
+      let moving = first_changed table stream width came cell given old m sound new slot places some names ready ended behind ahead
       (λ is. subst (λ o. IfSome o (IsOpen table seen)) (sym anew.is)
       (open_begun table seen anew.old anew.new anew.gives_up.anew (subst (λ o. IfSome o (IsOpen table seen)) anew.was is)))
+      (λ cells has. subst (HasVoted table (Some (names_of m.parts)) cells) (sym anew.is)
+      (misplaced_votes table (names_of m.parts) cells anew.old (subst (HasVoted table (Some (names_of m.parts)) cells) anew.was has)
+      (subst (λ (o : Option PartReceiver). IfSome o (λ p. IsAttempt p.choice.head p.attempt)) anew.was (attempt_first table old sound))
+      old.names m.names anew.misplaced anew.new anew.gives_up))
       (λ s senders b st. absurd (not_misplaced table stream width came cell given old m sound open_still anew.old anew.was anew.misplaced s senders b st)) in
       rested table stream width came cell given new moving
       (sound_set table old new 0 slot places some count (sound_anew table old.names (old.names.count + 0) (open_at old 0) slot settles (sound.each 0)) sound)

@@ -6,7 +6,7 @@ use Rattle.rq_standard.specs.Headline.{IsHonestRun}
 use Rattle.rq_standard.proofs.BlockRows.{answerable_only}
 use Rattle.rq_cells.specs.declared.cell.Cell.{Cell}
 use Rattle.rq_cast.specs.Taken.{received_packets}
-use Rattle.rq_cast.specs.Streams.{Parts, AreSenders, index_of, Behind, behind_none, is_in, Determine, Writes, MovesOver}
+use Rattle.rq_cast.specs.Streams.{Parts, AreSenders, index_of, Reached, reached_none, is_in, Determine, Writes, MovesOver}
 use Rattle.rq_cast.specs.Windows.{NoWindowDoesBetter}
 use Rattle.rq_cast.proofs.Senders.{senders_first, none_undetermined, honest_more}
 
@@ -20,18 +20,18 @@ module _ (table : List TableRow) (stream : List ℕ) (s : Parts) (width : ℕ) w
   IsHonestAt i cells = IsHonestRun table (s.head i).configuration (s.object i) (received_packets (s.head i) cells)
 
   -- the cells that came while a part was in the window are one sender's, and the first part that isn't settled isn't determined
-  pub record IsRight (b : Behind) : Type 0 where
+  pub record IsRight (b : Reached) : Type 0 where
     pub honest : (i : ℕ) → i < s.count → IsHonestAt i (b.came i)
     pub unwritten : b.first < s.count → Determine table s b.first (b.came b.first) → ⊥
 
-  honest_moved : (before : List Cell) (cell : Cell) → AreSenders table stream s (before ++ cell ∷ []) → (old new : Behind) → Writes table s width old cell new
+  honest_moved : (before : List Cell) (cell : Cell) → AreSenders table stream s (before ++ cell ∷ []) → (old new : Reached) → Writes table s width old cell new
       → ((i : ℕ) → i < s.count → IsHonestAt i (old.came i)) → (i : ℕ) → i < s.count → IsHonestAt i (new.came i)
   honest_moved before cell all old new writes honest i below =
       subst (IsHonestAt i) (sym (writes.came i))
       (of_either (IsHonestAt i) (is_in width old.first i) (index_of cell == i) (old.came i ++ (cell ∷ [])) (old.came i)
       (honest_more table (s.head i) (s.object i) (old.came i) before cell (honest i below) (all.honest i below)) (honest i below))
 
-  right_over : (before cells : List Cell) → AreSenders table stream s (before ++ cells) → (old new : Behind) → MovesOver table s width old cells new → IsRight old
+  right_over : (before cells : List Cell) → AreSenders table stream s (before ++ cells) → (old new : Reached) → MovesOver table s width old cells new → IsRight old
       → IsRight new
   right_over before [] all old new over right = subst IsRight (sym over) right
   right_over before (cell ∷ cells) all old new over right =
@@ -42,7 +42,7 @@ module _ (table : List TableRow) (stream : List ℕ) (s : Parts) (width : ℕ) w
         unwritten = over.1.unwritten;
       })
 
-  right_none : (cells : List Cell) → AreSenders table stream s cells → IsRight behind_none
+  right_none : (cells : List Cell) → AreSenders table stream s cells → IsRight reached_none
   right_none cells all = record {
     honest = (senders_first table stream s [] cells all).honest;
     unwritten = λ below determined. none_undetermined table stream s cells all 0 below determined;
@@ -50,7 +50,7 @@ module _ (table : List TableRow) (stream : List ℕ) (s : Parts) (width : ℕ) w
 
 pub no_window_does_better : NoWindowDoesBetter
 no_window_does_better table stream s width came behind all over below only =
-    let right = right_over table stream s width [] came all behind_none behind over (right_none table stream s width came all) in
+    let right = right_over table stream s width [] came all reached_none behind over (right_none table stream s width came all) in
     let i = behind.first in
     right.unwritten below
     ((answerable_only table (s.head i).configuration (s.object i) (received_packets (s.head i) (behind.came i)) all.checked (all.accepted i below) (right.honest i below)).1 only)

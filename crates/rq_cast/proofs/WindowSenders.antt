@@ -20,9 +20,9 @@ use Rattle.rq_cast.specs.declared.part_receiver.PartReceiver.{PartReceiver}
 use Rattle.rq_cast.specs.declared.window.Window.{Window}
 use Rattle.rq_cast.specs.Parts.{number_of, object_of, seal_of, IsPart}
 use Rattle.rq_cast.specs.Taken.{IsTakenHead, received_packets, IsNamed, IsNamedIn, IsNotNamed, IsOneSender}
-use Rattle.rq_cast.specs.Streams.{Parts, names_before, AreSenders, IsCellOf, index_of, Behind, is_in, came_with, Determine, Writes}
+use Rattle.rq_cast.specs.Streams.{Parts, names_before, AreSenders, IsCellOf, index_of, Reached, is_in, came_with, Determine, Writes}
 use Rattle.rq_cast.specs.PartReceiving.{IsAttempt, HasReceivedAll}
-use Rattle.rq_cast.specs.Windows.{Settled, names_of, open_at, HasAll, StandsBehind, ReceivesCell, restarted_of}
+use Rattle.rq_cast.specs.Windows.{Settled, names_of, open_at, HasAll, StandsAt, ReceivesCell, restarted_of}
 use Rattle.rq_cast.proofs.PartTaken.{unused_all}
 use Rattle.rq_cast.proofs.SettledParts.{names_more}
 use Rattle.rq_cast.proofs.Senders.{checked_by, last_cell, none_undetermined, honest_more}
@@ -49,7 +49,7 @@ module _ (names : List (List ℕ)) (h : Head) (object : List ℕ) (l m : Bool) (
 
 -- ---- cells in the window
 
-in_window : (width first k : ℕ) → k < width → is_in width first (first + k) ≡ true
+pub in_window : (width first k : ℕ) → k < width → is_in width first (first + k) ≡ true
 in_window width first k within =
     (λ i. le-leb first (first + k) (omega arith) i && lt-ltb (first + k) (first + width) (omega (arith, within)) i)
 
@@ -67,7 +67,7 @@ left_there : {X : Type 0} (p q : Bool) (x y : X) → q ≡ false → (if p && q 
 left_there true q x y so = (λ i. if so i then x else y)
 left_there false q x y so = refl
 
-module _ (width : ℕ) (b : Behind) (cell : Cell) (k : ℕ) (within : k < width) (here : index_of cell ≡ b.first + k) where
+module _ (width : ℕ) (b : Reached) (cell : Cell) (k : ℕ) (within : k < width) (here : index_of cell ≡ b.first + k) where
   abbrev i₀ : ℕ
   i₀ = b.first + k
 
@@ -87,8 +87,8 @@ module _ (width : ℕ) (b : Behind) (cell : Cell) (k : ℕ) (within : k < width)
 
 -- ---- what it has of one sender's cells
 
-module _ (table : List TableRow) (stream : List ℕ) (s : Parts) (came : List Cell) (all : AreSenders table stream s came) (b : Behind)
-    (parts : List Settled) (w : Window) (stands : StandsBehind table s b parts w) where
+module _ (table : List TableRow) (stream : List ℕ) (s : Parts) (came : List Cell) (all : AreSenders table stream s came) (b : Reached)
+    (parts : List Settled) (w : Window) (stands : StandsAt table s b parts w) where
   named : (i : ℕ) → i < s.count → IsNamed (s.head i) (s.object i)
   named i below = record { some = all.are.full i below; named = (all.are.each i below).named }
 
@@ -149,7 +149,7 @@ module _ (table : List TableRow) (stream : List ℕ) (s : Parts) (came : List Ce
       module _ (part : Settled) (new : Window) (head : part.head ≡ p.choice.head)
           (is_part : IsPart part.is_last (names_of parts) p.choice.head object part.bytes)
           (places : new.parts.items ≡ drop 1 w.parts.items ++ None ∷ []) (ended : new.ended ≡ part.is_last) (restarted : new.restarted ≡ w.restarted) where
-        abbrev pub after : Behind
+        abbrev pub after : Reached
         after = record { first = first + 1; came = b.came }
 
         name_is : part.head.name ≡ (s.head first).name
@@ -161,7 +161,7 @@ module _ (table : List TableRow) (stream : List ℕ) (s : Parts) (came : List Ce
         last_is : part.is_last ≡ (first + 1 == s.count)
         last_is = last_is_same (names_of parts) p.choice.head object part.is_last (first + 1 == s.count) part.bytes (s.bytes first) is_part part_first
 
-        pub stands_settled : StandsBehind table s after (parts ++ part ∷ []) new
+        pub stands_settled : StandsAt table s after (parts ++ part ∷ []) new
         stands_settled = record {
           count = omega (arith, length-append parts (part ∷ []), stands.count);
           names = names_more table [] part parts ∙ ap (λ ns. ns ++ (part.head.name ∷ [])) stands.names ∙ ap (λ n. names_before s first ++ (n ∷ [])) name_is
@@ -180,7 +180,7 @@ module _ (table : List TableRow) (stream : List ℕ) (s : Parts) (came : List Ce
         }
 
         -- as one sender's are
-        pub writes_settled : (width : ℕ) (old : Behind) (cell : Cell) → Writes table s width old cell b → Writes table s width old cell after
+        pub writes_settled : (width : ℕ) (old : Reached) (cell : Cell) → Writes table s width old cell b → Writes table s width old cell after
         writes_settled width old cell writes = record {
           came = writes.came;
           from = omega (arith, writes.from);
@@ -194,9 +194,9 @@ module _ (table : List TableRow) (stream : List ℕ) (s : Parts) (came : List Ce
 -- ---- a cell of a part in the window
 
 module _ (table : List TableRow) (stream : List ℕ) (s : Parts) (came : List Cell) (cell : Cell) (all : AreSenders table stream s (came ++ cell ∷ []))
-    (width : ℕ) (b : Behind) (parts : List Settled) (old new : Window) (stands : StandsBehind table s b parts old)
+    (width : ℕ) (b : Reached) (parts : List Settled) (old new : Window) (stands : StandsAt table s b parts old)
     (k : ℕ) (within : k < width) (here : index_of cell ≡ b.first + k) where
-  abbrev pub with_cell : Behind
+  abbrev pub with_cell : Reached
   with_cell = record { first = b.first; came = came_with width b cell }
 
   abbrev i₀' : ℕ
@@ -266,7 +266,7 @@ module _ (table : List TableRow) (stream : List ℕ) (s : Parts) (came : List Ce
           (subst (HasAll table (s.head (b.first + j)) (b.came (b.first + j))) (sym (others j apart)) (stands.received j))
     ]
 
-    pub stands_with : StandsBehind table s with_cell parts new
+    pub stands_with : StandsAt table s with_cell parts new
     stands_with = record {
       count = stands.count;
       names = stands.names;

@@ -24,5 +24,6 @@ pub mod Settling
 pub mod Streams
 pub mod Surveyed
 pub mod Taken
+pub mod Votes
 pub mod Windows
 pub mod Writing

@@ -1,5 +1,5 @@
 -- What a receiver of a part makes of its cells, whoever sent them.
-use Rattle.std.specs.Prelude.{◌≡◌, ◌⊎◌, ℕ, ◌<◌, ◌≤◌, List, [], ◌∷◌, ◌++◌, length, map, drop, Contains, Some, None, IfSome, MatchOption, option_map, vec_items, Bool, true, false}
+use Rattle.std.specs.Prelude.{◌≡◌, ◌≢◌, ◌⊎◌, ℕ, ◌+◌, ◌-◌, ◌<◌, ◌≤◌, List, [], ◌∷◌, ◌++◌, length, map, drop, Contains, Option, Some, None, IfSome, MatchOption, option_map, vec_items, Bool, true, false}
 use Rattle.rq_standard.specs.declared.row.TableRow.{TableRow}
 use Rattle.rq_standard.specs.Configuration.{largest_block}
 use Rattle.rq_standard.specs.Packet.{Packet}
@@ -10,9 +10,12 @@ use Rattle.raptorq.specs.Decoder.{state_of}
 use Rattle.rq_cells.specs.declared.head.Head.{Head}
 use Rattle.rq_cells.specs.declared.cell.Cell.{Cell}
 use Rattle.rq_cast.specs.declared.choice.Choice.{Choice}
+use Rattle.rq_cast.specs.declared.choice.Rival.{Rival}
 use Rattle.rq_cast.specs.declared.attempt.Attempt.{Attempt}
 use Rattle.rq_cast.specs.declared.part_receiver.PartReceiver.{PartReceiver}
 use Rattle.rq_cast.specs.Digests.{KnowsDigests}
+use Rattle.rq_cast.specs.Searching.{counted}
+use Rattle.rq_cast.specs.Votes.{HasVotes}
 use Rattle.rq_cast.specs.Taken.{part_index, IsTakenHead, known_packets, received_packets, IsNamed, IsNotNamed, IsNamedIn, IsOneSender}
 
 -- ---- whose cells are received
@@ -29,6 +32,28 @@ EachHead P c = P c.head × IfSome c.rival (λ r. P r.head)
 -- behind a cell with a head: one of those that were there, or that head, where coders take it
 abbrev pub IsHeadBehind : List TableRow → Choice → Head → Head → Type 0
 IsHeadBehind table old h k = (k ≡ old.head) ⊎ (MatchOption old.rival ⊥ (λ r. k ≡ r.head) ⊎ ((k ≡ h) × IsTakenHead table h))
+
+-- As in a majority vote a further head's cells count for it, and against it those of any others: so is the rival behind one more cell with a head that isn't
+-- in use. It is let go with the last one that counts.
+abbrev pub IsNextRival : Option Rival → Head → Option Rival → Type 0
+IsNextRival None h new = new ≡ Some (record { head = h; cells = 1 })
+IsNextRival (Some old) h new =
+    (old.head ≡ h → new ≡ Some (record { head = h; cells = counted (old.cells + 1) }))
+    × (old.head ≢ h → 1 < old.cells → new ≡ Some (record { head = old.head; cells = old.cells - 1 }))
+    × (old.head ≢ h → old.cells ≤ 1 → new ≡ None)
+
+-- The rival takes the place of the head in use with a cell of its own, where more of its cells count. That one is its rival then, if any of its cells counts.
+abbrev pub TakesPlace : Choice → Head → Bool → Choice → Type 0
+TakesPlace old h true new =
+    (n : ℕ) × (old.rival ≡ Some (record { head = h; cells = n })) × (old.cells < n) × (new.head ≡ h) × (new.cells ≡ n)
+    × (0 < old.cells → new.rival ≡ Some (record { head = old.head; cells = old.cells })) × (old.cells ≡ 0 → new.rival ≡ None)
+TakesPlace old h false new = (new ≡ old) × IfSome old.rival (λ r. r.head ≡ h → r.cells ≤ old.cells)
+
+-- One more cell has a head that isn't in use. It counts, if coders take its configuration, and that head may be in use now.
+abbrev pub CountsOther : List TableRow → Choice → Head → Bool → Choice → Type 0
+CountsOther table old h changed new =
+    ((IsTakenHead table h → ⊥) × (new ≡ old) × (changed ≡ false))
+    ⊎ (IsTakenHead table h × (rival : Option Rival) × IsNextRival old.rival h rival × TakesPlace (record old { rival = rival }) h changed new)
 
 -- ---- an attempt at a part, which takes its packets
 
@@ -77,6 +102,7 @@ pub record IsSound (table : List TableRow) (index : ℕ) (p : PartReceiver) : Ty
 -- before any cell, with this head
 pub record IsUnused (table : List TableRow) (h : Head) (p : PartReceiver) : Type 0 where
   pub head : p.choice.head ≡ h
+  pub uncounted : p.choice.cells ≡ 0
   pub alone : p.choice.rival ≡ None
   pub follows : FollowsRun table [] (state_of p.attempt.decoder)
   pub restarted : p.restarted ≡ 0
@@ -88,6 +114,7 @@ pub record BeginsAnew (table : List TableRow) (old new : PartReceiver) : Type 0 
   pub attempt : IsAttempt old.choice.head new.attempt
   pub follows : FollowsRun table [] (state_of new.attempt.decoder)
   pub open_still : new.attempt.object ≡ None
+  pub restarted : new.restarted ≡ counted (old.restarted + 1)
 
 -- so it is where an attempt fails, and none of the cells with the head in use counts from then on
 pub record GivesUp (table : List TableRow) (old new : PartReceiver) : Type 0 where
@@ -119,8 +146,9 @@ pub record HasReceivedAll (table : List TableRow) (h : Head) (came : List Cell) 
   pub follows : FollowsRun table (received_packets h came) (state_of p.attempt.decoder)
   pub restarted : p.restarted ≡ 0
 
--- It takes one cell more: of one sender's cells each.
+-- It takes one cell more: of one sender's cells each, and of any with a head that leads.
 pub record TakesCell (table : List TableRow) (old : PartReceiver) (cell : Cell) (new : PartReceiver) : Type 0 where
   pub whoever : (first : Head) (came : List Cell) → HasReceived table first came old → HasReceived table first (came ++ cell ∷ []) new
   pub one_sender : (h : Head) (came : List Cell) → IsOneSender table h (came ++ cell ∷ []) → HasReceivedAll table h came old
       → HasReceivedAll table h (came ++ cell ∷ []) new
+  pub votes : (names : Option (List (List ℕ))) (came : List Cell) → HasVotes table names came old → HasVotes table names (came ++ cell ∷ []) new

@@ -21,7 +21,7 @@ use Rattle.rq_cast.specs.declared.seen.Seen.{Seen}
 use Rattle.rq_cast.specs.Searching.{counted, SeesNoWanted}
 use Rattle.rq_cast.specs.Reading.{chunk_length, IsLastRead}
 use Rattle.rq_cast.specs.Streams.{Parts, AreSenders}
-use Rattle.rq_cast.specs.Windows.{Settled, bytes_of, has_last, Settles, Lacks}
+use Rattle.rq_cast.specs.Windows.{Settled, bytes_of, has_last, Settles, CountsDropped, StandsExactly, IsLed, Lacks}
 
 -- which cells are wanted, over a table
 abbrev pub wish_over : List TableRow → Key → List ℕ → List (List ℕ) → Wish
@@ -62,11 +62,18 @@ pub record IsSeen (table : List TableRow) (w : Wish) (most : ℕ) (past : List �
 
 -- ---- what is settled
 
--- These parts are settled of the cells of the stream that was found, with a window of so many parts, and this was seen.
+-- These parts are settled of the cells of the stream that was found, with a window of so many parts, and this was seen. Cells count as dropped that were of
+-- parts settled when they came, or of parts behind the window as it stood then. As long as the last part isn't settled, the next one's head doesn't lead by
+-- cells that determine it.
 pub record Receives (table : List TableRow) (w : Wish) (width most : ℕ) (past : List ℕ) (first : Head) (parts : List Settled) (seen : Seen) : Type 0 where
   pub received : IsReceived w most past first
   pub settles : Settles table first.stream width (cells_from w most past first received) parts
   pub sees : IsSeen table w most past first received seen
+  pub drops : CountsDropped table width (cells_from w most past first received) parts seen.behind seen.ahead
+  pub exactly : (s : Parts) → AreSenders table first.stream s (cells_from w most past first received)
+      → StandsExactly table s width (cells_from w most past first received) drops.stands
+  -- whoever sent them
+  pub unled : has_last parts ≡ false → IsLed table width (cells_from w most past first received) drops.stands parts → ⊥
 
 -- So it is of what came, or no wanted cell is whole in it and nothing settled.
 abbrev pub ReceivesOf : List TableRow → Wish → ℕ → ℕ → List ℕ → List Settled → Seen → Option Head → Type 0
@@ -81,7 +88,7 @@ abbrev pub LacksBehind : (table : List TableRow) (w : Wish) (width most : ℕ) (
     → ReceivesOf table w width most past parts seen first → Option ℕ → Type 0
 LacksBehind table w width most past parts seen None none missing = missing ≡ None
 LacksBehind table w width most past parts seen (Some first) receives missing =
-    Lacks table first.stream width (cells_from w most past first receives.received) (length parts) missing
+    Lacks table first.stream width (cells_from w most past first receives.received) receives.drops.stands (length parts) missing
 
 abbrev pub LacksSoFar : (table : List TableRow) (w : Wish) (width most : ℕ) (past : List ℕ) (parts : List Settled) (seen : Seen)
     → ReceivesSoFar table w width most past parts seen → Option ℕ → Type 0
@@ -98,7 +105,7 @@ EndsWith table w width most past parts seen receives (Written stream) = (has_las
 EndsWith table w width most past parts seen receives (Incomplete number missing) =
     (has_last parts ≡ false) × (number ≡ length parts) × LacksSoFar table w width most past parts seen receives missing
 
--- So it is of all that was read but for what the last read brought at most.
+-- So it is of all that was read but for what the last read brought at most. The last part isn't settled by it.
 pub record StopsReceiving (table : List TableRow) (w : Wish) (width : ℕ) (before after : Option (List ℕ)) (came : List ℕ) (parts : List Settled) (seen : Seen) : Type 0
   where
     pub past : List ℕ
@@ -106,6 +113,36 @@ pub record StopsReceiving (table : List TableRow) (w : Wish) (width : ℕ) (befo
     pub read : Consumes before after (past ++ last)
     pub brought : IsLastRead last came
     pub receives : ReceivesSoFar table w width chunk_length past parts seen
+    pub not_all : has_last parts ≡ false
+
+-- A call failed. All parts are written that what was read settles without what the last read brought at most, and the last one isn't among
+-- them. Behind these stands a beginning of what all that was read settles more.
+pub record FailsReceiving (table : List TableRow) (w : Wish) (width : ℕ) (before after : Option (List ℕ)) (came : List ℕ) (seen : Seen)
+    (there then : Option (List ℕ))
+    : Type 0 where
+  pub earlier : List ℕ
+  pub last : List ℕ
+  pub read : Consumes before after (earlier ++ last)
+  pub brought : IsLastRead last came
+  pub parts_before : List Settled
+  pub seen_before : Seen
+  pub before_last : ReceivesSoFar table w width chunk_length earlier parts_before seen_before
+  pub not_all : has_last parts_before ≡ false
+  pub parts : List Settled
+  pub receives : ReceivesSoFar table w width chunk_length (earlier ++ last) parts seen
+  pub more : List ℕ
+  pub longer : bytes_of parts ≡ bytes_of parts_before ++ more
+  pub count : ℕ
+  pub written : Appends there then (bytes_of parts_before ++ take count more)
+
+-- All parts are written that what was read settles.
+pub record WritesAllRead (table : List TableRow) (w : Wish) (width : ℕ) (before after : Option (List ℕ)) (seen : Seen) (there then : Option (List ℕ)) : Type 0
+  where
+    pub past : List ℕ
+    pub read : Consumes before after past
+    pub parts : List Settled
+    pub receives : ReceivesSoFar table w width chunk_length past parts seen
+    pub written : Appends there then (bytes_of parts)
 
 -- The last part of the stream is settled by what was read, and without the last read it wasn't.
 pub record ReceivesAll (table : List TableRow) (w : Wish) (width : ℕ) (before after : Option (List ℕ)) (last : List ℕ) (parts : List Settled) (stream : List ℕ)
@@ -133,7 +170,8 @@ pub record ReceivesSome (table : List TableRow) (w : Wish) (width : ℕ) (before
   pub ends : EndsWith table w width chunk_length past parts seen receives ending
 
 -- How a run ends that reads this input, whose last read brought these bytes, and behind whose writer this stood before and after: with all parts written; with
--- those that are settled at the end of the input; so too for want of memory; or at a failed call, where a beginning of them is written. And what was seen.
+-- those that are settled at the end of the input; for want of memory with those that were settled before the last read; or at a failed call, where of what
+-- the last read settled a beginning may be written. And what was seen.
 abbrev pub EndsReceiving : List TableRow → Wish → ℕ → Result Ending Stop → Seen → Option (List ℕ) → Option (List ℕ) → List ℕ
     → Option (List ℕ) → Option (List ℕ) → Type 0
 EndsReceiving table w width (Ok (Written stream)) seen before after came there then =
@@ -144,9 +182,7 @@ EndsReceiving table w width (Ok (Incomplete number missing)) seen before after c
 EndsReceiving table w width (Err (Refused e)) seen before after came there then =
     (e ≡ OutOfMemory) × (parts : List Settled) × StopsReceiving table w width before after came parts seen
     × Appends there then (bytes_of parts)
-EndsReceiving table w width (Err Fault) seen before after came there then =
-    (parts : List Settled) × (count : ℕ) × StopsReceiving table w width before after came parts seen
-    × Appends there then (take count (bytes_of parts))
+EndsReceiving table w width (Err Fault) seen before after came there then = FailsReceiving table w width before after came seen there then
 
 -- ---- failed calls
 

@@ -11,6 +11,8 @@ counted n = min n (2 ^ 64 - 1)
 pub record SeesBefore (w : Wish) (bytes : List ℕ) (n : ℕ) (seen : Seen) : Type 0 where
   pub no_cells : seen.cells ≡ 0
   pub no_restarts : seen.restarted ≡ 0
+  pub none_ahead : seen.ahead ≡ 0
+  pub none_behind : seen.behind ≡ 0
   pub damaged : seen.damaged ≡ counted (damaged_before w bytes n)
   pub others : seen.others ≡ counted (unwanted_before w bytes n)
 

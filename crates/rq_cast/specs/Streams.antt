@@ -1,5 +1,5 @@
 -- A stream of parts, one sender's cells of it, and which of them a receiver with a window takes.
-use Rattle.std.specs.Prelude.{◌≡◌, ◌≢◌, ◌+◌, ℕ, ◌<◌, ◌≤◌, List, [], ◌∷◌, ◌++◌, map, All, Bool, if◌then◌else◌, ◌==◌, ◌&&◌, nat_le, nat_lt}
+use Rattle.std.specs.Prelude.{◌≡◌, ◌≢◌, ◌+◌, ℕ, ◌<◌, ◌≤◌, List, [], ◌∷◌, ◌++◌, map, All, Bool, true, false, Option, Some, None, if◌then◌else◌, ◌==◌, ◌&&◌, nat_le, nat_lt}
 use Rattle.std.specs.List.{range_with_len}
 use Rattle.rq_standard.specs.declared.row.TableRow.{TableRow}
 use Rattle.rq_standard.specs.TableRows.{IsTable, greatest_size}
@@ -52,20 +52,20 @@ pub record AreSenders (table : List TableRow) (stream : List ℕ) (s : Parts) (c
 -- ---- the window
 
 -- what a receiver has behind some cells: the index of the first part that isn't written, and of each part the cells that came while it was in the window
-pub record Behind : Type 0 where
+pub record Reached : Type 0 where
   pub first : ℕ
   pub came : ℕ → List Cell
 
 -- before any cell
-abbrev pub behind_none : Behind
-behind_none = record { first = 0; came = λ i. [] }
+abbrev pub reached_none : Reached
+reached_none = record { first = 0; came = λ i. [] }
 
 -- a part is in a window of so many parts from the first unwritten one on
 abbrev pub is_in : ℕ → ℕ → ℕ → Bool
 is_in width first i = nat_le first i && nat_lt i (first + width)
 
 -- the cells of a part behind one more
-abbrev pub came_with : ℕ → Behind → Cell → ℕ → List Cell
+abbrev pub came_with : ℕ → Reached → Cell → ℕ → List Cell
 came_with width old cell i = if is_in width old.first i && index_of cell == i then old.came i ++ (cell ∷ []) else old.came i
 
 -- cells determine a part
@@ -73,18 +73,64 @@ abbrev pub Determine : List TableRow → Parts → ℕ → List Cell → Type 0
 Determine table s i cells = IsAnswerable table (s.head i).configuration (received_packets (s.head i) cells)
 
 -- One more cell comes, and parts are written one behind another that are determined by the cells that came while they were in the window.
-pub record Writes (table : List TableRow) (s : Parts) (width : ℕ) (old : Behind) (cell : Cell) (new : Behind) : Type 0 where
+pub record Writes (table : List TableRow) (s : Parts) (width : ℕ) (old : Reached) (cell : Cell) (new : Reached) : Type 0 where
   pub came : (i : ℕ) → new.came i ≡ came_with width old cell i
   pub from : old.first ≤ new.first
   pub within : new.first ≤ s.count
   pub written : (i : ℕ) → old.first ≤ i → i < new.first → Determine table s i (new.came i)
 
 -- so many as are
-pub record Moves (table : List TableRow) (s : Parts) (width : ℕ) (old : Behind) (cell : Cell) (new : Behind) : Type 0 where
+pub record Moves (table : List TableRow) (s : Parts) (width : ℕ) (old : Reached) (cell : Cell) (new : Reached) : Type 0 where
   pub writes : Writes table s width old cell new
   pub unwritten : new.first < s.count → ¬ Determine table s new.first (new.came new.first)
 
 -- some more cells come
-abbrev pub MovesOver : List TableRow → Parts → ℕ → Behind → List Cell → Behind → Type 0
+abbrev pub MovesOver : List TableRow → Parts → ℕ → Reached → List Cell → Reached → Type 0
 MovesOver table s width old [] new = new ≡ old
-MovesOver table s width old (cell ∷ cells) new = (mid : Behind) × Moves table s width old cell mid × MovesOver table s width mid cells new
+MovesOver table s width old (cell ∷ cells) new = (mid : Reached) × Moves table s width old cell mid × MovesOver table s width mid cells new
+
+-- ---- which cells the window drops
+
+-- Where a window stands as a cell comes: at the index of the first part that isn't written, or nowhere once all parts are.
+abbrev pub stand : Bool → ℕ → Option ℕ
+stand true first = None
+stand false first = Some first
+
+abbrev pub stand_at : Parts → Reached → Option ℕ
+stand_at s reached = stand (reached.first == s.count) reached.first
+
+-- so as each of one sender's cells comes
+abbrev pub stands_over : (table : List TableRow) (s : Parts) (width : ℕ) (old : Reached) (cells : List Cell) (new : Reached)
+    → MovesOver table s width old cells new → List (Option ℕ)
+stands_over table s width old [] new moves = []
+stands_over table s width old (cell ∷ cells) new moves = stand_at s old ∷ stands_over table s width moves.0 cells new moves.2
+
+-- a cell of a part that is written, and one of a part behind the window, where the window stands at a part
+abbrev pub is_late : ℕ → Cell → Bool
+is_late first cell = nat_lt (index_of cell) first
+
+abbrev pub is_early : ℕ → ℕ → Cell → Bool
+is_early width first cell = nat_le (first + width) (index_of cell)
+
+-- how many of the cells are so, by where the window stood as each came
+abbrev pub one_if : Bool → ℕ
+one_if b = if b then 1 else 0
+
+abbrev pub dropped_at : (ℕ → Cell → Bool) → Option ℕ → Cell → ℕ
+dropped_at is None cell = 0
+dropped_at is (Some first) cell = one_if (is first cell)
+
+abbrev pub dropped_where : (ℕ → Cell → Bool) → List (Option ℕ) → List Cell → ℕ
+dropped_where is [] cells = 0
+dropped_where is (there ∷ stands) [] = 0
+dropped_where is (there ∷ stands) (cell ∷ cells) = dropped_at is there cell + dropped_where is stands cells
+
+-- the cells of the part of an index that came while it was in the window
+abbrev pub cell_at : ℕ → ℕ → Option ℕ → Cell → List Cell
+cell_at width i None cell = []
+cell_at width i (Some first) cell = if is_in width first i && index_of cell == i then cell ∷ [] else []
+
+abbrev pub cells_of : ℕ → ℕ → List (Option ℕ) → List Cell → List Cell
+cells_of width i [] cells = []
+cells_of width i (there ∷ stands) [] = []
+cells_of width i (there ∷ stands) (cell ∷ cells) = cell_at width i there cell ++ cells_of width i stands cells

@@ -1,5 +1,5 @@
 -- What a receiver with a window makes of the cells of a stream, whoever sent them.
-use Rattle.std.specs.Prelude.{◌≡◌, ⊤, ℕ, ◌+◌, ◌-◌, ◌^◌, ◌<◌, ◌≤◌, List, [], ◌∷◌, ◌++◌, length, map, drop, All, Contains, get_or, Option, Some, None, IfSome, Bool, true, false, ◌==◌, ◌&&◌, not, if◌then◌else◌, min, nat_lt, nat_le}
+use Rattle.std.specs.Prelude.{◌≡◌, ⊤, ℕ, zero, suc, ◌+◌, ◌^◌, ◌<◌, ◌≤◌, List, [], ◌∷◌, ◌++◌, length, map, take, drop, All, Contains, get_or, Option, Some, None, IfSome, Bool, true, false, ◌==◌}
 use Rattle.std.specs.List.{flat_map, list_any, range_with_len}
 use Rattle.rq_standard.specs.declared.row.TableRow.{TableRow}
 use Rattle.rq_standard.specs.Packet.{Packet}
@@ -14,8 +14,10 @@ use Rattle.rq_cast.specs.declared.settled.Settling.TheVariants.{Waits}
 use Rattle.rq_cast.specs.declared.window.Window.{Window}
 use Rattle.rq_cast.specs.Parts.{IsPart}
 use Rattle.rq_cast.specs.Names.{AreNames}
-use Rattle.rq_cast.specs.Streams.{Parts, names_before, index_of, Behind, behind_none, AreSenders, Writes, MovesOver}
+use Rattle.rq_cast.specs.Streams.{Parts, names_before, Reached, reached_none, AreSenders, Writes, MovesOver, stand, stand_at, stands_over, is_late, is_early, dropped_where, cells_of}
+use Rattle.rq_cast.specs.Searching.{counted}
 use Rattle.rq_cast.specs.Taken.{part_index, IsTakenHead, received_packets, IsNotNamed, IsAnswered}
+use Rattle.rq_cast.specs.Votes.{votes_for, LeadsFrom, IsHonestHead, HasVotes}
 use Rattle.rq_cast.specs.Missing.{NeedsPackets}
 use Rattle.rq_cast.specs.PartReceiving.{IsSound, IsUnused, HasReceived, HasReceivedAll, TakesCell}
 use Rattle.rq_cast.specs.Settling.{SettlesPart}
@@ -61,15 +63,59 @@ AreSettled table came names (p ∷ parts) =
 
 -- Of one sender's cells those parts are settled that the cells determine which came while they were in the window, one behind another.
 pub record SettlesExactly (table : List TableRow) (s : Parts) (width : ℕ) (came : List Cell) (parts : List Settled) : Type 0 where
-  pub behind : Behind
-  pub moves : MovesOver table s width behind_none came behind
-  pub count : length parts ≡ behind.first
-  pub same : map (λ p. p.bytes) parts ≡ map s.bytes (range_with_len 0 behind.first)
+  pub reached : Reached
+  pub moves : MovesOver table s width reached_none came reached
+  pub count : length parts ≡ reached.first
+  pub same : map (λ p. p.bytes) parts ≡ map s.bytes (range_with_len 0 reached.first)
 
 -- what of the cells of a stream is settled, with a window of so many parts
 pub record Settles (table : List TableRow) (stream : List ℕ) (width : ℕ) (came : List Cell) (parts : List Settled) : Type 0 where
   pub settled : AreSettled table came [] parts
   pub exactly : (s : Parts) → AreSenders table stream s came → SettlesExactly table s width came parts
+
+-- ---- a head that leads
+
+-- The next part's head leads, of its cells that came while it was in the window, from a place on from which they determine it: no other object makes their
+-- packets.
+pub record IsLed (table : List TableRow) (width : ℕ) (came : List Cell) (stands : List (Option ℕ)) (parts : List Settled) : Type 0 where
+  pub is_last : Bool
+  pub head : Head
+  pub object : List ℕ
+  pub bytes : List ℕ
+  pub part : IsPart is_last (names_of parts) head object bytes
+  pub honest : IsHonestHead table head object (cells_of width (length parts) stands came)
+  pub few : length (cells_of width (length parts) stands came) < 2 ^ 64
+  pub from : ℕ
+  pub within : from ≤ length (cells_of width (length parts) stands came)
+  pub leads : LeadsFrom head from (cells_of width (length parts) stands came)
+  pub only : IsOnlyObject table head.configuration (received_packets head (drop from (cells_of width (length parts) stands came))) object
+
+-- ---- cells that are dropped
+
+-- As a cell came, some first parts were settled, by the cells before it, and there the window stood. The head of the next one didn't lead by cells that
+-- determine it.
+pub record StoodBehind (table : List TableRow) (width : ℕ) (before : List Cell) (stands : List (Option ℕ)) (parts : List Settled) (there : Option ℕ) : Type 0
+  where
+    pub earlier : List Settled
+    pub later : List Settled
+    pub cut : parts ≡ earlier ++ later
+    pub settled : AreSettled table before [] earlier
+    pub unled : has_last earlier ≡ false → IsLed table width before stands earlier → ⊥
+    pub is : there ≡ stand (has_last earlier) (length earlier)
+
+-- Of the cells that came so many were of parts that were settled then, and so many of parts behind the window, by where that stood as each came.
+pub record CountsDropped (table : List TableRow) (width : ℕ) (came : List Cell) (parts : List Settled) (behind ahead : ℕ) : Type 0 where
+  pub stands : List (Option ℕ)
+  pub as_many : length stands ≡ length came
+  pub each : (k : ℕ) → k < length came → StoodBehind table width (take k came) (take k stands) parts (get_or stands k None)
+  pub behind_is : behind ≡ counted (dropped_where is_late stands came)
+  pub ahead_is : ahead ≡ counted (dropped_where (is_early width) stands came)
+
+-- Of one sender's cells the window stood at the first part that wasn't settled.
+pub record StandsExactly (table : List TableRow) (s : Parts) (width : ℕ) (came : List Cell) (stands : List (Option ℕ)) : Type 0 where
+  pub reached : Reached
+  pub moves : MovesOver table s width reached_none came reached
+  pub same : stands ≡ stands_over table s width reached_none came reached moves
 
 -- ---- parts that are open
 
@@ -92,6 +138,18 @@ pub record AreOpen (table : List TableRow) (width : ℕ) (came : List Cell) (w :
   pub wide : length w.parts.items ≡ width
   pub each : (place : ℕ) → IfSome (open_at w place) (IsOpen table came)
 
+-- ---- of cells with several heads
+
+-- None of these cells of a part has a head that coders take, or it has of each head what the votes for that one say.
+abbrev pub HasVoted : List TableRow → Option (List (List ℕ)) → List Cell → Option PartReceiver → Type 0
+HasVoted table names cells None = (h : Head) → IsTakenHead table h → votes_for h cells ≡ 0
+HasVoted table names cells (Some p) = HasVotes table names cells p
+
+-- behind which names a part is asked to be that is at a place: the first one behind those that are settled
+abbrev pub names_at : List Settled → ℕ → Option (List (List ℕ))
+names_at parts zero = Some (names_of parts)
+names_at parts (suc place) = None
+
 -- ---- of one sender's cells
 
 -- a part has received all its cells, and isn't open without one
@@ -100,15 +158,15 @@ HasAll table h cells None = cells ≡ []
 HasAll table h cells (Some p) = HasReceivedAll table h cells p
 
 -- It has settled the first parts, and of each part in the window it has received the cells that came since it is there.
-pub record StandsBehind (table : List TableRow) (s : Parts) (behind : Behind) (parts : List Settled) (w : Window) : Type 0 where
-  pub count : length parts ≡ behind.first
-  pub names : names_of parts ≡ names_before s behind.first
-  pub same : map (λ p. p.bytes) parts ≡ map s.bytes (range_with_len 0 behind.first)
-  pub heads : (i : ℕ) → All (λ cell. cell.head ≡ s.head i) (behind.came i)
-  pub honest : (i : ℕ) → i < s.count → IsHonestRun table (s.head i).configuration (s.object i) (received_packets (s.head i) (behind.came i))
-  pub received : (place : ℕ) → HasAll table (s.head (behind.first + place)) (behind.came (behind.first + place)) (open_at w place)
-  pub within : behind.first ≤ s.count
-  pub ended : w.ended ≡ (behind.first == s.count)
+pub record StandsAt (table : List TableRow) (s : Parts) (reached : Reached) (parts : List Settled) (w : Window) : Type 0 where
+  pub count : length parts ≡ reached.first
+  pub names : names_of parts ≡ names_before s reached.first
+  pub same : map (λ p. p.bytes) parts ≡ map s.bytes (range_with_len 0 reached.first)
+  pub heads : (i : ℕ) → All (λ cell. cell.head ≡ s.head i) (reached.came i)
+  pub honest : (i : ℕ) → i < s.count → IsHonestRun table (s.head i).configuration (s.object i) (received_packets (s.head i) (reached.came i))
+  pub received : (place : ℕ) → HasAll table (s.head (reached.first + place)) (reached.came (reached.first + place)) (open_at w place)
+  pub within : reached.first ≤ s.count
+  pub ended : w.ended ≡ (reached.first == s.count)
   pub restarted : w.restarted ≡ 0
 
 -- ---- a window
@@ -124,8 +182,14 @@ pub record HasTaken (table : List TableRow) (stream : List ℕ) (width : ℕ) (c
   pub are_open : w.ended ≡ false → AreOpen table width came w
   -- the first part that isn't settled isn't determined
   pub waits : w.ended ≡ false → IfSome (open_at w 0) (λ p. p.attempt.object ≡ None)
+  pub drops : CountsDropped table width came parts w.behind w.ahead
   pub standing : (s : Parts) → AreSenders table stream s came
-      → (behind : Behind) × MovesOver table s width behind_none came behind × StandsBehind table s behind parts w
+      → (reached : Reached) × (moves : MovesOver table s width reached_none came reached) × StandsAt table s reached parts w
+      × (drops.stands ≡ stands_over table s width reached_none came reached moves)
+  pub voted : w.ended ≡ false → (place : ℕ)
+      → HasVoted table (names_at parts place) (cells_of width (length parts + place) drops.stands came) (open_at w place)
+  -- whoever sent them
+  pub unled : w.ended ≡ false → IsLed table width came drops.stands parts → ⊥
 
 -- One cell more came, and parts may be settled by it that aren't yet.
 pub record IsMoving (table : List TableRow) (stream : List ℕ) (width : ℕ) (came : List Cell) (cell : Cell) (given : List ℕ) (w : Window) : Type 0 where
@@ -135,38 +199,19 @@ pub record IsMoving (table : List TableRow) (stream : List ℕ) (width : ℕ) (c
   pub out : bytes_of parts ≡ given ++ w.ready.items
   pub ended : w.ended ≡ has_last parts
   pub are_open : w.ended ≡ false → AreOpen table width (came ++ cell ∷ []) w
+  pub drops : CountsDropped table width (came ++ cell ∷ []) parts w.behind w.ahead
   pub standing : (s : Parts) → AreSenders table stream s (came ++ cell ∷ [])
-      → (old : Behind) × (new : Behind) × MovesOver table s width behind_none came old × Writes table s width old cell new × StandsBehind table s new parts w
+      → (old : Reached) × (new : Reached) × (moves : MovesOver table s width reached_none came old) × Writes table s width old cell new
+      × StandsAt table s new parts w × (drops.stands ≡ stands_over table s width reached_none came old moves ++ (stand_at s old ∷ []))
+  pub voted : w.ended ≡ false → (place : ℕ)
+      → HasVoted table (names_at parts place) (cells_of width (length parts + place) drops.stands (came ++ cell ∷ [])) (open_at w place)
 
 -- ---- what a window does
 
--- A cell that is dropped counts, unless the last part is settled: whether its part is settled, or comes behind the window.
-abbrev pub is_behind : Window → Cell → Bool
-is_behind w cell = not w.ended && nat_lt (index_of cell) w.names.count
-
-abbrev pub is_ahead : Window → Cell → Bool
-is_ahead w cell = not w.ended && nat_le (w.names.count + length w.parts.items) (index_of cell)
-
--- one more, as far as a u64 counts
-abbrev pub more_if : Bool → ℕ → ℕ
-more_if more n = if more then min (n + 1) (2 ^ 64 - 1) else n
-
-pub record CountsCell (old : Window) (cell : Cell) (new : Window) : Type 0 where
-  pub behind : new.behind ≡ more_if (is_behind old cell) old.behind
-  pub ahead : new.ahead ≡ more_if (is_ahead old cell) old.ahead
-  -- it has as many places
-  pub wide : length new.parts.items ≡ length old.parts.items
-
--- so each counts of some more cells
-abbrev pub CountsCells : Window → List Cell → Window → Type 0
-CountsCells old [] new = new ≡ old
-CountsCells old (cell ∷ cells) new = (mid : Window) × CountsCell old cell mid × CountsCells mid cells new
-
--- none counts
+-- It counts no cell as dropped.
 pub record KeepsCounts (old new : Window) : Type 0 where
   pub behind : new.behind ≡ old.behind
   pub ahead : new.ahead ≡ old.ahead
-  pub wide : length new.parts.items ≡ length old.parts.items
 
 -- it takes the next cells of the stream
 abbrev pub TakesCells : List TableRow → Window → List Cell → Window → Type 0
@@ -230,40 +275,42 @@ pub record MovesOn (old : Window) (part : SettledPart) (new : Window) : Type 0 w
 
 -- ---- what the first part lacks that isn't settled
 
--- Of cells that came, those of a stretch that have one of its heads determine no object that is named so. So many packets more are needed.
+-- Of cells that came, those from a place on that have one of its heads determine no object that is named so. So many packets more are needed.
 pub record IsUndetermined (table : List TableRow) (came : List Cell) (index missing : ℕ) : Type 0 where
   pub head : Head
   pub place : part_index head ≡ index
   pub headed : Contains (map (λ cell. cell.head) came) head
-  pub stretch : List Cell
-  pub within : IsStretch stretch came
+  pub begun : ℕ
+  pub within : begun ≤ length came
   pub answer : Option (List ℕ)
-  pub answered : IsAnswered table head.configuration (received_packets head stretch) answer
+  pub answered : IsAnswered table head.configuration (received_packets head (drop begun came)) answer
   pub none : IsNotNamed head answer
-  pub needs : NeedsPackets table head.configuration (received_packets head stretch) missing
+  pub needs : NeedsPackets table head.configuration (received_packets head (drop begun came)) missing
 
 -- of one sender's cells: none of it came while it was in the window, or so many packets more are needed
 abbrev pub LacksOf : List TableRow → Head → List Cell → Option ℕ → Type 0
 LacksOf table h cells None = cells ≡ []
 LacksOf table h cells (Some missing) = NeedsPackets table h.configuration (received_packets h cells) missing
 
--- what is said of the part of an index, if a cell of it came whose configuration coders take
-pub record Lacks (table : List TableRow) (stream : List ℕ) (width : ℕ) (came : List Cell) (index : ℕ) (missing : Option ℕ) : Type 0 where
-  pub whoever : IfSome missing (IsUndetermined table came index)
-  pub one_sender : (s : Parts) → AreSenders table stream s came
-      → (behind : Behind) × MovesOver table s width behind_none came behind × (behind.first ≡ index)
-      × LacksOf table (s.head behind.first) (behind.came behind.first) missing
+-- What is said of the part of an index, if a cell of it came while it was in the window whose configuration coders take.
+pub record Lacks (table : List TableRow) (stream : List ℕ) (width : ℕ) (came : List Cell) (stands : List (Option ℕ)) (index : ℕ) (missing : Option ℕ) : Type 0
+  where
+    pub whoever : IfSome missing (IsUndetermined table came index)
+    pub nothing : missing ≡ None → (h : Head) → IsTakenHead table h → votes_for h (cells_of width index stands came) ≡ 0
+    pub one_sender : (s : Parts) → AreSenders table stream s came
+        → (reached : Reached) × MovesOver table s width reached_none came reached × (reached.first ≡ index)
+        × LacksOf table (s.head reached.first) (reached.came reached.first) missing
 
 abbrev pub TellsLacks : Window → Option ℕ → Type 0
 TellsLacks w missing =
     (table : List TableRow) (stream : List ℕ) (width : ℕ) (came : List Cell) (given : List ℕ) → IsSoundWindow table w → w.ended ≡ false
-    → HasTaken table stream width came given w → Lacks table stream width came w.names.count missing
+    → (has : HasTaken table stream width came given w) → Lacks table stream width came has.drops.stands w.names.count missing
 
 -- ---- no receiver with such a window does better
 
 -- Where the cells that came while the first part that isn't settled was in the window don't determine it, another object makes the same packets.
 abbrev pub NoWindowDoesBetter : Type 0
 NoWindowDoesBetter =
-    (table : List TableRow) (stream : List ℕ) (s : Parts) (width : ℕ) (came : List Cell) (behind : Behind)
-    → AreSenders table stream s came → MovesOver table s width behind_none came behind → behind.first < s.count
-    → IsOnlyObject table (s.head behind.first).configuration (received_packets (s.head behind.first) (behind.came behind.first)) (s.object behind.first) → ⊥
+    (table : List TableRow) (stream : List ℕ) (s : Parts) (width : ℕ) (came : List Cell) (reached : Reached)
+    → AreSenders table stream s came → MovesOver table s width reached_none came reached → reached.first < s.count
+    → IsOnlyObject table (s.head reached.first).configuration (received_packets (s.head reached.first) (reached.came reached.first)) (s.object reached.first) → ⊥

@@ -1,5 +1,7 @@
 //! Whose cells are received.
-ghost use Rattle.std.specs.Prelude.{◌≡◌, ◌⊎◌, ◌<◌, None, MatchOption, IfSome, true, false};
+ghost use Rattle.std.specs.Prelude.{◌≡◌, ◌⊎◌, ◌+◌, ◌<◌, None, MatchOption, IfSome, true, false};
+ghost use Rattle.rq_cast.specs.PartReceiving.{IsNextRival};
+ghost use Rattle.rq_cast.specs.Searching.{counted};
 
 use raptorq::systematic_constants::SystematicTable;
 use rq_cells::Head;
@@ -23,7 +25,8 @@ pub(crate) struct Choice {
 // The rival behind a cell with a head that isn't in use: as in a majority vote it is let go where as many
 // cells came of further heads.
 fn next_rival(rival: Option<Rival>, head: &Head) -> Option<Rival>
-    ensures { IfSome result (λ r. (r.head ≡ head.now) ⊎ MatchOption rival ⊥ (λ old. r.head ≡ old.head)) }
+    ensures heads { IfSome result (λ r. (r.head ≡ head.now) ⊎ MatchOption rival ⊥ (λ old. r.head ≡ old.head)) }
+    ensures next { IsNextRival rival head.now result }
 {
     let Some(rival) = rival else {
         return Some(Rival {
@@ -47,11 +50,12 @@ fn next_rival(rival: Option<Rival>, head: &Head) -> Option<Rival>
 }
 
 impl Choice {
-    ghost use Rattle.rq_cast.specs.PartReceiving.{EachHead, IsHeadBehind};
+    ghost use Rattle.rq_cast.specs.PartReceiving.{EachHead, IsHeadBehind, TakesPlace, CountsOther};
 
     /// The first head, before any cell.
     pub fn new(head: Head) -> Choice
         ensures head { result.head ≡ head }
+        ensures none { result.cells ≡ 0 }
         ensures alone { result.rival ≡ None }
     {
         Choice {
@@ -65,6 +69,7 @@ impl Choice {
     pub fn count(&mut self)
         ensures head { self.new.head ≡ self.old.head }
         ensures rival { self.new.rival ≡ self.old.rival }
+        ensures more { self.new.cells ≡ counted (self.old.cells + 1) }
     {
         self.cells = self.cells.saturating_add(1);
     }
@@ -75,7 +80,7 @@ impl Choice {
         ensures heads { EachHead (IsHeadBehind table.now self.old head.now) self.new }
         ensures same { result ≡ false → self.new.head ≡ self.old.head }
         ensures changed { result ≡ true → self.new.head ≡ head.now }
-        ensures more { result ≡ true → self.old.cells < self.new.cells }
+        ensures counts { CountsOther table.now self.old head.now result self.new }
     {
         if head.configuration.check(table).is_err() {
             return false;
@@ -84,12 +89,13 @@ impl Choice {
         self.give_way(head)
     }
 
-    // Has a head take the place of the one in use, where it is the rival and more of its cells came.
+    // Has a head take the place of the one in use, where it is the rival and more of its cells came. A head
+    // none of whose cells counts is no rival.
     fn give_way(&mut self, head: &Head) -> bool
         ensures same { result ≡ false → self.new ≡ self.old }
         ensures changed { result ≡ true → self.new.head ≡ head.now }
         ensures rival { result ≡ true → IfSome self.new.rival (λ r. r.head ≡ self.old.head) }
-        ensures more { result ≡ true → self.old.cells < self.new.cells }
+        ensures takes_place { TakesPlace self.old head.now result self.new }
     {
         let Some(rival) = self.rival else {
             return false;
@@ -97,7 +103,7 @@ impl Choice {
         if rival.head != *head || rival.cells <= self.cells {
             return false;
         }
-        self.rival = Some(Rival {
+        self.rival = (self.cells > 0).then_some(Rival {
             head: self.head,
             cells: self.cells,
         });

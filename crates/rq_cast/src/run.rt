@@ -5,7 +5,7 @@ ghost use Rattle.rq_streams.specs.Counted.{failed_count, inner};
 ghost use Rattle.rq_streams.specs.Ends.{failed_calls};
 ghost use Rattle.rq_cells.specs.Wanted.{wish_of};
 ghost use Rattle.rq_cast.specs.Input.{counted_of, is_put_back, last_piece, unread};
-ghost use Rattle.rq_cast.specs.Received.{EndsAtFailedCall, EndsReceiving};
+ghost use Rattle.rq_cast.specs.Received.{EndsAtFailedCall, EndsReceiving, WritesAllRead};
 
 use crate::input::Input;
 use crate::progress::Progress;
@@ -89,6 +89,12 @@ pub fn run_receive<R: Read, W: Write, P: Progress>(
     // last one before the last read that was made.
     ensures ends { EndsReceiving wanted.now.table.now (wish_of wanted.now) window result seen.new
         (unread R.remaining input.old) (unread R.remaining input.new) (last_piece input.new)
+        (W.contents (inner writer.old)) (W.contents (inner writer.new)) }
+
+    // What is settled is written before the next read.
+    ensures at_once { failed_count (counted_of input.old) < failed_count (counted_of input.new)
+        → WritesAllRead wanted.now.table.now (wish_of wanted.now) window
+        (unread R.remaining input.old) (unread R.remaining input.new) seen.new
         (W.contents (inner writer.old)) (W.contents (inner writer.new)) }
 {
     let mut receiver = Receiver::new(alloc, wanted, window);

@@ -82,7 +82,7 @@ fn take_counted(
     requires digest { HasDigest found }
     ensures takes { OnOk result (TakesCell table.now part.old found.cell part.new) }
     ensures sound { OnOk result (IsSound table.now (part_index found.cell.head) part.new) }
-    ensures anew { IfOk result (λ n. n ≤ part.new.restarted) }
+    ensures anew { IfOk result (λ n. n ≡ part.new.restarted - part.old.restarted) }
     ensures memory { IfErr result (λ e. e ≡ Error.OutOfMemory) }
 {
     let before = part.restarted;
@@ -111,7 +111,7 @@ fn receive(
     requires digest { HasDigest found }
     ensures receives { OnOk result (ReceivesCell table.now place.old found.cell place.new) }
     ensures sound { OnOk result (IfSome place.new (IsSound table.now (part_index found.cell.head))) }
-    ensures anew { IfOk result (λ n. n ≤ restarted_of place.new) }
+    ensures anew { IfOk result (λ n. n ≡ restarted_of place.new - restarted_of place.old) }
     ensures memory { IfErr result (λ e. e ≡ Error.OutOfMemory) }
 {
     if let Some(part) = place {
@@ -150,7 +150,7 @@ fn append(ready: &mut Vec<u8>, bytes: Vec<u8>) -> Result<(), AllocError>
 }
 
 impl Window {
-    ghost use Rattle.rq_cast.specs.Windows.{IsSoundWindow, HasTaken, TakesCells, GivesCell, SettlesFirst, SettlesAll, MovesOn, HandsOut, TellsLacks, CountsCell, CountsCells, KeepsCounts};
+    ghost use Rattle.rq_cast.specs.Windows.{IsSoundWindow, HasTaken, TakesCells, GivesCell, SettlesFirst, SettlesAll, MovesOn, HandsOut, TellsLacks, KeepsCounts};
 
     /// A window of so many parts, before any cell. Refuses [`Error::OutOfMemory`] alone.
     pub fn new(alloc: Global, width: u32) -> Result<Window, Error>
@@ -182,7 +182,6 @@ impl Window {
         requires sound { IsSoundWindow table.now self.old }
         requires digest { HasDigest found }
         ensures takes { OnOk result (TakesCells table.now self.old (found.cell ∷ []) self.new) }
-        ensures counts { OnOk result (CountsCell self.old found.cell self.new) }
         ensures sound { OnOk result (IsSoundWindow table.now self.new) }
         ensures memory { IfErr result (λ e. e ≡ Error.OutOfMemory) }
     {
@@ -213,7 +212,6 @@ impl Window {
         requires sound { IsSoundWindow table.now self.old }
         requires digests { All HasDigest cells.items }
         ensures takes { OnOk result (TakesCells table.now self.old (map (λ found. found.cell) cells.items) self.new) }
-        ensures counts { OnOk result (CountsCells self.old (map (λ found. found.cell) cells.items) self.new) }
         ensures sound { OnOk result (IsSoundWindow table.now self.new) }
         ensures memory { IfErr result (λ e. e ≡ Error.OutOfMemory) }
     {

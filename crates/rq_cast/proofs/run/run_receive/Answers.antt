@@ -11,7 +11,7 @@ use Rattle.rq_cast.specs.Input.{counted_of, last_piece, unread}
 use Rattle.rq_cast.specs.Receiving.{Feeds, HandsOutOf}
 use Rattle.rq_cast.specs.Received.{EndsReceiving, EndsAtFailedCall}
 use Rattle.rq_cast.proofs.Failing.{counted_calls}
-use Rattle.rq_cast.proofs.Runs.{runs_first, stops_unread, ends_unread, stops_unfed, stops_unwritten, ends_written, runs_on}
+use Rattle.rq_cast.proofs.Runs.{runs_first, stops_unread, writes_all_read, ends_unread, stops_unfed, stops_unwritten, ends_written, runs_on}
 use Rattle.rq_cast.proofs.run.run_receive.Goals as goal
 
 pub reading-init : goal.reading-init
@@ -43,7 +43,30 @@ returns-in_err-n-clause-ends g c =
     rw fault
     (stops_unread w.table.now (wish_of w) c.args.window (unread g.R.Read.remaining c.args.input.now) (g.W.Write.contents (inner c.args.writer.now))
     (unread g.R.Read.remaining c.reading.input) (g.W.Write.contents (inner c.reading.writer)) c.reading._reads c.reading.receiver c.reading.seen
-    c.reading.invariant.running (unread g.R.Read.remaining c.read.new.self) (last_piece c.read.new.self) c.in_err-n.ensures.kept)
+    c.reading.invariant.running (unread g.R.Read.remaining c.read.new.self) c.in_err-n.ensures.kept (last_piece c.read.new.self))
+
+pub returns-in_err-n-clause-at_once : goal.returns-in_err-n-clause-at_once
+returns-in_err-n-clause-at_once g c = λ failed.
+    let w = c.args.wanted.now in
+    writes_all_read w.table.now (wish_of w) c.args.window (unread g.R.Read.remaining c.args.input.now) (g.W.Write.contents (inner c.args.writer.now))
+    (unread g.R.Read.remaining c.reading.input) (g.W.Write.contents (inner c.reading.writer)) c.reading._reads c.reading.receiver c.reading.seen
+    c.reading.invariant.running (unread g.R.Read.remaining c.read.new.self) c.in_err-n.ensures.kept
+
+-- no read failed
+pub returns-then-n-eq0-clause-at_once : goal.returns-then-n-eq0-clause-at_once
+returns-then-n-eq0-clause-at_once g c = λ failed. absurd (omega (arith, failed, c.in_ok-n.ensures.ok, c.reading.invariant.reads))
+
+pub returns-in_err-feed-clause-at_once : goal.returns-in_err-feed-clause-at_once
+returns-in_err-feed-clause-at_once g c = λ failed. absurd (omega (arith, failed, c.in_ok-n.ensures.ok, c.reading.invariant.reads))
+
+pub returns-in_err-write_part-clause-at_once : goal.returns-in_err-write_part-clause-at_once
+returns-in_err-write_part-clause-at_once g c = λ failed. absurd (omega (arith, failed, c.in_ok-n.ensures.ok, c.reading.invariant.reads))
+
+pub returns-then-has_ended-clause-at_once : goal.returns-then-has_ended-clause-at_once
+returns-then-has_ended-clause-at_once g c = λ failed. absurd (omega (arith, failed, c.in_ok-n.ensures.ok, c.reading.invariant.reads))
+
+pub returns-clause-at_once : goal.returns-clause-at_once
+returns-clause-at_once g c = λ failed. absurd (omega (arith, failed, c.reading.invariant.reads))
 
 pub returns-then-n-eq0-clause-failures : goal.returns-then-n-eq0-clause-failures
 returns-then-n-eq0-clause-failures g c =

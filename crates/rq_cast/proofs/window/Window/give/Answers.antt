@@ -28,7 +28,7 @@ returns-clause-gives c = λ stream width came given has.
     let table = c.args.table.now in
     let receives = subst (λ o. ReceivesCell table o c.args.found.cell c.receive.new.place) (slot at) c.in_ok-anew.ensures.receives in
     taken_given table stream width came given c.args.found.cell c.args.self.now _ has c.requires.sound refl refl refl c.args.place c.receive.new.place refl
-    (within at) c.requires.open_still c.requires.here receives (omega (arith, c.in_ok-anew.ensures.anew))
+    (within at) c.requires.open_still c.requires.here receives (omega (arith, c.in_ok-anew.ensures.anew)) refl refl
 
 pub returns-clause-sound : goal.returns-clause-sound
 returns-clause-sound c =

@@ -1,7 +1,7 @@
 use Rattle.std.proofs.Common.{◌≡◌, true, false, subst, arith}
 use Rattle.std.proofs.lemmas.Bool.{true≢false}
 use Rattle.rq_cast.specs.Windows.{SettlesFirst}
-use Rattle.rq_cast.proofs.WindowCounts.{keeps_both}
+use Rattle.rq_cast.proofs.Dropped.{keeps_both}
 use Rattle.rq_cast.proofs.WindowSteps.{rested}
 use Rattle.rq_cast.proofs.window.Window.settle_all.Goals as goal
 

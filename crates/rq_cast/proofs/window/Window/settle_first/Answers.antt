@@ -49,14 +49,14 @@ pub returns-in-Waits-clause-settles : goal.returns-in-Waits-clause-settles
 returns-in-Waits-clause-settles c = λ stream width came cell given m.
     let at = (goal.at.returns-in-Waits-clause-settles c).After-index_mut in
     let after = c.settle_in.new.place in
-    first_waits c.args.table.now stream width came cell given c.args.self.now _ m c.requires.sound after refl (some at) refl refl refl refl
+    first_waits c.args.table.now stream width came cell given c.args.self.now _ m c.requires.sound after refl (some at) refl refl refl refl refl refl
     (settles at c.in_ok-settle_in.field-0 Waits after c.in-Waits.is c.in_ok-settle_in.ensures.settles)
 
 pub returns-in-Anew-clause-settles : goal.returns-in-Anew-clause-settles
 returns-in-Anew-clause-settles c = λ stream width came cell given m.
     let at = (goal.at.returns-in-Anew-clause-settles c).After-index_mut in
     let after = c.settle_in.new.place in
-    first_anew c.args.table.now stream width came cell given c.args.self.now _ m c.requires.sound after refl (some at) refl refl refl
+    first_anew c.args.table.now stream width came cell given c.args.self.now _ m c.requires.sound after refl (some at) refl refl refl refl refl
     c.requires.open_still (settles at c.in_ok-settle_in.field-0 Anew after c.in-Anew.is c.in_ok-settle_in.ensures.settles)
 
 pub returns-in_ok-move_on-in-Settled-clause-settles : goal.returns-in_ok-move_on-in-Settled-clause-settles
@@ -69,7 +69,7 @@ returns-in_ok-move_on-in-Settled-clause-settles c = λ stream width came cell gi
     let is = in_settled table old.names (open_at old 0) after part
     (settles at c.in_ok-settle_in.field-0 (Settled part) after c.in-Settled.is c.in_ok-settle_in.ensures.settles) in
     moved_on table stream width came cell given old m c.requires.sound c.requires.open_still is.0 is.1 part is.2 _ c.move_on.new.self after refl (some at)
-    refl refl refl c.in_ok-move_on-in-Settled.ensures.moves
+    refl refl refl refl refl c.in_ok-move_on-in-Settled.ensures.moves c.in_ok-move_on-in-Settled.ensures.counts
 
 pub returns-in_ok-move_on-in-Settled-clause-sound : goal.returns-in_ok-move_on-in-Settled-clause-sound
 returns-in_ok-move_on-in-Settled-clause-sound c =

@@ -5,8 +5,7 @@ use Rattle.std.proofs.lemmas.List.{nil_from_length, map-append}
 use Rattle.std.proofs.lemmas.List.Elements.{All-contains, Contains-append_right}
 use Rattle.rq_cells.specs.declared.cell.FoundCell.{FoundCell}
 use Rattle.rq_cells.specs.Scans.{HasDigest}
-use Rattle.rq_cast.specs.Windows.{HasTaken, TakesCells, CountsCells}
-use Rattle.rq_cast.proofs.WindowCounts.{counts_more}
+use Rattle.rq_cast.specs.Windows.{HasTaken, TakesCells}
 use Rattle.rq_cast.proofs.window.Window.take_all.Goals as goal
 use Rattle.rq_cast.proofs.window.Window.take_all.Goals.{In-None}
 
@@ -14,7 +13,6 @@ pub loop-found-init : goal.loop-found-init
 loop-found-init c = record {
   whole = sym c.into_iter-found-iterator.ensures.into_iter_gives.0;
   sound = c.requires.sound;
-  counts = refl;
   taken = λ stream width came given has. subst (λ cs. HasTaken c.args.table.now stream width cs given c.args.self.now) (sym (append-nil came)) has;
 }
 
@@ -34,8 +32,6 @@ loop-found-preserved c =
       whole = c.loop-found.invariant.whole ∙ ap (λ xs. done ++ xs) c.in-Some.ensures.steps.0
           ∙ sym (append_assoc done (found ∷ []) (into_iter_items c.next.new.self));
       sound = c.in_ok-take.ensures.sound;
-      counts = subst (λ cs. CountsCells c.args.self.now cs c.take.new.self) (sym (map-append cell done (found ∷ [])))
-          (counts_more c.args.self.now c.loop-found.self c.take.new.self (map cell done) found.cell c.loop-found.invariant.counts c.in_ok-take.ensures.counts);
       taken = λ stream width came given has.
           subst (λ cs. HasTaken c.args.table.now stream width cs given c.take.new.self)
           (append_assoc came (map cell done) (found.cell ∷ []) ∙ ap (λ cs. came ++ cs) (sym (map-append cell done (found ∷ []))))
@@ -48,12 +44,6 @@ module _ (c : In-None) where
       let none : into_iter_items c.loop-found.found-iterator ≡ [] =
       nil_from_length (into_iter_items c.loop-found.found-iterator) (omega (arith, c.in-None.ensures.steps.0)) in
       c.loop-found.invariant.whole ∙ ap (λ xs. c.loop-found.yielded ++ xs) none ∙ append-nil c.loop-found.yielded
-
-pub returns-clause-counts : goal.returns-clause-counts
-returns-clause-counts c =
-    let cell = λ (f : FoundCell). f.cell in
-    let all = all (goal.at.returns-clause-counts c).In-None in
-    subst (λ xs. CountsCells c.args.self.now (map cell xs) c.loop-found.self) (sym all) c.loop-found.invariant.counts
 
 pub returns-clause-takes : goal.returns-clause-takes
 returns-clause-takes c =
