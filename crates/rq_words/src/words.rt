@@ -8,6 +8,7 @@ ghost use Rattle.rq_words.specs.Asked.{asked, kinds_of, valued, part_asked, symb
 
 use crate::jobs::{InfoJob, Job, ReceiveJob, SendJob, Telling};
 use crate::values;
+use clap::error::ErrorKind;
 use clap::{ArgMatches, Error};
 use rq_cast::{Ids, Order, Repair};
 use rq_options::{
