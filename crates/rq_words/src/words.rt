@@ -8,6 +8,7 @@ ghost use Rattle.rq_options.specs.Options.{misuse_kind};
 
 use crate::jobs::{InfoJob, Job, ReceiveJob, Rounds, SendJob, Telling};
 use crate::values;
+use clap::error::ErrorKind;
 use clap::{ArgMatches, Error};
 use rq_cast::{Ids, Order, Repair};
 use rq_options::{

@@ -1,19 +1,20 @@
+use Rattle.std.proofs.Common.{map}
 use Rattle.clap.specs.Words.{found_of, rows_of}
 use Rattle.rq_options.proofs.Parsed.{fails_refused}
 use Rattle.rq_options.specs.Options.{misuse_kind}
-use Rattle.rq_words.specs.Asked.{kinds_of, name_asked, receive_asked, receiving_asked}
+use Rattle.rq_words.specs.Asked.{kinds_of, which_asked, receive_asked, receiving_asked}
 use Rattle.rq_words.proofs.Asking.{both_asked, fails_so, first_refused, passes, second_refused}
 use Rattle.rq_words.proofs.words.receive_job.Goals as goal
 
-pub returns-in_err-name-clause-fails : goal.returns-in_err-name-clause-fails
-returns-in_err-name-clause-fails c =
+pub returns-in_err-which-clause-fails : goal.returns-in_err-which-clause-fails
+returns-in_err-which-clause-fails c =
     fails_refused (kinds_of (receive_asked (rows_of (found_of c.args.matches.now)))) c.from_residual.result c.from_residual.ensures.1
 
 pub returns-in-Err-clause-fails : goal.returns-in-Err-clause-fails
 returns-in-Err-clause-fails c =
     let rows = rows_of (found_of c.args.matches.now) in
     let kind = misuse_kind c.in-Err.misuse in
-    fails_so (receive_asked rows) kind c.error.result (first_refused (name_asked rows) (receiving_asked rows) kind (rw c.in-Err.is at c.in_ok-name.ensures))
+    fails_so (receive_asked rows) kind c.error.result (first_refused (which_asked rows) (receiving_asked rows) kind (rw c.in-Err.is at c.in_ok-which.ensures))
     c.error.ensures
 
 pub returns-in-Err-receiving_of-clause-fails : goal.returns-in-Err-receiving_of-clause-fails
@@ -21,7 +22,7 @@ returns-in-Err-receiving_of-clause-fails c =
     let rows = rows_of (found_of c.args.matches.now) in
     let kind = misuse_kind c.in-Err-receiving_of.misuse in
     fails_so (receive_asked rows) kind c.error-in-Err-receiving_of.result
-    (second_refused (name_asked rows) (receiving_asked rows) c.in-Ok.name.items kind (rw c.in-Ok.is at c.in_ok-name.ensures) c.in-Err-receiving_of.ensures.value)
+    (second_refused (which_asked rows) (receiving_asked rows) (c.in-Ok.which.0.items, map (λ n. n.items) c.in-Ok.which.1.items) kind (rw c.in-Ok.is at c.in_ok-which.ensures) c.in-Err-receiving_of.ensures.value)
     c.error-in-Err-receiving_of.ensures
 
 pub returns-in_err-files-clause-fails : goal.returns-in_err-files-clause-fails
@@ -31,6 +32,6 @@ returns-in_err-files-clause-fails c =
 pub returns-clause-fails : goal.returns-clause-fails
 returns-clause-fails c =
     let rows = rows_of (found_of c.args.matches.now) in
-    passes (receive_asked rows) (c.in-Ok.name.items, c.in-Ok-receiving_of.receiving)
-    (both_asked (name_asked rows) (receiving_asked rows) c.in-Ok.name.items c.in-Ok-receiving_of.receiving (rw c.in-Ok.is at c.in_ok-name.ensures)
+    passes (receive_asked rows) ((c.in-Ok.which.0.items, map (λ n. n.items) c.in-Ok.which.1.items), c.in-Ok-receiving_of.receiving)
+    (both_asked (which_asked rows) (receiving_asked rows) (c.in-Ok.which.0.items, map (λ n. n.items) c.in-Ok.which.1.items) c.in-Ok-receiving_of.receiving (rw c.in-Ok.is at c.in_ok-which.ensures)
     c.in-Ok-receiving_of.ensures.value)
