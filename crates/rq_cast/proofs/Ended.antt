@@ -171,7 +171,7 @@ module _ (table : List TableRow) (w : Wish) (width most : ℕ) (past given : Lis
   some_with sound now is (Written stream) (ended, name) = (
     (some_so_far now is).1.ended ∙ ended,
     subst (λ (o : Option StreamReceiver). IsSomeAnd o (λ s. stream ≡ s.scanner.stream)) is name
-    ∙ ap (λ (k : Source). k.stream) (receiving now is).read.read.seen.scans,
+        ∙ ap (λ (k : Source). k.stream) (receiving now is).read.read.seen.scans,
   )
   some_with sound now is (Incomplete number missing) (open_still, lacks) =
       let l = lacked (Some now) is number missing lacks in

@@ -169,7 +169,7 @@ reading-preserved g c =
       running = runs_on w.table.now (wish_of w) c.args.window (unread g.R.Read.remaining c.args.input.now)
           (g.W.Write.contents (inner c.args.writer.now)) (unread g.R.Read.remaining c.reading.input) then c.reading._reads c.reading.receiver c.reading.seen
           c.reading.invariant.running (unread g.R.Read.remaining c.read.new.self) (last_piece c.read.new.self) c.in_ok-n.ensures.bytes
-    (omega (arith, c.in_ok-n.ensures.length, c.if-n-eq0.false)) (omega (arith, c.in_ok-n.ensures.length, c.in_ok-n.ensures.few))
+          (omega (arith, c.in_ok-n.ensures.length, c.if-n-eq0.false)) (omega (arith, c.in_ok-n.ensures.length, c.in_ok-n.ensures.few))
           c.feed.new.self (subst (λ xs. Feeds xs c.reading.receiver c.feed.new.self) c.piece.ensures c.in_ok-feed.ensures.fed) c.all_seen-in-reading.result c.all_seen-in-reading.ensures then'
           (subst (λ xs. Appends then then' xs) ready c.in_ok-write_part.ensures.bytes)
           c.take_ready.new.self
