@@ -167,7 +167,9 @@ fn write_ending<W: Write>(ending: Ending, seen: &Seen, out: &mut W) -> io::Resul
     let Ending::Incomplete { parts, missing } = ending else {
         return Ok(());
     };
-    if seen.ahead > 0 {
+    // Who joined late lacks the first part whole, and no window helps.
+    let is_late = parts == 0 && missing.is_none();
+    if seen.ahead > 0 && !is_late {
         let (ahead, noun) = (seen.ahead, if seen.ahead == 1 { "cell" } else { "cells" });
         writeln!(
             out,
