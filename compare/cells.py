@@ -435,8 +435,16 @@ class Received(NamedTuple):
     status: int
 
 
-def is_wanted(head, name):
-    return configuration_of(head).is_taken() and head[4:12].startswith(name)
+class Wish(NamedTuple):
+    """How a wanted stream begins, and how one that is passed over does."""
+
+    name: bytes = b""
+    passed: tuple = ()
+
+
+def is_wanted(head, wish):
+    stream = head[4:12]
+    return configuration_of(head).is_taken() and stream.startswith(wish.name) and not stream.startswith(wish.passed)
 
 
 def is_of_stream(head, other):
@@ -444,25 +452,25 @@ def is_of_stream(head, other):
     return head[4:12] == other[4:12] and configuration_of(head).size == configuration_of(other).size
 
 
-def find_first(places, name, ends):
+def find_first(places, wish, ends):
     """The first wanted cell, and the end of the read that makes it whole."""
-    whole = [place for place in places if place.is_cell and is_wanted(place.head, name)]
+    whole = [place for place in places if place.is_cell and is_wanted(place.head, wish)]
     return next(((place, end) for end in ends for place in whole if place.end <= end), None)
 
 
-def receive(data, name, ends, objects, key, width):
+def receive(data, wish, ends, objects, key, width):
     """What a receiver with a window of so many parts makes of bytes that are read up to these ends. Of these objects cells may stand there, which
     spares the model work."""
     places, window, taken = places_in(data, key), Window(width, objects), 0
-    found = find_first(places, name, ends)
+    found = find_first(places, wish, ends)
     if not found:
-        wanted = [is_wanted(place.head, name) for place in places]
+        wanted = [is_wanted(place.head, wish) for place in places]
         damaged = sum(is_one and place.end <= len(data) for is_one, place in zip(wanted, places))
         return Received(len(data), {"cells": 0, "damaged": damaged, "others": len(places) - sum(wanted), **window.counts()}, b"", 2)
     first, front = found
     before = [place for place in places if place.at < first.at]
-    damaged = sum(is_wanted(place.head, name) and place.end <= front for place in before)
-    others = sum(not is_wanted(place.head, name) for place in before)
+    damaged = sum(is_wanted(place.head, wish) and place.end <= front for place in before)
+    others = sum(not is_wanted(place.head, wish) for place in before)
     own = [place for place in places if place.at >= first.at and is_of_stream(place.head, first.head)]
     for end in (end for end in ends if end >= front):
         cells = [place for place in own if place.is_cell and place.end <= end]
