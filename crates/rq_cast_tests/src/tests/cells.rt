@@ -109,12 +109,13 @@ fn first_wanted_cell_is_found(rt: HostRuntime) {
             all: heads,
         }
     };
-    let rows: [(&Key, &[u8], u8, Search); 5] = [
-        (&none, &[], 0, found(2, 0)),
-        (&none, &[137, 92], 0, found(1, 1)),
-        (&none, &[1], 0, not_yet(0, 4)),
+    let rows: [(&Key, &[u8], u8, Search); 6] = [
+        (&none, &[], 1, found(2, 0)),
+        (&none, &[], 0, found(1, 1)),
+        (&none, &[137, 92], 1, found(1, 1)),
+        (&none, &[1], 1, not_yet(0, 4)),
         (&none, &[], 137, not_yet(1, 3)),
-        (&key, &[], 0, not_yet(0, 0)),
+        (&key, &[], 1, not_yet(0, 0)),
     ];
     for (key, name, passed, wanted) in rows {
         let passed = [Vec::from_slice(alloc, &[passed]).expect(&rt, "a beginning")];

@@ -173,7 +173,7 @@ fn both(alloc: Global, row: &Row) -> Result<(Done, Done), Error> {
 
 #[test]
 fn words_are_done(rt: HostRuntime) {
-    let rows: [Row; 18] = [
+    let rows: [Row; 19] = [
         ("send --cell 88 --repair 0 FILE", FILE, 0, CELLS, 1),
         ("send --cell=88 -r0 --share 0/2", FILE, 0, (&FIRST, b""), 0),
         ("send -c88 -r 0 --from 1 -q", FILE, 0, (&SECOND, b""), 0),
