@@ -310,7 +310,8 @@ fn passed_of<'a>(
     alloc: Global,
     matches: &ArgMatches<'a>,
 ) -> Result<Result<Vec<Vec<u8>>, Misuse<'a>>, AllocError>
-    ensures { IfOk result (λ passed. asked (result_map_both (λ v. map (λ n. n.items) v.items) (λ misuse. misuse) passed) ≡ passed_asked (rows_of (found_of matches.now))) }
+    ensures { IfOk result (λ passed. asked (result_map_both (λ v. map (λ n. n.items) v.items) (λ misuse. misuse) passed)
+        ≡ passed_asked (rows_of (found_of matches.now))) }
 {
     let texts = texts_of(alloc, matches, "not")?;
     if let Some(text) = texts.get(MOST_PASSED) {

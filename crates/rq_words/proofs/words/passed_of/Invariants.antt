@@ -6,5 +6,5 @@ use Rattle.rq_words.proofs.words.passed_of.Given as goal
 -- what the first texts name, and then the others
 abbrev pub invariant-names : goal.invariant-names
 invariant-names l = record {
-  behind : each_named (map (λ s. s.now) l.text-items) ≡ named_behind (map (λ n. n.items) l.passed.items) (drop l.text-index (map (λ s. s.now) l.text-items))
+  behind : each_named (map (λ s. s.now) l.text-items) ≡ named_behind (map (λ n. n.items) l.passed.items) (drop l.text-index (map (λ s. s.now) l.text-items));
 }

@@ -1,4 +1,4 @@
-use Rattle.std.proofs.Common.{map}
+use Rattle.std.proofs.Common.{ℕ, List, map}
 use Rattle.clap.specs.Words.{found_of, rows_of}
 use Rattle.rq_options.proofs.Parsed.{fails_refused}
 use Rattle.rq_options.specs.Options.{misuse_kind}
@@ -20,10 +20,11 @@ returns-in-Err-clause-fails c =
 pub returns-in-Err-receiving_of-clause-fails : goal.returns-in-Err-receiving_of-clause-fails
 returns-in-Err-receiving_of-clause-fails c =
     let rows = rows_of (found_of c.args.matches.now) in
+    let which : List ℕ × List (List ℕ) = (c.in-Ok.which.0.items, map (λ n. n.items) c.in-Ok.which.1.items) in
     let kind = misuse_kind c.in-Err-receiving_of.misuse in
+    let is = rw c.in-Ok.is at c.in_ok-which.ensures in
     fails_so (receive_asked rows) kind c.error-in-Err-receiving_of.result
-    (second_refused (which_asked rows) (receiving_asked rows) (c.in-Ok.which.0.items, map (λ n. n.items) c.in-Ok.which.1.items) kind (rw c.in-Ok.is at c.in_ok-which.ensures) c.in-Err-receiving_of.ensures.value)
-    c.error-in-Err-receiving_of.ensures
+    (second_refused (which_asked rows) (receiving_asked rows) which kind is c.in-Err-receiving_of.ensures.value) c.error-in-Err-receiving_of.ensures
 
 pub returns-in_err-files-clause-fails : goal.returns-in_err-files-clause-fails
 returns-in_err-files-clause-fails c =
@@ -32,6 +33,8 @@ returns-in_err-files-clause-fails c =
 pub returns-clause-fails : goal.returns-clause-fails
 returns-clause-fails c =
     let rows = rows_of (found_of c.args.matches.now) in
-    passes (receive_asked rows) ((c.in-Ok.which.0.items, map (λ n. n.items) c.in-Ok.which.1.items), c.in-Ok-receiving_of.receiving)
-    (both_asked (which_asked rows) (receiving_asked rows) (c.in-Ok.which.0.items, map (λ n. n.items) c.in-Ok.which.1.items) c.in-Ok-receiving_of.receiving (rw c.in-Ok.is at c.in_ok-which.ensures)
-    c.in-Ok-receiving_of.ensures.value)
+    let which : List ℕ × List (List ℕ) = (c.in-Ok.which.0.items, map (λ n. n.items) c.in-Ok.which.1.items) in
+    let receiving = c.in-Ok-receiving_of.receiving in
+    let is = rw c.in-Ok.is at c.in_ok-which.ensures in
+    passes (receive_asked rows) (which, receiving)
+    (both_asked (which_asked rows) (receiving_asked rows) which receiving is c.in-Ok-receiving_of.ensures.value)
