@@ -1,5 +1,5 @@
 -- What is done by the words.
-use Rattle.std.proofs.Common.{◌≡◌, Bool, ℕ, List, length, Option, Some, None, Result, Ok, Err, IfSome, IfErr, inr, sym, subst, ap, ◌∙◌}
+use Rattle.std.proofs.Common.{◌≡◌, Bool, ℕ, List, length, Option, Some, None, Result, Ok, Err, IfSome, IfErr, inr, sym, subst, ◌∙◌}
 use Rattle.rq_cast.specs.declared.order.Order.{Order}
 use Rattle.rq_bytes.specs.declared.error.Error.{Error}
 use Rattle.rq_standard.specs.declared.row.TableRow.{TableRow}

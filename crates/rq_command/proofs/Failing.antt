@@ -21,6 +21,11 @@ failed_then (Some x) b c m n all first then is =
     let behind : c ≡ Some (x + m + n) = subst (λ (o : Option ℕ). Fails o c n) first then in
     let same : x + m + n ≡ x + all = omega (arith, is) in behind ∙ ap (λ k. Some k) same
 
+-- none as a run begins, some as it goes on, and others at its end
+pub failed_through : (a b c d e : Option ℕ) (m n all : ℕ) → Fails a b 0 → Fails b c 0 → Fails c d m → Fails d e n → m + n ≡ all → Fails a e all
+failed_through a b c d e m n all first then on last is =
+    failed_then a b e 0 all all first (failed_then b c e 0 all all then (failed_then c d e m n all on last is) (omega arith)) (omega arith)
+
 -- what stopped a run that failed so often
 stopped : (r : Result End Stop) (stop : Stop) (a b : Option ℕ) → r ≡ Err stop → Fails a b (failed_calls {X = ℕ} (Err stop)) → Failures (end_of r) a b
 stopped r Fault a b is fails = subst (λ (e : Result End Stop). Failures (end_of e) a b) (sym is) (1, fails, lit< tt)

@@ -1,13 +1,12 @@
 -- Rounds of a stream, one after another.
-use Rattle.std.proofs.Common.{◌≡◌, inl, inr, ℕ, zero, suc, ◌+◌, ◌<◌, ◌^◌, min, Option, Some, None, Err, refl, sym, ap, subst, ◌∙◌, arith}
+use Rattle.std.proofs.Common.{◌≡◌, inl, inr, ℕ, suc, ◌+◌, ◌<◌, Option, Some, None, Err, refl, ap, subst, ◌∙◌, arith}
 use Rattle.rq_streams.specs.declared.run.Stop.{Stop}
 use Rattle.rq_streams.specs.Ends.{failed_calls}
 use Rattle.rq_cast.specs.declared.halt.Halt.{Halt}
 use Rattle.rq_cast.specs.declared.halt.Halt.TheVariants.{By}
-use Rattle.rq_cast.specs.declared.known.Known.{Known}
 use Rattle.rq_cast.specs.declared.order.Order.{Order}
 use Rattle.rq_cast.specs.declared.stream_sending.Sent.{Sent}
-use Rattle.rq_cast.specs.Rounds.{in_round, most_at, sum_of}
+use Rattle.rq_cast.specs.Rounds.{in_round, most_at}
 use Rattle.rq_cast.specs.SentParts.{SendsStream, StopsStream, halted_calls}
 use Rattle.rq_cells.specs.Cells.{Key}
 use Rattle.rq_command.specs.declared.rounds.Rounds.{Rounds}
@@ -48,6 +47,15 @@ module _ {W : Type 0} (contents : W → Contents) (first : Rounds W) (input : Co
     of_first P holds =
         subst (λ (k : Key). P (in_round first.order n) k) has.same.key
         (subst (λ (i : ℕ). P (in_round first.order i) now.key) has.number (subst (λ (o : Order). P (in_round o now.number) now.key) has.same.order holds))
+
+    -- no more calls failed since
+    pub still : Fails b c 0 → HasSentRounds now n a c
+    still none = record {
+      same = has.same;
+      number = has.number;
+      sends = has.sends;
+      counts = (has.counts.0, failed_then a b c has.counts.0 0 has.counts.0 has.counts.1 none (omega arith), has.counts.2);
+    }
 
     pub one_more : (next : Rounds W) → SendsRound contents input now next b c → HasSentRounds next (n + 1) a c
     one_more next more = record {
@@ -115,7 +123,7 @@ module _ {W : Type 0} (contents : W → Contents) (first : Rounds W) (input : Co
         sent = now.sent;
         known = now.known;
         sends = has.sends;
-        next = inl (refl, some, (stop, refl, is));
+        next = inl (refl, (some, (stop, refl, is)));
       },
       (has.counts.0, failed_then a b c has.counts.0 (failed_calls {X = ℕ} (Err stop)) (has.counts.0 + failed_calls {X = ℕ} (Err stop)) has.counts.1 fails refl),
     )

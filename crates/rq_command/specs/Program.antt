@@ -91,7 +91,7 @@ pub record Receives {X : Type 0} (name : List ℕ) (passed : List (List ℕ)) (w
   pub table : List TableRow
   pub rows : wanted_table FURTHER_ROWS ≡ Ok table
   pub after : Contents
-  pub last : ℕ
+  pub last : List ℕ
   pub written : Contents
   pub ended : Result Ending Stop
   pub ends : EndsReceiving table (wish_over table key name passed) window ended seen input after last blank written

@@ -1,5 +1,5 @@
 -- What sending one round more does.
-use Rattle.std.specs.Prelude.{◌≡◌, ℕ, ◌+◌, ◌<◌, List, Option, map, nat_lt}
+use Rattle.std.specs.Prelude.{◌≡◌, ℕ, ◌+◌, ◌<◌, Option, map, nat_lt}
 use Rattle.rq_cast.specs.declared.halt.Halt.{Halt}
 use Rattle.rq_cast.specs.declared.stream_sending.Sent.{Sent}
 use Rattle.rq_cast.specs.Rounds.{IsFresh, in_round, sum_of}

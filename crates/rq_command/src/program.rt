@@ -1,5 +1,5 @@
 //! The program from its words to its end, over any devices.
-ghost use Rattle.std.specs.Prelude.{◌≡◌, ◌⊎◌, ℕ, ◌+◌, ◌<◌, map, option_map, Ok, Err, IfOk, IfErr, IfSome};
+ghost use Rattle.std.specs.Prelude.{◌≡◌, ◌⊎◌, ℕ, ◌+◌, ◌<◌, map, option_map, Ok, Err, IfOk, IfErr, IfSome, true};
 ghost use Rattle.rq_streams.specs.Ends.{failed_calls};
 ghost use Rattle.rq_command.specs.Failed.{Fails, StopsReading};
 ghost use Rattle.rq_words.specs.Values.{times_of};

@@ -3,8 +3,8 @@ use Rattle.rq_command.proofs.RoundSteps.{HasSentRounds}
 use Rattle.rq_command.proofs.rounds.send_rounds.Given as goal
 
 -- so many rounds are sent of what stands in the files
-abbrev pub invariant-loop-_round : goal.invariant-loop-_round
-invariant-loop-_round g l = record {
+abbrev pub invariant-loop-round : goal.invariant-loop-round
+invariant-loop-round g l = record {
   has : HasSentRounds g.D.Writer.Write.contents l.fn.unsent (g.D.Devices.stands l.fn.devices (map (λ s. s.now) l.fn.unsent.files.items)) l.rounds l._round
       (g.D.Devices.failed l.fn.devices) (g.D.Devices.failed l.devices);
   within : l._round ≤ l.fn.unsent.all;
