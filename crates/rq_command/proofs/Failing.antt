@@ -1,5 +1,5 @@
 -- Failed calls of a run.
-use Rattle.std.proofs.Common.{◌≡◌, ℕ, ◌+◌, ◌≤◌, Option, Some, None, Result, Ok, Err, true, false, refl, sym, subst, ap, ◌∙◌, arith, lit<}
+use Rattle.std.proofs.Common.{◌≡◌, ℕ, List, ◌+◌, ◌≤◌, Option, Some, None, Result, Ok, Err, true, false, refl, sym, subst, ap, ◌∙◌, arith, lit<}
 use Rattle.std.specs.Result.{IsErrAnd}
 use Rattle.std.proofs.lemmas.Result.{err_from_is_err_and}
 use Rattle.rq_streams.specs.declared.run.Stop.{Stop}
@@ -88,9 +88,10 @@ fails_at_end ended r stop a b is fault ends fails =
 pub put : {X D : Type 0} (file : Option X) (ended : Result Ending Stop) (d : D) (written old new : Contents) → is_whole ended ≡ true
     → IsFinished file true (Ok d) written old new → IsPlaced file ended written old new
 put None ended d written old new is h = h
-put (Some file) ended d written old new is h = subst (λ (e : Result Ending Stop). IsPlaced (Some file) e written old new) (sym (whole ended is).1) h
+put (Some file) ended d written old new is h =
+    let w = whole ended is in subst (λ (e : Result Ending Stop). IsPlaced (Some file) e written old new) (sym w.1) h
 
 pub fails_nowhere : (ended : Result Ending Stop) (a b : Option ℕ) → is_whole ended ≡ true → Fails a b 0
     → (n : ℕ) × Fails a b n × FailsReceiving ended (failed_calls ended + n)
 fails_nowhere ended a b is fails =
-    (0, fails, subst (λ (e : Result Ending Stop). FailsReceiving e (failed_calls e + 0)) (sym (whole ended is).1) refl)
+    let w = whole ended is in (0, fails, subst (λ (e : Result Ending Stop). FailsReceiving e (failed_calls e + 0)) (sym w.1) refl)
