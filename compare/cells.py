@@ -328,7 +328,7 @@ class Part:
     def take(self, place):
         if place.head == self.head:
             self.cells += 1
-        elif self.data is not None or not configuration_of(place.head).is_taken() or not self.is_outnumbered(place.head):
+        elif not configuration_of(place.head).is_taken() or not self.is_outnumbered(place.head):
             return
         else:
             self.begin_anew(place.head)
