@@ -11,4 +11,5 @@ mod sending;
 mod stored_cells;
 mod stored_parts;
 mod stored_runs;
+mod watch;
 mod words;

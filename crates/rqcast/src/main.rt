@@ -2,26 +2,18 @@
 //! stand. `rqcast --help` says how it is called.
 #![tactic(auto)]
 
-mod amounts;
 mod aside;
 mod failure;
-mod line;
-mod pace;
-mod pulse;
-mod sending;
 mod source;
 mod system;
 mod target;
-#[cfg(test)]
-mod tests;
-mod watch;
 mod words;
 
 use crate::failure::Failure;
 use crate::system::System;
-use crate::watch::Watch;
 use crate::words::{Words, read_words};
 use rq_command::{End, Telling, run, write_end, write_standings};
+use rq_watch::Watch;
 use std::cell::{Cell, OnceCell};
 use std::io;
 use std::io::IsTerminal;

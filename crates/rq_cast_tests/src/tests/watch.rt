@@ -1,8 +1,7 @@
-use crate::amounts::{Amount, Time};
-use crate::line::{COLUMNS, Course};
-use crate::watch::Watch;
+//! What is told while a run goes on.
 use rq_cast::{Progress, Seen};
 use rq_command::{Teller, Telling};
+use rq_watch::{Amount, COLUMNS, Course, Time, Watch};
 use std::alloc::AllocError;
 use std::cell::Cell;
 use std::io;
