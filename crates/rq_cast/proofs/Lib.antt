@@ -24,6 +24,7 @@ pub mod Prepared
 pub mod Receiving
 pub mod RoundIds
 pub mod RoundLaw
+pub mod RoundsReceived
 pub mod RowCells
 pub mod Runs
 pub mod SameHead

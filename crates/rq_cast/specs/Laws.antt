@@ -10,7 +10,7 @@ use Rattle.rq_rows.specs.FullTable.{full_rows}
 use Rattle.rq_cast.specs.declared.order.Order.{Order}
 use Rattle.rq_cast.specs.Ids.{AreIds}
 use Rattle.rq_cast.specs.Parts.{object_of}
-use Rattle.rq_cast.specs.Rounds.{round_first}
+use Rattle.rq_cast.specs.Rounds.{in_round, round_first}
 use Rattle.rq_cast.specs.Sent.{Sending, cell_count, sent_id, IsSentCell, IsSendingOf}
 use Rattle.rq_cast.specs.SentParts.{last_index, bytes_of_part, names_of, IsPreparedPart}
 use Rattle.rq_cast.specs.Streams.{Parts, AreSenders}
@@ -67,6 +67,14 @@ PreparedPartsAreSent =
     (order : Order) (key : Key) (input : List ℕ) (of : ℕ → Sending)
     → ((i : ℕ) → i ≤ last_index order.part input → IsPreparedPart order key input of i (of i))
     → SendOverAllRows of (last_index order.part input) (bytes_of_part order.part input)
+
+-- The cells that are sent of an input in any rounds, whichever come, in whatever order and however often, are one sender's.
+abbrev pub RoundsAreOneSenders : Type 0
+RoundsAreOneSenders =
+    (order : Order) (key : Key) (input : List ℕ) (of : ℕ → ℕ → Sending)
+    → ((round i : ℕ) → i ≤ last_index order.part input → IsPreparedPart (in_round order round) key input (of round) i (of round i))
+    → (cells : List Cell) → All (λ cell. (round : ℕ) × (i : ℕ) × (i ≤ last_index order.part input) × IsCellFrom (of round i) cell) cells
+    → AreSenders full_rows (of 0 0).head.stream (parts_sent (of 0) (last_index order.part input) (bytes_of_part order.part input)) cells
 
 -- ---- the order of a part's cells
 

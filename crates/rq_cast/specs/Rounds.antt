@@ -1,11 +1,12 @@
 -- Rounds of a stream: which ids each sends, and what is known of its parts behind the first one.
-use Rattle.std.specs.Prelude.{◌≡◌, ℕ, ◌+◌, ◌-◌, ◌*◌, ◌/◌, ◌%◌, ◌^◌, min, ◌==◌, Bool, List, [], ◌++◌, length, slice_get, Some, if◌then◌else◌, nat_lt}
+use Rattle.std.specs.Prelude.{◌≡◌, ℕ, ◌+◌, ◌-◌, ◌*◌, ◌/◌, ◌%◌, ◌^◌, ◌==◌, Bool, List, [], ◌++◌, length, slice_get, Some, if◌then◌else◌, nat_lt}
 use Rattle.std.specs.Int.{div_ceil}
 use Rattle.rq_cast.specs.declared.order.Order.{Order}
 use Rattle.rq_cast.specs.declared.known.Known.{Known}
 use Rattle.rq_cast.specs.declared.known.Stage.{Stage}
 use Rattle.rq_cast.specs.declared.known.Stage.TheVariants.{Alone, First, Later}
 use Rattle.rq_cast.specs.declared.stream_sending.Sent.{Sent}
+use Rattle.rq_cast.specs.Searching.{counted}
 
 -- an order for a round
 abbrev pub in_round : Order → ℕ → Order
@@ -63,10 +64,6 @@ pub record KnowsAll (old : Known) (names : List (List ℕ)) (new : Known) : Type
 
 -- ---- sums
 
--- up to the greatest u64
-abbrev pub most_at : ℕ → ℕ
-most_at n = min n (2 ^ 64 - 1)
-
 -- what is sent in both of two rounds, whose parts are the same
 abbrev pub sum_of : Sent → Sent → Sent
-sum_of one next = record { parts = next.parts; cells = most_at (one.cells + next.cells); lost = most_at (one.lost + next.lost) }
+sum_of one next = record { parts = next.parts; cells = counted (one.cells + next.cells); lost = counted (one.lost + next.lost) }

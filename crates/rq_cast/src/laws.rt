@@ -1,5 +1,5 @@
 //! What senders and receivers of cells promise together.
-ghost use Rattle.rq_cast.specs.Laws.{SentCellsAreFound, SentAreOneSenders, PreparedPartsAreSent, EachIsSentOnce, RoundsFollow};
+ghost use Rattle.rq_cast.specs.Laws.{SentCellsAreFound, SentAreOneSenders, PreparedPartsAreSent, RoundsAreOneSenders, EachIsSentOnce, RoundsFollow};
 ghost use Rattle.rq_cast.specs.Windows.{NoWindowDoesBetter};
 
 /// A cell that a [`Sender`](crate::Sender) sent is found among those of its stream, wherever it stands among bytes.
@@ -23,6 +23,12 @@ pub fn no_window_does_better()
 /// that are as long as each other.
 pub fn prepared_parts_are_sent()
     ensures { PreparedPartsAreSent }
+{}
+
+/// Cells of several rounds of a stream, whichever come, are those of one sender: a receiver that joins late, or that
+/// lacks packets of one round, takes those of the next together with what it has.
+pub fn rounds_are_one_senders()
+    ensures { RoundsAreOneSenders }
 {}
 
 /// A [`Sender`](crate::Sender) sends each of its ids of each block, and once.

@@ -147,8 +147,9 @@ impl<'a> StreamSender<'a> {
 /// network that is down or without room, and the next one is written then. Behind each part it flushes. Each other failed call ends it
 /// with [`Stop::Fault`], and a beginning of a cell may be written.
 ///
-/// It is one round of a stream, as is ordered. Behind the first one a part that isn't what it was, or a last one that
-/// wasn't, ends it with [`Halt::Changed`] before any of its cells is written.
+/// It is one round of a stream, as is ordered. `known` is what the round before it answered, and for the first one
+/// [`Known::new`]. Behind the first one a part that isn't what it was, or a last one that wasn't, ends it with
+/// [`Halt::Changed`] before any of its cells is written.
 ///
 /// Refuses, of each part in this order, [`Error::TransferTooLong`] where 2^30 are sent already, what
 /// [`ObjectTransmissionInformation::with_defaults`](raptorq::ObjectTransmissionInformation::with_defaults)

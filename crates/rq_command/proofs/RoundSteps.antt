@@ -6,7 +6,8 @@ use Rattle.rq_cast.specs.declared.halt.Halt.{Halt}
 use Rattle.rq_cast.specs.declared.halt.Halt.TheVariants.{By}
 use Rattle.rq_cast.specs.declared.order.Order.{Order}
 use Rattle.rq_cast.specs.declared.stream_sending.Sent.{Sent}
-use Rattle.rq_cast.specs.Rounds.{in_round, most_at}
+use Rattle.rq_cast.specs.Rounds.{in_round}
+use Rattle.rq_cast.specs.Searching.{counted}
 use Rattle.rq_cast.specs.SentParts.{SendsStream, StopsStream, halted_calls}
 use Rattle.rq_cells.specs.Cells.{Key}
 use Rattle.rq_command.specs.declared.rounds.Rounds.{Rounds}
@@ -22,7 +23,7 @@ none_fails None = tt
 none_fails (Some n) = let same : n ≡ n + 0 = omega arith in ap (λ k. Some k) same
 
 -- a sum of which some was cut is cut so too
-pub most_sum : (n m : ℕ) → most_at (most_at n + m) ≡ most_at (n + m)
+pub most_sum : (n m : ℕ) → counted (counted n + m) ≡ counted (n + m)
 most_sum n m = omega arith
 
 module _ {W : Type 0} (contents : W → Contents) (first : Rounds W) (input : Contents) where
@@ -81,7 +82,7 @@ module _ {W : Type 0} (contents : W → Contents) (first : Rounds W) (input : Co
       counts = (
         has.counts.0 + more.more.lost,
         failed_then a b c has.counts.0 more.more.lost (has.counts.0 + more.more.lost) has.counts.1 more.counts refl,
-        ap (λ (s : Sent). s.lost) more.sum ∙ ap (λ k. most_at (k + more.more.lost)) has.counts.2 ∙ most_sum has.counts.0 more.more.lost,
+        ap (λ (s : Sent). s.lost) more.sum ∙ ap (λ k. counted (k + more.more.lost)) has.counts.2 ∙ most_sum has.counts.0 more.more.lost,
       );
     }
 

@@ -18,7 +18,7 @@ use Rattle.rq_cast.specs.declared.stream_sending.Sent.{Sent as SentParts}
 use Rattle.rq_cast.specs.Preparing.{RefusesParts}
 use Rattle.rq_cast.specs.Received.{EndsReceiving, wish_over}
 use Rattle.rq_cells.specs.Cells.{Key}
-use Rattle.rq_cast.specs.Rounds.{most_at}
+use Rattle.rq_cast.specs.Searching.{counted}
 use Rattle.rq_cast.specs.Surveyed.{IsSurvey}
 use Rattle.rq_words.specs.declared.values.TheConstants.{WIDEST_WINDOW}
 use Rattle.rq_words.specs.declared.jobs.Job.{Job}
@@ -165,7 +165,7 @@ FailsReceiving (Err (Refused e)) n = n ≤ 1
 
 -- So many failed in a run that ended so. A lost cell is one, and cells may be lost before memory is refused, or before what is read has changed.
 abbrev pub FailsIn : End → ℕ → Type 0
-FailsIn (Sent sent) n = sent.lost ≡ most_at n
+FailsIn (Sent sent) n = sent.lost ≡ counted n
 FailsIn (Changed part) n = ⊤
 FailsIn (Received result seen) n = FailsReceiving result n
 FailsIn (Stopped Fault) n = 0 < n

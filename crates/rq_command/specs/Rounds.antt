@@ -6,7 +6,8 @@ use Rattle.rq_cast.specs.declared.halt.Halt.TheVariants.{By}
 use Rattle.rq_cast.specs.declared.known.Known.{Known}
 use Rattle.rq_cast.specs.declared.order.Order.{Order}
 use Rattle.rq_cast.specs.declared.stream_sending.Sent.{Sent}
-use Rattle.rq_cast.specs.Rounds.{IsFresh, in_round, most_at, sum_of}
+use Rattle.rq_cast.specs.Rounds.{IsFresh, in_round, sum_of}
+use Rattle.rq_cast.specs.Searching.{counted}
 use Rattle.rq_cast.specs.SentParts.{SendsStream, StopsStream, halted_calls}
 use Rattle.rq_cells.specs.Cells.{Key}
 use Rattle.rq_command.specs.Failed.{Fails, StopsReading}
@@ -52,7 +53,7 @@ pub record StopsRounds (order : Order) (key : Key) (rounds : ℕ) (input there t
 
 -- So many calls failed: a lost cell is one.
 abbrev pub CountsSent : Option ℕ → Option ℕ → Sent → Type 0
-CountsSent old new sent = (n : ℕ) × Fails old new n × (sent.lost ≡ most_at n)
+CountsSent old new sent = (n : ℕ) × Fails old new n × (sent.lost ≡ counted n)
 
 -- and one that stops it is one
 abbrev pub CountsHalt : Option ℕ → Option ℕ → Halt → Type 0
