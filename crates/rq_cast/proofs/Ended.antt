@@ -10,13 +10,13 @@ use Rattle.rq_cells.specs.Found.{Source, source_of, cells_in, damaged_in, others
 use Rattle.rq_cells.specs.Wanted.{Wish}
 use Rattle.rq_cast.specs.declared.receiver.Receiver.{Receiver}
 use Rattle.rq_cast.specs.declared.run.Ending.{Ending}
-use Rattle.rq_cast.specs.declared.run.Ending.TheVariants.{Written, Incomplete}
+use Rattle.rq_cast.specs.declared.run.Ending.TheVariants.{Written, Incomplete, GivenUp}
 use Rattle.rq_cast.specs.declared.seen.Seen.{Seen}
 use Rattle.rq_cast.specs.declared.stream_receiver.StreamReceiver.{StreamReceiver}
 use Rattle.rq_cast.specs.Searching.{SeesBefore}
 use Rattle.rq_cast.specs.Windows.{Settled, bytes_of, has_last, HasTaken, IsSoundWindow, Lacks, TellsLacks}
 use Rattle.rq_cast.specs.Receiving.{SeesAll, IsReceiving, HasFed, has_ended, ready_of, Shows, IsSoundReceiver, TellsLacked, TellsEnding}
-use Rattle.rq_cast.specs.Received.{IsReceived, from_first, cells_from, IsSeen, Receives, ReceivesSoFar, EndsWith}
+use Rattle.rq_cast.specs.Received.{IsNameOf, IsReceived, from_first, cells_from, IsSeen, Receives, ReceivesSoFar, EndsWith}
 use Rattle.rq_cast.proofs.Fed.{searching_of, receiving_of}
 
 -- ---- of a stream that was found
@@ -148,6 +148,7 @@ module _ (table : List TableRow) (w : Wish) (width most : ℕ) (past given : Lis
     pub receives_parts : ReceivesSoFar table w width most past parts seen
     pub far : SoFar parts
     pub ends_with : EndsWith table w width most past parts seen receives_parts ending
+    pub named : (stream : List ℕ) → IsSomeAnd r.stream (λ s. stream ≡ s.scanner.stream) → IsNameOf receives_parts.0 stream
 
   lacked : (o : Option StreamReceiver) → r.stream ≡ o → (number : ℕ) (missing : Option ℕ) → TellsLacked r number missing
       → MatchOption o ((number ≡ 0) × (missing ≡ None)) (λ k. (number ≡ k.window.names.count) × TellsLacks k.window missing)
@@ -164,6 +165,16 @@ module _ (table : List TableRow) (w : Wish) (width most : ℕ) (past given : Lis
   none_with is (Written stream) (ended, name) = absurd (subst (λ (o : Option StreamReceiver). IsSomeAnd o (λ s. stream ≡ s.scanner.stream)) is name)
   none_with is (Incomplete number missing) (open_still, lacks) =
       let l = lacked None is number missing lacks in ((none_so_far is).1.ended ∙ open_still, l.0, l.1)
+  none_with is (GivenUp stream number missing) told = absurd told
+
+  none_named : (is : r.stream ≡ None) (stream : List ℕ) → IsSomeAnd r.stream (λ s. stream ≡ s.scanner.stream) → IsNameOf (none_so_far is).0.0 stream
+  none_named is stream name = absurd (subst (λ (o : Option StreamReceiver). IsSomeAnd o (λ s. stream ≡ s.scanner.stream)) is name)
+
+  some_named : (now : StreamReceiver) (is : r.stream ≡ Some now) (stream : List ℕ) → IsSomeAnd r.stream (λ s. stream ≡ s.scanner.stream)
+      → IsNameOf (some_so_far now is).0.0 stream
+  unfolding some_so_far
+  some_named now is stream name =
+      subst (λ (o : Option StreamReceiver). IsSomeAnd o (λ s. stream ≡ s.scanner.stream)) is name ∙ ap (λ (k : Source). k.stream) (receiving now is).read.read.seen.scans
 
   some_with : IsSoundReceiver r → (now : StreamReceiver) (is : r.stream ≡ Some now) (e : Ending) → TellsEnding r e
       → EndsWith table w width most past (parts_of now is) seen (some_so_far now is).0 e
@@ -173,6 +184,7 @@ module _ (table : List TableRow) (w : Wish) (width most : ℕ) (past given : Lis
     subst (λ (o : Option StreamReceiver). IsSomeAnd o (λ s. stream ≡ s.scanner.stream)) is name
         ∙ ap (λ (k : Source). k.stream) (receiving now is).read.read.seen.scans,
   )
+  some_with sound now is (GivenUp stream number missing) told = absurd told
   some_with sound now is (Incomplete number missing) (open_still, lacks) =
       let l = lacked (Some now) is number missing lacks in
       let t = taken table w width most past given now (receiving now is) in
@@ -188,10 +200,11 @@ module _ (table : List TableRow) (w : Wish) (width most : ℕ) (past given : Lis
   ends sound ending told = by r.stream refl
     where
       by : (o : Option StreamReceiver) → r.stream ≡ o → Ends ending
-      by None is = record { parts = []; receives_parts = (none_so_far is).0; far = (none_so_far is).1; ends_with = none_with is ending told }
+      by None is = record { parts = []; receives_parts = (none_so_far is).0; far = (none_so_far is).1; ends_with = none_with is ending told; named = none_named is }
       by (Some now) is = record {
         parts = parts_of now is;
         receives_parts = (some_so_far now is).0;
         far = (some_so_far now is).1;
         ends_with = some_with sound now is ending told;
+        named = some_named now is;
       }

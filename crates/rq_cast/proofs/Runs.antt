@@ -1,22 +1,24 @@
 -- A run that reads piece after piece.
-use Rattle.std.proofs.Common.{◌≡◌, inl, inr, ℕ, ◌+◌, ◌-◌, ◌^◌, ◌<◌, ◌≤◌, List, [], ◌++◌, length, take, refl, sym, ap, subst, ◌∙◌, Option, Some, None, Ok, Err, append-nil, arith, length-append}
-use Rattle.std.specs.Prelude.{◌⊎◌, true, false}
+use Rattle.std.proofs.Common.{◌≡◌, inl, inr, ℕ, ◌+◌, ◌-◌, ◌^◌, ◌<◌, ◌≤◌, List, [], ◌++◌, length, take, refl, sym, ap, subst, ◌∙◌, Option, Some, None, Result, Ok, Err, append-nil, arith, length-append}
+use Rattle.std.specs.Prelude.{◌⊎◌, true, false, IfNone}
+use Rattle.std.specs.Result.{IsErrAnd}
 use Rattle.std.specs.Io.KnownBytes.{Consumes, Appends, Keeps, IsAtEnd}
 use Rattle.std.proofs.KnownBytes.{Consumes-trans, Consumes-kept, Consumes-nil, Appends-trans, Appends-nil}
 use Rattle.std.proofs.lemmas.Bool.{true≢false}
 use Rattle.rq_bytes.specs.declared.error.Error.{Error}
 use Rattle.rq_bytes.specs.declared.error.Error.TheVariants.{OutOfMemory}
 use Rattle.rq_standard.specs.declared.row.TableRow.{TableRow}
+use Rattle.rq_streams.specs.declared.run.Stop.{Stop}
 use Rattle.rq_streams.specs.declared.run.Stop.TheVariants.{Fault, Refused}
 use Rattle.rq_cells.specs.Wanted.{Wish}
 use Rattle.rq_cast.specs.declared.receiver.Receiver.{Receiver}
 use Rattle.rq_cast.specs.declared.run.Ending.{Ending}
-use Rattle.rq_cast.specs.declared.run.Ending.TheVariants.{Written, Incomplete}
+use Rattle.rq_cast.specs.declared.run.Ending.TheVariants.{Written, Incomplete, GivenUp}
 use Rattle.rq_cast.specs.declared.seen.Seen.{Seen}
 use Rattle.rq_cast.specs.Reading.{chunk_length}
 use Rattle.rq_cast.specs.Windows.{Settled, bytes_of, has_last}
-use Rattle.rq_cast.specs.Receiving.{HasFed, Feeds, HandsOutOf, Shows, IsSoundReceiver, has_ended, ready_of, TellsEnding}
-use Rattle.rq_cast.specs.Received.{IsNameOf, ReceivesSoFar, WritesAllRead, EndsReceiving}
+use Rattle.rq_cast.specs.Receiving.{HasFed, Feeds, HandsOutOf, Shows, IsSoundReceiver, has_ended, ready_of, TellsEnding, TellsGivenUp}
+use Rattle.rq_cast.specs.Received.{IsNameOf, ReceivesSoFar, WritesAllRead, EndsReceiving, is_given_up}
 use Rattle.rq_cast.proofs.Ended.{SoFar, so_far, ends}
 
 module _ (table : List TableRow) (w : Wish) (width : ℕ) (before there : Option (List ℕ)) where
@@ -98,6 +100,7 @@ module _ (table : List TableRow) (w : Wish) (width : ℕ) (before there : Option
           read' = subst (Consumes before after') (append-nil k.past) (Consumes-trans before after after' k.past [] k.read kept)
 
           by : (e : Ending) → TellsEnding r e → EndsReceiving table w width (Ok e) seen before after' came there then
+          by (GivenUp stream number missing) t = absurd t
           by (Written stream) (all, is) = absurd (true≢false (sym all ∙ k.open_still))
           by (Incomplete number missing) t =
               let e = ends table w width chunk_length k.past k.given r k.fed seen k.shows k.sound (Incomplete number missing) t in (
@@ -191,12 +194,25 @@ module _ (table : List TableRow) (w : Wish) (width : ℕ) (before there : Option
           -- it is the last part
           pub ends_written : has_ended new ≡ true → (ending : Ending) → TellsEnding new ending → EndsReceiving table w width (Ok ending) seen' before after' piece there then'
           ends_written ended (Incomplete number missing) (open_yet, lacked) = absurd (true≢false (sym ended ∙ open_yet))
+          ends_written ended (GivenUp stream number missing) told = absurd told
           ends_written ended (Written stream) told =
               let e = ends table w width chunk_length past' given' new fed_on seen' (shows seen' shows') sound (Written stream) told in
               let out : bytes_of e.parts ≡ given' = e.far.out ∙ ap (λ xs. given' ++ xs) none ∙ append-nil given' in
               done stream e.parts e.receives_parts e.ends_with.0 e.ends_with.1 then' (subst (Appends there then') (sym out) written_on)
 
-          -- or not
+          -- or it is given up
+          pub ends_given_up : (ending : Ending) → TellsGivenUp new ending → EndsReceiving table w width (Ok ending) seen' before after' piece there then'
+          ends_given_up (Written stream) told = absurd told
+          ends_given_up (Incomplete number missing) told = absurd told
+          ends_given_up (GivenUp stream number missing) told =
+              let e = ends table w width chunk_length past' given' new fed_on seen' (shows seen' shows') sound (Incomplete number missing) told.0 in
+              let out : bytes_of e.parts ≡ given' = e.far.out ∙ ap (λ xs. given' ++ xs) none ∙ append-nil given' in (
+                e.parts,
+                record { earlier = k.past; read = read_more; few = few; receives = e.receives_parts; named = e.named stream told.1; ends = e.ends_with },
+                subst (Appends there then') (sym out) written_on,
+              )
+
+          -- or neither
           pub runs_on : has_ended new ≡ false → IsRunning after' then' (reads + 1) new seen'
           runs_on open_yet = record {
             past = past';
@@ -210,3 +226,20 @@ module _ (table : List TableRow) (w : Wish) (width : ℕ) (before there : Option
             open_still = open_yet;
             sound = sound;
           }
+
+-- ---- no stream is given up
+
+pub not_given_up : (r : Receiver) (timeout : Option ℕ) (ending : Ending) → TellsEnding r ending → IfNone timeout (is_given_up (Ok ending) ≡ false)
+not_given_up r (Some seconds) ending told = tt
+not_given_up r None (Written stream) told = refl
+not_given_up r None (Incomplete number missing) told = refl
+not_given_up r None (GivenUp stream number missing) told = absurd told
+
+pub stopped_not_given_up : (timeout : Option ℕ) (r : Result Ending Stop) (P : Stop → Type 0) → IsErrAnd r P → IfNone timeout (is_given_up r ≡ false)
+stopped_not_given_up (Some seconds) r P is = tt
+stopped_not_given_up None (Ok ending) P is = absurd is
+stopped_not_given_up None (Err stop) P is = refl
+
+pub given_up_in_time : (timeout : Option ℕ) (ending : Ending) → IfNone timeout (Some ending ≡ None) → IfNone timeout (is_given_up (Ok ending) ≡ false)
+given_up_in_time (Some seconds) ending never = tt
+given_up_in_time None ending never = absurd (cc never)

@@ -71,7 +71,7 @@ module _ (table : List TableRow) (is_last : Bool) (names : List (List ℕ)) (obj
   pub name_long : length s.head.name ≡ 16
   name_long = ap (λ (h : Head). length h.name) is.head ∙ length-name number c object
 
-  fits : IsHead s.head
+  pub fits : IsHead s.head
   fits =
       let name = name_of_part number c object in
       subst IsHead (sym is.head) (record {
@@ -249,7 +249,7 @@ sent_are_one_senders table of last bytes all some cells from = one_sender table 
 -- ---- a run's parts
 
 -- each part but the last has all its bytes
-have_bytes : (size : ℕ) (input : List ℕ) → HaveBytes (last_index size input) (bytes_of_part size input)
+pub have_bytes : (size : ℕ) (input : List ℕ) → HaveBytes (last_index size input) (bytes_of_part size input)
 have_bytes zero input i below none = absurd (omega (arith, below))
 have_bytes (suc n) input i below none =
     let size : ℕ = suc n in

@@ -1,5 +1,5 @@
 -- What a run writes of the cells among the bytes that it reads.
-use Rattle.std.specs.Prelude.{◌≡◌, ◌⊎◌, ◌↔◌, ℕ, ◌+◌, ◌-◌, ◌^◌, ◌<◌, ◌≤◌, List, [], ◌++◌, length, take, drop, Option, Some, None, Result, Ok, Err, true, false}
+use Rattle.std.specs.Prelude.{◌≡◌, ◌⊎◌, ◌↔◌, ℕ, ◌+◌, ◌-◌, ◌^◌, ◌<◌, ◌≤◌, List, [], ◌++◌, length, take, drop, Option, Some, None, Result, Ok, Err, Bool, true, false}
 use Rattle.std.specs.Option.{IsSomeAnd}
 use Rattle.std.specs.Io.KnownBytes.{Consumes, Appends, IsAtEnd}
 use Rattle.rq_bytes.specs.declared.error.Error.TheVariants.{OutOfMemory}
@@ -16,7 +16,7 @@ use Rattle.rq_cells.specs.Cells.{Key}
 use Rattle.rq_cells.specs.Found.{source_of, cells_in, damaged_in, others_in}
 use Rattle.rq_cells.specs.Wanted.{Wish, IsFirstWanted, NoneBefore, damaged_before, unwanted_before}
 use Rattle.rq_cast.specs.declared.run.Ending.{Ending}
-use Rattle.rq_cast.specs.declared.run.Ending.TheVariants.{Written, Incomplete}
+use Rattle.rq_cast.specs.declared.run.Ending.TheVariants.{Written, Incomplete, GivenUp}
 use Rattle.rq_cast.specs.declared.seen.Seen.{Seen}
 use Rattle.rq_cast.specs.Searching.{counted, SeesNoWanted}
 use Rattle.rq_cast.specs.Reading.{chunk_length, IsLastRead}
@@ -104,6 +104,7 @@ abbrev pub EndsWith : (table : List TableRow) (w : Wish) (width most : ℕ) (pas
 EndsWith table w width most past parts seen receives (Written stream) = (has_last parts ≡ true) × IsNameOf receives.0 stream
 EndsWith table w width most past parts seen receives (Incomplete number missing) =
     (has_last parts ≡ false) × (number ≡ length parts) × LacksSoFar table w width most past parts seen receives missing
+EndsWith table w width most past parts seen receives (GivenUp stream number missing) = ⊥
 
 -- So it is of all that was read but for what the last read brought at most. The last part isn't settled by it.
 pub record StopsReceiving (table : List TableRow) (w : Wish) (width : ℕ) (before after : Option (List ℕ)) (came : List ℕ) (parts : List Settled) (seen : Seen) : Type 0
@@ -169,8 +170,23 @@ pub record ReceivesSome (table : List TableRow) (w : Wish) (width : ℕ) (before
   pub receives : ReceivesSoFar table w width chunk_length past parts seen
   pub ends : EndsWith table w width chunk_length past parts seen receives ending
 
+-- The stream is given up with what was read: the last part isn't settled, as for a run that reads no more.
+pub record GivesUp (table : List TableRow) (w : Wish) (width : ℕ) (before after : Option (List ℕ)) (last : List ℕ) (parts : List Settled) (stream : List ℕ)
+    (number : ℕ) (missing : Option ℕ) (seen : Seen) : Type 0 where
+  pub earlier : List ℕ
+  pub read : Consumes before after (earlier ++ last)
+  pub few : length last ≤ chunk_length
+  pub receives : ReceivesSoFar table w width chunk_length (earlier ++ last) parts seen
+  pub named : IsNameOf receives.0 stream
+  pub ends : EndsWith table w width chunk_length (earlier ++ last) parts seen receives (Incomplete number missing)
+
+-- a run has given its stream up
+abbrev pub is_given_up : Result Ending Stop → Bool
+is_given_up (Ok (GivenUp stream number missing)) = true
+is_given_up _ = false
+
 -- How a run ends that reads this input, whose last read brought these bytes, and behind whose writer this stood before and after: with all parts written; with
--- those that are settled at the end of the input; for want of memory with those that were settled before the last read; or at a failed call, where of what
+-- those that are settled at the end of the input, or as it gives its stream up; for want of memory with those that were settled before the last read; or at a failed call, where of what
 -- the last read settled a beginning may be written. And what was seen.
 abbrev pub EndsReceiving : List TableRow → Wish → ℕ → Result Ending Stop → Seen → Option (List ℕ) → Option (List ℕ) → List ℕ
     → Option (List ℕ) → Option (List ℕ) → Type 0
@@ -179,6 +195,8 @@ EndsReceiving table w width (Ok (Written stream)) seen before after came there t
 EndsReceiving table w width (Ok (Incomplete number missing)) seen before after came there then =
     (parts : List Settled) × ReceivesSome table w width before after parts (Incomplete number missing) seen
     × Appends there then (bytes_of parts)
+EndsReceiving table w width (Ok (GivenUp stream number missing)) seen before after came there then =
+    (parts : List Settled) × GivesUp table w width before after came parts stream number missing seen × Appends there then (bytes_of parts)
 EndsReceiving table w width (Err (Refused e)) seen before after came there then =
     (e ≡ OutOfMemory) × (parts : List Settled) × StopsReceiving table w width before after came parts seen
     × Appends there then (bytes_of parts)

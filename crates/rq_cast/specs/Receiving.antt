@@ -13,7 +13,7 @@ use Rattle.rq_cast.specs.declared.stream_receiver.Found.{Found}
 use Rattle.rq_cast.specs.declared.stream_receiver.StreamReceiver.{StreamReceiver}
 use Rattle.rq_cast.specs.declared.seen.Seen.{Seen}
 use Rattle.rq_cast.specs.declared.run.Ending.{Ending}
-use Rattle.rq_cast.specs.declared.run.Ending.TheVariants.{Written, Incomplete}
+use Rattle.rq_cast.specs.declared.run.Ending.TheVariants.{Written, Incomplete, GivenUp}
 use Rattle.rq_cast.specs.Windows.{IsSoundWindow, HasTaken, TellsLacks}
 use Rattle.rq_cast.specs.Reading.{chunk_length}
 use Rattle.rq_cast.specs.Searching.{SeesBefore, counted}
@@ -188,3 +188,9 @@ TellsLacked r number missing =
 abbrev pub TellsEnding : Receiver → Ending → Type 0
 TellsEnding r (Written stream) = (has_ended r ≡ true) × IsSomeAnd r.stream (λ s. stream ≡ s.scanner.stream)
 TellsEnding r (Incomplete number missing) = (has_ended r ≡ false) × TellsLacked r number missing
+TellsEnding r (GivenUp stream number missing) = ⊥
+
+-- and one that gives up the stream that it receives
+abbrev pub TellsGivenUp : Receiver → Ending → Type 0
+TellsGivenUp r (GivenUp stream number missing) = TellsEnding r (Incomplete number missing) × IsSomeAnd r.stream (λ s. stream ≡ s.scanner.stream)
+TellsGivenUp r _ = ⊥

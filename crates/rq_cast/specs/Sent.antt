@@ -12,6 +12,7 @@ use Rattle.rq_streams.specs.declared.run.Stop.{Stop}
 use Rattle.rq_streams.specs.declared.run.Stop.TheVariants.{Fault, Refused}
 use Rattle.rq_cells.specs.declared.head.Head.{Head}
 use Rattle.rq_cells.specs.Cells.{Key, cell_bytes}
+use Rattle.rq_cast.specs.declared.digested.Digested.{Digested}
 use Rattle.rq_cast.specs.declared.order.Ids.{Ids}
 use Rattle.rq_cast.specs.declared.series.Series.{Series}
 use Rattle.rq_cast.specs.declared.sending.Sender.{Sender}
@@ -48,6 +49,21 @@ pub record Sending : Type 0 where
 
 abbrev pub sending_of : Sender → Sending
 sending_of s = record { key = s.key.now; encoded = encoded_of s.encoder; head = s.head; series = s.series }
+
+-- what is encoded of an object, and the digests of its source symbols
+abbrev pub encoded_by : Digested → Encoded
+encoded_by d = encoded_of d.encoder
+
+abbrev pub digests_of : Digested → List (List ℕ)
+digests_of d = d.digests.items
+
+-- An object is encoded over a table, in a configuration that coders take.
+pub record Encodes (table : List TableRow) (object : List ℕ) (e : Encoded) : Type 0 where
+  pub checked : IsTable table
+  pub configuration : IsConfiguration e.configuration
+  pub accepted : IsAccepted (greatest_size table) e.configuration
+  pub nonsingular : HasNonsingularRows table e.configuration
+  pub encoder : IsEncoderOf table object e
 
 -- It sends packets of an object over a table, as the part behind parts of these names.
 pub record IsSendingOf (table : List TableRow) (is_last : Bool) (names : List (List ℕ)) (object : List ℕ) (s : Sending) : Type 0 where

@@ -4,6 +4,7 @@
 
 mod attempt;
 mod choice;
+mod digested;
 mod digests;
 mod halt;
 mod input;
@@ -32,19 +33,25 @@ mod stream_sending;
 mod survey;
 mod window;
 
+pub use digested::Digested;
 pub use halt::Halt;
 pub use input::Input;
 pub use known::Known;
 pub use losing::loses;
 pub use loss::Loss;
 pub use missing::missing_packets;
+pub use names::Names;
 pub use order::{Ids, Order};
 pub use output::Output;
-pub use preparing::check_length;
+pub use part_reading::read_part;
+pub use part_receiver::PartReceiver;
+pub use parts::{MOST_PARTS, SEAL_LENGTH, bytes_of_block, source_digests};
+pub use preparing::{check_length, fitting};
 pub use progress::{Progress, Silent};
 pub use run::{Ending, run_receive};
 pub use seen::Seen;
-pub use sending::{Pace, Sender};
+pub use sending::{Pace, Part, Sender, part_head};
 pub use series::{Repair, Series};
-pub use stream_sending::{Sent, send_stream};
+pub use stream_sending::{Sent, object_of, send_stream};
 pub use survey::{Standing, standings_in};
+pub use window::{Window, receive_cell};

@@ -9,7 +9,7 @@ use sha2::{Digest, Sha512};
 
 /// The names of the first parts of a stream, as far as those behind them need them.
 #[derive(Drop)]
-pub(crate) struct Names {
+pub struct Names {
     /// How many there are.
     pub count: u32,
     // The stream, where there is a first one.

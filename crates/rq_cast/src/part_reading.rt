@@ -12,7 +12,7 @@ use std::io::Read;
 
 /// Reads so many bytes, and fewer at the end alone, and nothing behind them. A failed call is a fault.
 /// Refuses [`Error::OutOfMemory`](raptorq::error::Error::OutOfMemory) alone.
-pub(crate) fn read_part<R: Read>(
+pub fn read_part<R: Read>(
     alloc: Global,
     reader: &mut Counted<R>,
     size: u64,

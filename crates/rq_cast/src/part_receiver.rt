@@ -1,5 +1,5 @@
 //! What is received of a part, whoever sends its cells.
-ghost use Rattle.std.specs.Prelude.{◌≡◌, OnOk, IfOk, IfErr};
+ghost use Rattle.std.specs.Prelude.{◌≡◌, option_map, option_copied, vec_items, OnOk, IfOk, IfErr};
 ghost use Rattle.rq_bytes.specs.Refusals.{IsRefusal};
 ghost use Rattle.rq_standard.specs.TableRows.{greatest_size};
 ghost use Rattle.rq_base.specs.RefusedInput.{checked_configuration};
@@ -19,14 +19,14 @@ use std::alloc::Global;
 
 /// What is received of a part. Where its packets contradict each other, or determine what isn't named as
 /// their head says, it begins anew with what comes; so it does with another head where more cells have
-/// that, also where an object is determined, since only [`PartReceiver::settle`] tells whether it is the
+/// that, also where an object is determined, since only what stands before it tells whether it is the
 /// part. So who forges cells delays it at the most.
 #[derive(Drop)]
-pub(crate) struct PartReceiver {
-    pub choice: Choice,
-    pub attempt: Attempt,
+pub struct PartReceiver {
+    pub(crate) choice: Choice,
+    pub(crate) attempt: Attempt,
     /// How often it began anew.
-    pub restarted: u64,
+    pub(crate) restarted: u64,
 }
 
 impl PartReceiver {
@@ -116,10 +116,20 @@ impl PartReceiver {
         self.add(alloc, table, packet, digest)
     }
 
+    /// The object that its cells determine, where it is named as their head says.
+    pub fn object(&self) -> Option<&[u8]>
+        ensures { option_copied result ≡ option_map vec_items self.now.attempt.object }
+    {
+        match &self.attempt.object {
+            Some(object) => Some(object.as_slice()),
+            None => None,
+        }
+    }
+
     /// Hands out the part, where its cells determine it and it is the one behind parts of some names, and
     /// begins anew where they determine anything else. Once it is handed out, nothing is left to be
     /// received. Refuses [`Error::OutOfMemory`] alone.
-    pub fn settle(
+    pub(crate) fn settle(
         &mut self,
         alloc: Global,
         table: &SystematicTable,

@@ -16,10 +16,10 @@ use sha2::{Digest, Sha512};
 use std::alloc::{AllocError, Global};
 
 /// How many bytes end the last part.
-pub(crate) const SEAL_LENGTH: usize = 32;
+pub const SEAL_LENGTH: usize = 32;
 
 /// How many parts a stream has at most.
-pub(crate) const MOST_PARTS: u32 = 1 << 30;
+pub const MOST_PARTS: u32 = 1 << 30;
 
 // How many symbols are hashed side by side.
 const BATCH: u32 = 16;
@@ -44,7 +44,7 @@ pub(crate) fn first_bytes(hash: &[u8; 64]) -> [u8; 32]
 
 /// The digests of an object's source symbols, block by block, each as its packet carries it: zeros fill
 /// up the last one. Refuses [`Error::OutOfMemory`] alone.
-pub(crate) fn source_digests(
+pub fn source_digests(
     alloc: Global,
     config: &ObjectTransmissionInformation,
     object: &[u8],
@@ -71,8 +71,8 @@ pub(crate) fn source_digests(
     Ok(digests)
 }
 
-// The bytes of an object in a block, which may end before the block's last symbol does.
-pub(crate) fn bytes_of_block<'a>(
+/// The bytes of an object in a block, which may end before the block's last symbol does.
+pub fn bytes_of_block<'a>(
     config: &ObjectTransmissionInformation,
     object: &'a [u8],
     number: u8,

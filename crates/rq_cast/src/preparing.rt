@@ -11,8 +11,11 @@ use rq_rows::full_table;
 use std::alloc::Global;
 
 /// The rows over which an object of so many bytes is sent, the built-in ones where it fits them and else
-/// all, and its default configuration.
-pub(crate) fn fitting(
+/// all, and its default configuration for symbols of at most so many bytes.
+///
+/// Refuses what [`ObjectTransmissionInformation::with_defaults`] refuses over these rows.
+/// [`Error::OutOfMemory`] may come before that.
+pub fn fitting(
     alloc: Global,
     length: u64,
     symbol_size: u16,

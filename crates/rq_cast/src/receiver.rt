@@ -1,9 +1,9 @@
 //! Bytes in, the parts of the stream of the cells among them out.
-ghost use Rattle.std.specs.Prelude.{◌≡◌, ℕ, List, [], ◌++◌, length, OnOk, IfErr, false};
+ghost use Rattle.std.specs.Prelude.{◌≡◌, ℕ, List, [], ◌++◌, length, OnOk, IfErr, IfSome, false};
 ghost use Rattle.rq_standard.specs.declared.row.TableRow.{TableRow};
 ghost use Rattle.rq_cells.specs.Wanted.{Wish, wish_of, AreHeads, IsFirstWanted};
 ghost use Rattle.rq_cast.specs.declared.seen.Seen.{Seen};
-ghost use Rattle.rq_cast.specs.Receiving.{IsSoundReceiver, HasFed, Feeds, Begins, HandsOutOf, Shows, has_ended, ready_of, TellsEnding};
+ghost use Rattle.rq_cast.specs.Receiving.{IsSoundReceiver, HasFed, Feeds, Begins, HandsOutOf, Shows, has_ended, ready_of, TellsEnding, TellsGivenUp};
 
 use crate::run::Ending;
 use crate::seen::Seen;
@@ -147,6 +147,20 @@ impl<'a> Receiver<'a> {
                 parts: 0,
                 missing: None,
             },
+        }
+    }
+
+    /// How a run ends that gives up the stream that it receives, where it receives one that hasn't ended.
+    pub fn given_up(&self) -> Option<Ending>
+        ensures { IfSome result (TellsGivenUp self.now) }
+    {
+        match &self.stream {
+            Some(stream) if !stream.window.ended => Some(Ending::GivenUp {
+                stream: stream.scanner.stream(),
+                parts: stream.window.names.count,
+                missing: stream.window.missing(),
+            }),
+            _ => None,
         }
     }
 }

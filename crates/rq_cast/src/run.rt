@@ -1,11 +1,12 @@
 //! Bytes in, the stream of the cells among them out.
-ghost use Rattle.std.specs.Prelude.{◌≡◌, ◌+◌, ◌-◌, ◌<◌, ◌^◌, [], take, ℕ, OnOk, false, OnErr, IfErr};
+ghost use Rattle.std.specs.Prelude.{◌≡◌, ◌+◌, ◌-◌, ◌<◌, ◌^◌, [], take, ℕ, None, OnOk, false, OnErr, IfErr, IfNone, IfSome};
 ghost use Rattle.std.specs.Io.KnownBytes.{Appends};
 ghost use Rattle.rq_streams.specs.Counted.{failed_count, inner};
 ghost use Rattle.rq_streams.specs.Ends.{failed_calls};
 ghost use Rattle.rq_cells.specs.Wanted.{wish_of};
 ghost use Rattle.rq_cast.specs.Input.{counted_of, is_put_back, last_piece, unread};
-ghost use Rattle.rq_cast.specs.Received.{EndsAtFailedCall, EndsReceiving, WritesAllRead};
+ghost use Rattle.rq_cast.specs.Receiving.{TellsGivenUp};
+ghost use Rattle.rq_cast.specs.Received.{EndsAtFailedCall, EndsReceiving, WritesAllRead, is_given_up};
 
 use crate::input::Input;
 use crate::progress::Progress;
@@ -33,6 +34,15 @@ pub enum Ending {
         /// came.
         missing: Option<u64>,
     },
+    /// It was silent too long while cells of others came, and is given up. No further part is written.
+    GivenUp {
+        /// The stream.
+        stream: [u8; STREAM_LENGTH],
+        /// How many parts are written.
+        parts: u32,
+        /// What the next one lacks, as above.
+        missing: Option<u64>,
+    },
 }
 
 // Writes bytes, if there are any, and flushes then.
@@ -51,6 +61,24 @@ fn write_part<W: Write>(writer: &mut Counted<W>, bytes: &[u8]) -> Result<(), Sto
     flush(writer)
 }
 
+// How a run ends that gives up its stream, where that is silent for so many seconds.
+fn given_up<P: Progress>(
+    receiver: &Receiver<'_>,
+    timeout: Option<u64>,
+    seen: &Seen,
+    progress: &mut P,
+) -> Option<Ending>
+    ensures tells { IfSome result (TellsGivenUp receiver.now) }
+    ensures patient { IfNone timeout (result ≡ None) }
+{
+    let seconds = timeout?;
+    if progress.is_silent(seconds, seen) {
+        receiver.given_up()
+    } else {
+        None
+    }
+}
+
 /// Reads any bytes and writes the stream of the cells that stand among them, part by part. `seen` becomes what
 /// was seen: in all that was read, or, where the run is stopped, in all but the bytes of the last read at most.
 ///
@@ -59,6 +87,9 @@ fn write_part<W: Write>(writer: &mut Counted<W>, bytes: &[u8]) -> Result<(), Sto
 /// as soon as all parts before it are, those of its cells determine it that have one head, and it is what that
 /// head says: its name is right, and the last one's seal. The run ends at the first read with which the last part
 /// is written, with the input still open.
+///
+/// Where a timeout is said, `progress` is asked after each read whether the stream is silent for so many seconds while
+/// cells of others come, and where it is the run ends with [`Ending::GivenUp`].
 ///
 /// Where cells of a head contradict each other, or determine another object, the part is begun anew with
 /// what comes, and so it is with another head of the part where more cells have that: so forged cells
@@ -70,6 +101,7 @@ pub fn run_receive<R: Read, W: Write, P: Progress>(
     alloc: Global,
     wanted: &Wanted<'_>,
     window: u32,
+    timeout: Option<u64>,
     input: &mut Input<R>,
     writer: &mut Counted<W>,
     seen: &mut Seen,
@@ -91,6 +123,9 @@ pub fn run_receive<R: Read, W: Write, P: Progress>(
         (unread R.remaining input.old) (unread R.remaining input.new) (last_piece input.new)
         (W.contents (inner writer.old)) (W.contents (inner writer.new)) }
 
+    // No stream is given up where no timeout is said.
+    ensures patient { IfNone timeout (is_given_up result ≡ false) }
+
     // What is settled is written before the next read.
     ensures at_once { failed_count (counted_of input.old) < failed_count (counted_of input.new)
         → WritesAllRead wanted.now.table.now (wish_of wanted.now) window
@@ -111,6 +146,9 @@ pub fn run_receive<R: Read, W: Write, P: Progress>(
         write_part(writer, receiver.take_ready().as_slice())?;
         if receiver.has_ended() {
             return Ok(receiver.ending());
+        }
+        if let Some(ending) = given_up(&receiver, timeout, seen, progress) {
+            return Ok(ending);
         }
     }
     Ok(receiver.ending())

@@ -6,17 +6,17 @@ ghost use Rattle.rq_streams.specs.Counted.{failed_count};
 ghost use Rattle.rq_streams.specs.Ends.{failed_calls};
 ghost use Rattle.rq_cells.specs.Cells.{digest_of};
 ghost use Rattle.rq_cast.specs.Names.{AreNames};
-ghost use Rattle.rq_cast.specs.Parts.{source_digests, part_head};
+ghost use Rattle.rq_cast.specs.Parts.{source_digests, number_of, part_head};
 ghost use Rattle.rq_cast.specs.Output.{counting, sink, lost_count, flushed};
 ghost use Rattle.rq_cast.specs.Writing.{AreDigestsIn, IsRoom, WritesCell, failed_writes, lost_cells};
 
 mod rows;
 
+use crate::digested::Digested;
 use crate::losing::loses;
 use crate::names::Names;
 use crate::order::Order;
 use crate::output::Output;
-use crate::parts::source_digests;
 use crate::series::Series;
 use raptorq::error::Error;
 use raptorq::systematic_constants::SystematicTable;
@@ -63,7 +63,7 @@ fn write_cell<W: Write>(output: &mut Output<W>, cell: &[u8]) -> Result<bool, Sto
 
 /// An object, and which part of a stream it is.
 #[derive(Clone, Copy)]
-pub(crate) struct Part<'a> {
+pub struct Part<'a> {
     /// Whether it is the last one.
     pub is_last: bool,
     /// The names of all parts before it.
@@ -74,10 +74,11 @@ pub(crate) struct Part<'a> {
     pub object: &'a [u8],
 }
 
-// The head of a part, by the digests of its source symbols.
-fn part_head(part: &Part<'_>, digests: &[[u8; DIGEST_LENGTH]]) -> Head
+/// The head of a part, by the digests of its source symbols.
+pub fn part_head(part: &Part<'_>, digests: &[[u8; DIGEST_LENGTH]]) -> Head
     requires few { part.now.names.now.count < 2 ^ 30 }
     ensures configuration { result.configuration ≡ part.now.configuration }
+    ensures number { result.number ≡ number_of part.now.is_last part.now.names.now.count }
     ensures head { (names : List (List ℕ)) → AreNames names part.now.names.now
         → digests.now ≡ source_digests part.now.configuration part.now.object.now
         → result ≡ part_head part.now.is_last names part.now.configuration part.now.object.now }
@@ -115,8 +116,24 @@ impl<'a> Sender<'a> {
     ghost use Rattle.rq_standard.specs.Configuration.{largest_block};
     ghost use Rattle.rq_standard.specs.Packet.{SymbolId};
     ghost use Rattle.raptorq.specs.Refused.{RefusesEncoder};
-    ghost use Rattle.rq_cast.specs.Sent.{IsSendingOf, IsSeriesOf, sending_of, cell_count, sent_id, SendsFirst, StopsSending};
+    ghost use Rattle.rq_cast.specs.Sent.{Sending, IsSendingOf, IsSeriesOf, encoded_by, sending_of, cell_count, sent_id, SendsFirst, StopsSending};
     ghost use Rattle.rq_cast.specs.Output.{CountsLost};
+
+    /// The sender of an object's symbols with these ids, in cells that begin with a head, and whose checks are made
+    /// by a key.
+    pub fn new(key: &'a Key, object: Digested, head: Head, series: Series) -> Sender<'a>
+        requires { head.configuration ≡ (encoded_by object).configuration }
+        ensures { sending_of result ≡ record { key = key.now; encoded = encoded_by object; head = head; series = series } }
+    {
+        let Digested { encoder, digests } = object;
+        Sender {
+            key,
+            encoder,
+            digests,
+            head,
+            series,
+        }
+    }
 
     /// The sender of a part, in cells whose checks are made by a key. It sends the symbols whose ids are
     /// ordered, up to the last source symbol of the largest block, and to so many repair symbols behind it; in a
@@ -124,7 +141,7 @@ impl<'a> Sender<'a> {
     /// Where the first is none of these it sends nothing.
     ///
     /// Refuses what [`Encoder::new`] refuses.
-    pub(crate) fn new(
+    pub(crate) fn of_part(
         alloc: Global,
         key: &'a Key,
         table: &SystematicTable,
@@ -140,21 +157,12 @@ impl<'a> Sender<'a> {
         ensures keyed { IfOk result (λ s. (sending_of s).key ≡ key.now) }
         ensures series { IfOk result (λ s. IsSeriesOf order.now.ids (largest_block part.now.configuration) order.now.repair (sending_of s).series) }
     {
-        // For the proof: the rows of a table pass their checks.
-        let _greatest = table.greatest();
-        let configuration = part.configuration;
-        let encoder = Encoder::new(alloc, table, part.object, configuration)?;
-        let digests = source_digests(alloc, &configuration, part.object)?;
-        let head = part_head(part, digests.as_slice());
-        let end = order.repair.end(configuration.largest_block());
+        let object = Digested::new(alloc, table, part.configuration, part.object)?;
+        let head = part_head(part, object.digests());
+        let end = order.repair.end(object.largest_block());
         let begun = Series::new(order.ids.first, order.ids.step, end);
-        Ok(Sender {
-            key,
-            encoder,
-            digests,
-            head,
-            series: begun.in_round(order.ids.round),
-        })
+        let series = begun.in_round(order.ids.round);
+        Ok(Sender::new(key, object, head, series))
     }
 
     /// What all its cells begin with.
@@ -210,7 +218,7 @@ impl<'a> Sender<'a> {
     /// send a datagram to nobody, nowhere, over a network that is down or without room, and the next one
     /// is written then. Each other failed call ends it with [`Stop::Fault`], and a beginning of a cell
     /// may be written. Refuses [`Error::OutOfMemory`] alone, before the first cell.
-    pub(crate) fn send<W: Write, P: Pace>(
+    pub fn send<W: Write, P: Pace>(
         &self,
         alloc: Global,
         output: &mut Output<W>,

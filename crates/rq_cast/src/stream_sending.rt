@@ -47,8 +47,9 @@ impl Sent {
     }
 }
 
-// The object of a part: its bytes, and the seal behind those of the last one.
-fn object_of(names: &Names, bytes: Vec<u8>, is_last: bool) -> Result<Vec<u8>, Error>
+/// The object of a part behind parts of these names: its bytes, and the seal behind those of the last one. Refuses
+/// [`Error::OutOfMemory`] alone.
+pub fn object_of(names: &Names, bytes: Vec<u8>, is_last: bool) -> Result<Vec<u8>, Error>
     ensures object { IfOk result (λ v. (before : List (List ℕ)) → AreNames before names.now → v.items ≡ object_of is_last before bytes.items) }
     ensures memory { IfErr result (λ e. e ≡ Error.OutOfMemory) }
 {
@@ -97,7 +98,7 @@ impl<'a> StreamSender<'a> {
             configuration,
             object,
         };
-        Sender::new(alloc, self.key, &table, &part, &self.order)
+        Sender::of_part(alloc, self.key, &table, &part, &self.order)
     }
 
     // Sends the next part.

@@ -20,21 +20,21 @@ use std::mem::replace;
 /// Receives the parts of a stream in their order. It keeps some from the first one on that isn't settled:
 /// cells of others are dropped. So it has no more parts in memory than these, whatever comes.
 #[derive(Drop)]
-pub(crate) struct Window {
+pub struct Window {
     /// What is received of these parts, where a cell came.
-    pub parts: Vec<Option<PartReceiver>>,
+    pub(crate) parts: Vec<Option<PartReceiver>>,
     /// The names of the parts before.
-    pub names: Names,
+    pub(crate) names: Names,
     /// The bytes of parts that are settled and weren't handed out.
-    pub ready: Vec<u8>,
+    pub(crate) ready: Vec<u8>,
     /// Whether the last part is settled.
-    pub ended: bool,
+    pub(crate) ended: bool,
     /// How often a part began anew. Counts stay at `u64::MAX`.
-    pub restarted: u64,
+    pub(crate) restarted: u64,
     /// How many cells were dropped whose part comes behind the window.
-    pub ahead: u64,
+    pub(crate) ahead: u64,
     /// How many whose part is settled.
-    pub behind: u64,
+    pub(crate) behind: u64,
     alloc: Global,
 }
 
@@ -100,8 +100,9 @@ fn restarted_of(part: &Option<PartReceiver>) -> u64
     }
 }
 
-// Takes a cell of the part at a place, which it may open. Answers how often the part began anew meanwhile.
-fn receive(
+/// Takes a cell of the part at a place, which it may open. Answers how often the part began anew meanwhile. Refuses
+/// [`Error::OutOfMemory`] alone.
+pub fn receive_cell(
     alloc: Global,
     table: &SystematicTable,
     place: &mut Option<PartReceiver>,
@@ -249,6 +250,20 @@ impl Window {
         }
     }
 
+    /// Whether the last part is settled.
+    pub fn has_ended(&self) -> bool
+        ensures { result ≡ self.now.ended }
+    {
+        self.ended
+    }
+
+    /// How many parts are settled.
+    pub fn settled_parts(&self) -> u32
+        ensures { result ≡ self.now.names.count }
+    {
+        self.names.count
+    }
+
     /// The decoder of the first part that isn't settled, where a cell of it came.
     pub fn decoder(&self) -> Option<&Decoder> {
         match self.parts.first() {
@@ -275,7 +290,7 @@ impl Window {
         ensures sound { OnOk result (IsSoundWindow table.now self.new) }
         ensures memory { IfErr result (λ e. e ≡ Error.OutOfMemory) }
     {
-        let anew = receive(alloc, table, &mut self.parts[place], found)?;
+        let anew = receive_cell(alloc, table, &mut self.parts[place], found)?;
         self.restarted = self.restarted.saturating_add(anew);
         Ok(())
     }

@@ -11,7 +11,7 @@ use Rattle.rq_cast.specs.Input.{counted_of, last_piece, unread}
 use Rattle.rq_cast.specs.Receiving.{Feeds, HandsOutOf}
 use Rattle.rq_cast.specs.Received.{EndsReceiving, EndsAtFailedCall}
 use Rattle.rq_cast.proofs.Failing.{counted_calls}
-use Rattle.rq_cast.proofs.Runs.{runs_first, stops_unread, writes_all_read, ends_unread, stops_unfed, stops_unwritten, ends_written, runs_on}
+use Rattle.rq_cast.proofs.Runs.{runs_first, stops_unread, writes_all_read, ends_unread, stops_unfed, stops_unwritten, ends_written, ends_given_up, not_given_up, stopped_not_given_up, given_up_in_time, runs_on}
 use Rattle.rq_cast.proofs.run.run_receive.Goals as goal
 
 pub reading-init : goal.reading-init
@@ -159,6 +159,30 @@ returns-then-has_ended-clause-ends g c =
     c.take_ready.ensures.shows c.take_ready.ensures.none (c.take_ready.ensures.sound c.in_ok-feed.ensures.sound)
     (sym c.has_ended.ensures ∙ c.if-has_ended.true) c.ending-then-has_ended.result c.ending-then-has_ended.ensures
 
+pub returns-in-Some-clause-failures : goal.returns-in-Some-clause-failures
+returns-in-Some-clause-failures g c =
+    counted_calls (counted_of c.args.input.now) (counted_of c.read.new.self) c.args.writer.now c.write_part.new.writer (Ok c.in-Some.ending) 0 0
+    (omega (arith, c.in_ok-n.ensures.ok, c.reading.invariant.reads)) (omega (arith, c.reading.invariant.writes, c.in_ok-write_part.ensures.counts)) refl
+
+pub returns-in-Some-clause-at_once : goal.returns-in-Some-clause-at_once
+returns-in-Some-clause-at_once g c = λ failed. absurd (omega (arith, failed, c.in_ok-n.ensures.ok, c.reading.invariant.reads))
+
+pub returns-in-Some-clause-ends : goal.returns-in-Some-clause-ends
+returns-in-Some-clause-ends g c =
+    let w = c.args.wanted.now in
+    let then = g.W.Write.contents (inner c.reading.writer) in
+    let then' = g.W.Write.contents (inner c.write_part.new.writer) in
+    let ready = c.as_slice.ensures.value ∙ c.take_ready.ensures.ready in
+    ends_given_up w.table.now (wish_of w) c.args.window (unread g.R.Read.remaining c.args.input.now) (g.W.Write.contents (inner c.args.writer.now))
+    (unread g.R.Read.remaining c.reading.input) then c.reading._reads c.reading.receiver c.reading.seen
+    c.reading.invariant.running (unread g.R.Read.remaining c.read.new.self) (last_piece c.read.new.self) c.in_ok-n.ensures.bytes
+    (omega (arith, c.in_ok-n.ensures.length, c.if-n-eq0.false)) (omega (arith, c.in_ok-n.ensures.length, c.in_ok-n.ensures.few))
+    c.feed.new.self (subst (λ xs. Feeds xs c.reading.receiver c.feed.new.self) c.piece.ensures c.in_ok-feed.ensures.fed) c.all_seen-in-reading.result c.all_seen-in-reading.ensures then'
+    (subst (λ xs. Appends then then' xs) ready c.in_ok-write_part.ensures.bytes) c.take_ready.new.self
+    (subst (λ xs. HandsOutOf c.feed.new.self xs c.take_ready.new.self) c.take_ready.ensures.ready c.take_ready.ensures.hands)
+    c.take_ready.ensures.shows c.take_ready.ensures.none (c.take_ready.ensures.sound c.in_ok-feed.ensures.sound)
+    c.in-Some.ending c.in-Some.ensures.tells
+
 pub reading-preserved : goal.reading-preserved
 reading-preserved g c =
     let w = c.args.wanted.now in
@@ -197,3 +221,24 @@ returns-clause-ends g c =
 
 pub returns-clause-once : goal.returns-clause-once
 returns-clause-once g c = c.reading.invariant.once (omega (arith, c.reading-test.false, c.reading.auto._reads-end))
+
+pub returns-in_err-n-clause-patient : goal.returns-in_err-n-clause-patient
+returns-in_err-n-clause-patient g c = stopped_not_given_up c.args.timeout c.from_residual.result _ c.from_residual.ensures.1
+
+pub returns-then-n-eq0-clause-patient : goal.returns-then-n-eq0-clause-patient
+returns-then-n-eq0-clause-patient g c = not_given_up c.reading.receiver c.args.timeout c.ending.result c.ending.ensures
+
+pub returns-in_err-feed-clause-patient : goal.returns-in_err-feed-clause-patient
+returns-in_err-feed-clause-patient g c = stopped_not_given_up c.args.timeout c.from_residual-in_err-feed.result _ c.from_residual-in_err-feed.ensures.1
+
+pub returns-in_err-write_part-clause-patient : goal.returns-in_err-write_part-clause-patient
+returns-in_err-write_part-clause-patient g c = stopped_not_given_up c.args.timeout c.from_residual-in_err-write_part.result _ c.from_residual-in_err-write_part.ensures.1
+
+pub returns-then-has_ended-clause-patient : goal.returns-then-has_ended-clause-patient
+returns-then-has_ended-clause-patient g c = not_given_up c.take_ready.new.self c.args.timeout c.ending-then-has_ended.result c.ending-then-has_ended.ensures
+
+pub returns-in-Some-clause-patient : goal.returns-in-Some-clause-patient
+returns-in-Some-clause-patient g c = given_up_in_time c.args.timeout c.in-Some.ending c.in-Some.ensures.patient
+
+pub returns-clause-patient : goal.returns-clause-patient
+returns-clause-patient g c = not_given_up c.reading.receiver c.args.timeout c.ending-2.result c.ending-2.ensures

@@ -30,7 +30,7 @@ returns-clause-prepared c =
     let s = c.args.self.now in
     prepared_by s.order s.key.now c.args.is_last s.names c.args.bytes.items c.as_slice-object.result.now _ c.in_ok-table.configuration
     c.in_ok-table.ensures.fits (is_object moved)
-    c.new.result c.new.ensures.sends c.new.ensures.configuration c.new.ensures.keyed c.new.ensures.series
+    c.of_part.result c.of_part.ensures.sends c.of_part.ensures.configuration c.of_part.ensures.keyed c.of_part.ensures.series
 
 pub returns-clause-refused : goal.returns-clause-refused
 returns-clause-refused c =
@@ -38,4 +38,4 @@ returns-clause-refused c =
     let s = c.args.self.now in
     refused_by s.order s.key.now c.args.is_last s.names c.args.bytes.items c.as_slice-object.result.now _ c.in_ok-table.configuration
     c.in_ok-table.ensures.fits (is_object moved)
-    c.new.result c.new.ensures.refused
+    c.of_part.result c.of_part.ensures.refused

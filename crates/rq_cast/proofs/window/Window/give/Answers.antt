@@ -16,9 +16,9 @@ module _ (c : After-index_mut) where
   slot : c.index_mut.result.now ≡ open_at c.args.self.now c.args.place
   slot = get_or_read c.args.self.now.parts.items c.args.place c.index_mut.result.now within c.index_mut.ensures.value None
 
-pub receive-requires-clause-sound : goal.receive-requires-clause-sound
-receive-requires-clause-sound c =
-    let at = (goal.at.receive-requires-clause-sound c).After-index_mut in
+pub receive_cell-requires-clause-sound : goal.receive_cell-requires-clause-sound
+receive_cell-requires-clause-sound c =
+    let at = (goal.at.receive_cell-requires-clause-sound c).After-index_mut in
     subst (λ o. IfSome o (IsSound c.args.table.now (part_index c.args.found.cell.head))) (sym (slot at))
     (subst (λ n. IfSome (open_at c.args.self.now c.args.place) (IsSound c.args.table.now n)) (sym c.requires.here) (c.requires.sound.each c.args.place))
 
@@ -26,13 +26,13 @@ pub returns-clause-gives : goal.returns-clause-gives
 returns-clause-gives c = λ stream width came given has.
     let at = (goal.at.returns-clause-gives c).After-index_mut in
     let table = c.args.table.now in
-    let receives = subst (λ o. ReceivesCell table o c.args.found.cell c.receive.new.place) (slot at) c.in_ok-anew.ensures.receives in
-    taken_given table stream width came given c.args.found.cell c.args.self.now _ has c.requires.sound refl refl refl c.args.place c.receive.new.place refl
+    let receives = subst (λ o. ReceivesCell table o c.args.found.cell c.receive_cell.new.place) (slot at) c.in_ok-anew.ensures.receives in
+    taken_given table stream width came given c.args.found.cell c.args.self.now _ has c.requires.sound refl refl refl c.args.place c.receive_cell.new.place refl
     (within at) c.requires.open_still c.requires.here receives (omega (arith, c.in_ok-anew.ensures.anew)) refl refl
 
 pub returns-clause-sound : goal.returns-clause-sound
 returns-clause-sound c =
     let at = (goal.at.returns-clause-sound c).After-index_mut in
     let table = c.args.table.now in
-    let this = subst (λ n. IfSome c.receive.new.place (IsSound table n)) c.requires.here c.in_ok-anew.ensures.sound in
-    sound_set table c.args.self.now _ c.args.place c.receive.new.place refl (within at) refl this c.requires.sound
+    let this = subst (λ n. IfSome c.receive_cell.new.place (IsSound table n)) c.requires.here c.in_ok-anew.ensures.sound in
+    sound_set table c.args.self.now _ c.args.place c.receive_cell.new.place refl (within at) refl this c.requires.sound

@@ -1,0 +1,16 @@
+pub mod Layouts
+pub mod ListBytes
+pub mod ListedSymbols
+pub mod Mended
+pub mod PassedCells
+pub mod TakenCells
+pub mod ReceivedLists
+pub mod UsableLists
+pub mod GuardCells
+pub mod Guardings
+pub mod GuardedParts
+pub mod GuardSteps
+pub mod SentLists
+pub mod ListedParts
+pub mod CheckedParts
+pub mod FirstHead

@@ -1,0 +1,10 @@
+pub mod Damage
+pub mod Layout
+pub mod Lists
+pub mod Mending
+pub mod Reading
+pub mod ListReading
+pub mod Protecting
+pub mod ProtectingParts
+pub mod Checking
+pub mod StreamReading
