@@ -11,11 +11,11 @@ _rqcast() {
     case $before in
         -r | --repair) mapfile -t COMPREPLY < <(compgen -W "all" -- "$word") && return ;;
         --rounds) mapfile -t COMPREPLY < <(compgen -W "endless" -- "$word") && return ;;
-        --part | -c | --cell | -l | --loss | --rate | --share | --from | --name | --not | --window) return ;;
+        --part | -c | --cell | -l | --loss | --rate | --share | --from | --name | --not | --timeout | --window) return ;;
     esac
     case ${COMP_WORDS[1]} in
         send) words+=" --part -c --cell -l --loss -r --repair --rate --share --from --rounds" ;;
-        receive) words+=" -o --output --name --not --window" ;;
+        receive) words+=" -o --output --follow --timeout --name --not --window" ;;
     esac
     if [[ $word == -* ]]; then
         mapfile -t COMPREPLY < <(compgen -W "$words" -- "$word")

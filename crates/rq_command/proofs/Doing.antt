@@ -13,33 +13,36 @@ use Rattle.rq_streams.specs.declared.run.Stop.{Stop}
 use Rattle.rq_streams.specs.declared.run.Stop.TheVariants.{Refused}
 use Rattle.rq_words.specs.declared.values.TheConstants.{WIDEST_WINDOW}
 use Rattle.rq_words.specs.declared.jobs.Job.{Job}
-use Rattle.rq_words.specs.declared.jobs.Job.TheVariants.{Send, Receive, Info}
+use Rattle.rq_words.specs.declared.jobs.Job.TheVariants.{Send, Receive, Follow, Info}
 use Rattle.rq_command.specs.declared.ending.End.{End}
-use Rattle.rq_command.specs.declared.ending.End.TheVariants.{Unasked, AtTerminal, EmptyKey, Sent, Changed, Received, Surveyed, Stopped}
+use Rattle.rq_command.specs.declared.ending.End.TheVariants.{Unasked, AtTerminal, EmptyKey, Sent, Changed, Received, Followed, Surveyed, Stopped}
 use Rattle.rq_words.specs.Asked.{AsksFor}
+use Rattle.rq_command.specs.Following.{Folder}
 use Rattle.rq_command.specs.Keyed.{IsKeyOf}
 use Rattle.rq_command.specs.Placed.{Contents}
 use Rattle.rq_command.specs.Program.{Does, EndsJob, MindsTerminal, is_at_terminal, Lists, RefusesLength, StopsUnsent, end_of}
 
 module _ (words : List (List ℕ)) (terminal : Option Bool) (stands : List (List ℕ) → Contents) (blank : Contents) where
-  pub does : (ended : End) (old new : Contents) (job : Job) → AsksFor words job → EndsJob job terminal stands blank ended old new
-      → Does words terminal stands blank ended old new
-  does (Unasked e) old new (Send job) asks ends = absurd ends.1
-  does (Unasked e) old new (Receive job) asks ends = absurd ends
-  does (Unasked e) old new (Info job) asks ends = absurd ends
-  does AtTerminal old new job asks ends = (job, asks, ends)
-  does EmptyKey old new job asks ends = (job, asks, ends)
-  does (Sent sent) old new job asks ends = (job, asks, ends)
-  does (Changed part) old new job asks ends = (job, asks, ends)
-  does (Received r seen) old new job asks ends = (job, asks, ends)
-  does (Surveyed standings) old new job asks ends = (job, asks, ends)
-  does (Stopped stop) old new job asks ends = (job, asks, ends)
+  pub does : (ended : End) (old new : Contents) (held held' : Folder) (job : Job) → AsksFor words job → EndsJob job terminal stands blank ended old new held held'
+      → Does words terminal stands blank ended old new held held'
+  does (Unasked e) old new held held' (Send job) asks ends = absurd ends.1
+  does (Unasked e) old new held held' (Receive job) asks ends = absurd ends
+  does (Unasked e) old new held held' (Follow job) asks ends = absurd ends
+  does (Unasked e) old new held held' (Info job) asks ends = absurd ends
+  does AtTerminal old new held held' job asks ends = (job, asks, ends)
+  does EmptyKey old new held held' job asks ends = (job, asks, ends)
+  does (Sent sent) old new held held' job asks ends = (job, asks, ends)
+  does (Changed part) old new held held' job asks ends = (job, asks, ends)
+  does (Received r seen) old new held held' job asks ends = (job, asks, ends)
+  does (Followed streams last seen) old new held held' job asks ends = (job, asks, ends)
+  does (Surveyed standings) old new held held' job asks ends = (job, asks, ends)
+  does (Stopped stop) old new held held' job asks ends = (job, asks, ends)
 
   -- the same, of how a run ends that something may stop
-  pub done : (r : Result End Stop) (ended : End) (old new : Contents) (job : Job) → ended ≡ end_of r → AsksFor words job
-      → EndsJob job terminal stands blank (end_of r) old new → Does words terminal stands blank ended old new
-  done r ended old new job is asks ends =
-      subst (λ (e : End). Does words terminal stands blank e old new) (sym is) (does (end_of r) old new job asks ends)
+  pub done : (r : Result End Stop) (ended : End) (old new : Contents) (held held' : Folder) (job : Job) → ended ≡ end_of r → AsksFor words job
+      → EndsJob job terminal stands blank (end_of r) old new held held' → Does words terminal stands blank ended old new held held'
+  done r ended old new held held' job is asks ends =
+      subst (λ (e : End). Does words terminal stands blank e old new held held') (sym is) (does (end_of r) old new held held' job asks ends)
 
 -- where cells would go to a terminal, by what the devices say of it
 pub minds : (terminal : Option Bool) (shows : Bool) (ended : End) → IfSome terminal (λ is. shows ≡ is) → shows ≡ is_at_terminal ended → MindsTerminal terminal ended

@@ -6,9 +6,11 @@ use Rattle.rq_streams.specs.declared.run.Stop.{Stop}
 use Rattle.rq_streams.specs.declared.run.Stop.TheVariants.{Fault, Refused}
 use Rattle.rq_streams.specs.Ends.{failed_calls}
 use Rattle.rq_cast.specs.declared.run.Ending.{Ending}
-use Rattle.rq_cast.specs.declared.run.Ending.TheVariants.{Written, Incomplete}
+use Rattle.rq_cast.specs.declared.run.Ending.TheVariants.{Written, Incomplete, GivenUp}
+use Rattle.rq_cast.specs.Received.{is_given_up}
 use Rattle.rq_command.specs.declared.ending.End.{End}
 use Rattle.rq_command.specs.Failed.{Fails}
+use Rattle.rq_command.specs.Following.{name_of, over}
 use Rattle.rq_command.specs.Placed.{Contents, IsFinished, IsPlaced, is_whole}
 use Rattle.rq_command.specs.Program.{Failures, FailsReceiving, end_of}
 
@@ -46,15 +48,17 @@ stopped_later r (Refused e) a b more is fails = subst (λ (e : Result End Stop).
 
 -- ---- what is placed
 
-pub not_whole : (ended : Result Ending Stop) (n : ℕ) → is_whole ended ≡ false → n ≤ 1 → FailsReceiving ended (failed_calls ended + n)
-not_whole (Ok (Written stream)) n is few = absurd (cc is)
-not_whole (Ok (Incomplete parts missing)) n is few = omega (arith, few)
-not_whole (Err Fault) n is few = omega arith
-not_whole (Err (Refused e)) n is few = omega (arith, few)
+pub not_whole : (ended : Result Ending Stop) (n : ℕ) → is_whole ended ≡ false → is_given_up ended ≡ false → n ≤ 1 → FailsReceiving ended (failed_calls ended + n)
+not_whole (Ok (Written stream)) n is kept few = absurd (cc is)
+not_whole (Ok (GivenUp stream parts missing)) n is kept few = absurd (cc kept)
+not_whole (Ok (Incomplete parts missing)) n is kept few = omega (arith, few)
+not_whole (Err Fault) n is kept few = omega arith
+not_whole (Err (Refused e)) n is kept few = omega (arith, few)
 
 pub whole : (ended : Result Ending Stop) → is_whole ended ≡ true → (stream : List ℕ) × (ended ≡ Ok (Written stream))
 whole (Ok (Written stream)) is = (stream, refl)
 whole (Ok (Incomplete parts missing)) is = absurd (cc is)
+whole (Ok (GivenUp stream parts missing)) is = absurd (cc is)
 whole (Err stop) is = absurd (cc is)
 
 -- one call at most fails
@@ -69,6 +73,7 @@ pub taken_away : {X D : Type 0} (file : Option X) (ended : Result Ending Stop) (
 taken_away None ended finished written old new is h = h
 taken_away (Some file) (Ok (Written stream)) finished written old new is h = absurd (cc is)
 taken_away (Some file) (Ok (Incomplete parts missing)) finished written old new is h = h
+taken_away (Some file) (Ok (GivenUp stream parts missing)) finished written old new is h = h
 taken_away (Some file) (Err stop) finished written old new is h = h
 
 -- what is whole couldn't be put there
@@ -95,3 +100,9 @@ pub fails_nowhere : (ended : Result Ending Stop) (a b : Option ℕ) → is_whole
     → (n : ℕ) × Fails a b n × FailsReceiving ended (failed_calls ended + n)
 fails_nowhere ended a b is fails =
     let w = whole ended is in (0, fails, subst (λ (e : Result Ending Stop). FailsReceiving e (failed_calls e + 0)) (sym w.1) refl)
+
+-- where another stream may begin, none failed
+pub over_without_fault : (ending : Ending) → over (Ok ending) ≡ Some (ending, name_of ending) → (n : ℕ) → FailsReceiving (Ok ending) n → n ≡ 0
+over_without_fault (Written stream) is n fails = fails
+over_without_fault (GivenUp stream parts missing) is n fails = fails
+over_without_fault (Incomplete parts missing) is n fails = absurd (cc is)

@@ -1,3 +1,4 @@
 pub mod Doing
 pub mod Failing
+pub mod Followed
 pub mod RoundSteps

@@ -1,5 +1,5 @@
 -- The status that the program ends with.
-use Rattle.std.specs.Prelude.{ℕ, ◌/◌, ◌&&◌, Bool, List, [], ◌∷◌, Ok, Err, nat_le, nat_lt, if◌then◌else◌}
+use Rattle.std.specs.Prelude.{ℕ, ◌/◌, ◌==◌, ◌&&◌, Bool, List, [], ◌∷◌, Result, Ok, Err, nat_le, nat_lt, if◌then◌else◌}
 use Rattle.clap.specs.Values.{kind_of}
 use Rattle.clap.specs.declared.error.kind.ErrorKind.{ErrorKind}
 use Rattle.clap.specs.declared.error.kind.ErrorKind.TheVariants as kind
@@ -8,10 +8,12 @@ use Rattle.rq_bytes.specs.declared.error.Error.TheVariants as refusal
 use Rattle.rq_streams.specs.declared.run.Stop.{Stop}
 use Rattle.rq_streams.specs.declared.run.Stop.TheVariants.{Fault, Refused}
 use Rattle.rq_cast.specs.declared.run.Ending.{Ending}
-use Rattle.rq_cast.specs.declared.run.Ending.TheVariants.{Written, Incomplete}
+use Rattle.rq_cast.specs.declared.run.Ending.TheVariants.{Written, Incomplete, GivenUp}
+use Rattle.rq_cast.specs.declared.seen.Seen.{Seen}
 use Rattle.rq_cast.specs.declared.survey.Standing.{Standing}
 use Rattle.rq_command.specs.declared.ending.End.{End}
-use Rattle.rq_command.specs.declared.ending.End.TheVariants.{Unasked, AtTerminal, EmptyKey, Sent, Changed, Received, Surveyed, Stopped}
+use Rattle.rq_command.specs.declared.ending.Streams.{Streams}
+use Rattle.rq_command.specs.declared.ending.End.TheVariants.{Unasked, AtTerminal, EmptyKey, Sent, Changed, Received, Followed, Surveyed, Stopped}
 
 -- of words that ask for no job
 abbrev pub word_status : ErrorKind → ℕ
@@ -23,6 +25,7 @@ word_status _ = 64
 abbrev pub ending_status : Ending → ℕ
 ending_status (Written stream) = 0
 ending_status (Incomplete parts missing) = 2
+ending_status (GivenUp stream parts missing) = 2
 
 -- memory that is refused is a fault of the system
 abbrev pub refusal_status : Error → ℕ
@@ -50,6 +53,16 @@ abbrev pub survey_status : List Standing → ℕ
 survey_status [] = 2
 survey_status (standing ∷ others) = 0
 
+-- A stream was whole, none was given up, and no cell came of a further one.
+abbrev pub is_done : Streams → Seen → Bool
+is_done streams seen = nat_lt 0 streams.whole && (streams.given_up == 0) && (seen.cells == 0)
+
+-- of streams that were taken one after another
+abbrev pub following_status : Streams → Result Ending Stop → Seen → ℕ
+following_status streams (Ok (Incomplete parts missing)) seen = if is_done streams seen then 0 else 2
+following_status streams (Ok ending) seen = ending_status ending
+following_status streams (Err stop) seen = stop_status stop
+
 abbrev pub status_of : End → ℕ
 status_of (Unasked e) = word_status (kind_of e)
 status_of AtTerminal = 64
@@ -58,5 +71,6 @@ status_of (Sent sent) = sent_status sent.cells sent.lost
 status_of (Changed part) = 1
 status_of (Received (Ok ending) seen) = ending_status ending
 status_of (Received (Err stop) seen) = stop_status stop
+status_of (Followed streams last seen) = following_status streams last seen
 status_of (Surveyed standings) = survey_status standings.items
 status_of (Stopped stop) = stop_status stop

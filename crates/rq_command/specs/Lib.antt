@@ -1,5 +1,6 @@
 pub mod Endings
 pub mod Failed
+pub mod Following
 pub mod Keyed
 pub mod Placed
 pub mod Program

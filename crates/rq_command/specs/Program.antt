@@ -12,23 +12,24 @@ use Rattle.rq_cast.specs.declared.halt.Halt.TheVariants.{By, Changed as Differs}
 use Rattle.rq_cast.specs.declared.order.Order.{Order}
 use Rattle.rq_cast.specs.declared.seen.Seen.{Seen}
 use Rattle.rq_cast.specs.declared.run.Ending.{Ending}
-use Rattle.rq_cast.specs.declared.run.Ending.TheVariants.{Written}
+use Rattle.rq_cast.specs.declared.run.Ending.TheVariants.{Incomplete}
 use Rattle.rq_cast.specs.declared.survey.Standing.{Standing}
 use Rattle.rq_cast.specs.declared.stream_sending.Sent.{Sent as SentParts}
 use Rattle.rq_cast.specs.Preparing.{RefusesParts}
-use Rattle.rq_cast.specs.Received.{EndsReceiving, wish_over}
+use Rattle.rq_cast.specs.Received.{EndsReceiving, is_given_up, wish_over}
 use Rattle.rq_cells.specs.Cells.{Key}
 use Rattle.rq_cast.specs.Searching.{counted}
 use Rattle.rq_cast.specs.Surveyed.{IsSurvey}
 use Rattle.rq_words.specs.declared.values.TheConstants.{WIDEST_WINDOW}
 use Rattle.rq_words.specs.declared.jobs.Job.{Job}
-use Rattle.rq_words.specs.declared.jobs.Job.TheVariants.{Send, Receive, Info}
+use Rattle.rq_words.specs.declared.jobs.Job.TheVariants.{Send, Receive, Follow, Info}
 use Rattle.rq_words.specs.declared.jobs.SendJob.{SendJob}
 use Rattle.rq_command.specs.declared.ending.End.{End}
-use Rattle.rq_command.specs.declared.ending.End.TheVariants.{Unasked, AtTerminal, EmptyKey, Sent, Changed, Received, Surveyed, Stopped}
+use Rattle.rq_command.specs.declared.ending.End.TheVariants.{Unasked, AtTerminal, EmptyKey, Sent, Changed, Received, Followed, Surveyed, Stopped}
 use Rattle.rq_words.specs.Asked.{AsksFor, IsRefused}
 use Rattle.rq_words.specs.Values.{times_of}
 use Rattle.rq_command.specs.Failed.{Fails, StopsReading}
+use Rattle.rq_command.specs.Following.{FollowsAll, Folder}
 use Rattle.rq_command.specs.Keyed.{HasKey, IsEmptyKey, IsKeyOf, key_file}
 use Rattle.rq_command.specs.Placed.{Contents, IsPlaced, is_whole}
 use Rattle.rq_command.specs.Rounds.{SendsRounds, StopsRounds}
@@ -95,6 +96,7 @@ pub record Receives {X : Type 0} (name : List ℕ) (passed : List (List ℕ)) (w
   pub written : Contents
   pub ended : Result Ending Stop
   pub ends : EndsReceiving table (wish_over table key name passed) window ended seen input after last blank written
+  pub patient : is_given_up ended ≡ false
   pub same : (ended ≡ result) ⊎ ((is_whole ended ≡ true) × (result ≡ Err Fault))
   pub placed : IsPlaced output result written old new
 
@@ -108,6 +110,13 @@ EndsReceive name passed window file output input blank EmptyKey old new = IsEmpt
 EndsReceive name passed window file output input blank (Received result seen) old new = Receives name passed window file output result seen input blank old new
 EndsReceive name passed window file output input blank (Stopped stop) old new = StopsBefore stop × (new ≡ old)
 EndsReceive name passed window file output input blank _ old new = ⊥
+
+-- Where the key is empty, or the run is stopped before the first read, the folder is as it was.
+abbrev pub EndsFollow : List (List ℕ) → ℕ → Option ℕ → Option Contents → Contents → Contents → End → Folder → Folder → Type 0
+EndsFollow passed window timeout file input blank EmptyKey old new = IsEmptyKey file × (new ≡ old)
+EndsFollow passed window timeout file input blank (Followed streams last seen) old new = FollowsAll file passed window timeout streams last seen input blank old new
+EndsFollow passed window timeout file input blank (Stopped stop) old new = StopsBefore stop × (new ≡ old)
+EndsFollow passed window timeout file input blank _ old new = ⊥
 
 -- ---- listing
 
@@ -141,25 +150,27 @@ abbrev pub EndsSending : SendJob → (List (List ℕ) → Contents) → Contents
 EndsSending job stands blank ended old new =
     EndsSend job.order (times_of job.rounds) (key_file stands (option_map (λ s. s.now) job.key)) (stands (map (λ s. s.now) job.files.items)) blank ended old new
 
--- The same, and whether cells would go to a terminal.
-abbrev pub EndsJob : Job → Option Bool → (List (List ℕ) → Contents) → Contents → End → Contents → Contents → Type 0
-EndsJob (Send job) terminal stands blank ended old new = MindsTerminal terminal ended × EndsSending job stands blank ended old new
-EndsJob (Receive job) terminal stands blank ended old new =
+-- The same, whether cells would go to a terminal, and what a folder holds before and after.
+abbrev pub EndsJob : Job → Option Bool → (List (List ℕ) → Contents) → Contents → End → Contents → Contents → Folder → Folder → Type 0
+EndsJob (Send job) terminal stands blank ended old new held held' = MindsTerminal terminal ended × EndsSending job stands blank ended old new
+EndsJob (Receive job) terminal stands blank ended old new held held' =
     EndsReceive job.name.items (map (λ v. v.items) job.passed.items) job.window (key_file stands (option_map (λ s. s.now) job.key)) job.output (stands (map (λ s. s.now) job.files.items)) blank ended old new
-EndsJob (Info job) terminal stands blank ended old new =
+EndsJob (Follow job) terminal stands blank ended old new held held' =
+    EndsFollow (map (λ v. v.items) job.passed.items) job.window job.timeout (key_file stands (option_map (λ s. s.now) job.key)) (stands (map (λ s. s.now) job.files.items)) blank ended held held'
+EndsJob (Info job) terminal stands blank ended old new held held' =
     EndsInfo (key_file stands (option_map (λ s. s.now) job.key)) (stands (map (λ s. s.now) job.files.items)) ended old new
 
 -- What the words ask for is done. Where they are refused, nothing is.
-abbrev pub Does : List (List ℕ) → Option Bool → (List (List ℕ) → Contents) → Contents → End → Contents → Contents → Type 0
-Does words terminal stands blank (Unasked e) old new = IsRefused words (kind_of e) × (new ≡ old)
-Does words terminal stands blank ended old new = (job : Job) × AsksFor words job × EndsJob job terminal stands blank ended old new
+abbrev pub Does : List (List ℕ) → Option Bool → (List (List ℕ) → Contents) → Contents → End → Contents → Contents → Folder → Folder → Type 0
+Does words terminal stands blank (Unasked e) old new held held' = IsRefused words (kind_of e) × (new ≡ old) × (held' ≡ held)
+Does words terminal stands blank ended old new held held' = (job : Job) × AsksFor words job × EndsJob job terminal stands blank ended old new held held'
 
 -- ---- failed calls
 
 -- So many calls failed in a run that received so: one that ended it, and one at most at what isn't whole, as it was taken away.
 abbrev pub FailsReceiving : Result Ending Stop → ℕ → Type 0
-FailsReceiving (Ok (Written stream)) n = n ≡ 0
-FailsReceiving (Ok _) n = n ≤ 1
+FailsReceiving (Ok (Incomplete number missing)) n = n ≤ 1
+FailsReceiving (Ok _) n = n ≡ 0
 FailsReceiving (Err Fault) n = 0 < n
 FailsReceiving (Err (Refused e)) n = n ≤ 1
 
@@ -168,6 +179,7 @@ abbrev pub FailsIn : End → ℕ → Type 0
 FailsIn (Sent sent) n = sent.lost ≡ counted n
 FailsIn (Changed part) n = ⊤
 FailsIn (Received result seen) n = FailsReceiving result n
+FailsIn (Followed streams last seen) n = FailsReceiving last n
 FailsIn (Stopped Fault) n = 0 < n
 FailsIn (Stopped (Refused e)) n = ⊤
 FailsIn _ n = n ≡ 0

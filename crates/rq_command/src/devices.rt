@@ -3,9 +3,11 @@ ghost use Rattle.std.specs.Prelude.{◌≡◌, ℕ, Bool, List, length, Option, 
 ghost use Rattle.rq_streams.specs.Counted.{failed_count};
 ghost use Rattle.rq_streams.specs.Ends.{failed_calls};
 ghost use Rattle.rq_command.specs.Failed.{Fails};
+ghost use Rattle.rq_command.specs.Following.{IsKept};
 ghost use Rattle.rq_command.specs.Placed.{IsEmpty, IsFinished};
 
-use rq_cast::{Pace, Progress};
+use rq_cast::{Ending, Pace, Progress, Seen};
+use rq_cells::STREAM_LENGTH;
 use rq_streams::{Counted, Stop};
 use rq_words::Telling;
 use std::io::{Read, Write};
@@ -24,6 +26,9 @@ pub trait Devices<'w> {
 
     /// What stands where the run puts what it writes.
     ghost placed: { Self → Option (List ℕ) };
+
+    /// What stands in the folder of streams that are taken one after another, by their names.
+    ghost filed: { Self → List ℕ → Option (List ℕ) } = { λ _ _. None };
 
     /// What a new writer holds: nothing, where what is written is known.
     ghost blank: { Option (List ℕ) };
@@ -45,7 +50,8 @@ pub trait Devices<'w> {
         ensures fault { IfErr result (λ stop. stop ≡ Stop.Fault) }
         ensures counts { Fails (failed self.old) (failed self.new) (failed_calls result) }
         ensures stays { stands self.new ≡ stands self.old }
-        ensures kept { placed self.new ≡ placed self.old };
+        ensures kept { placed self.new ≡ placed self.old }
+        ensures filed { filed self.new ≡ filed self.old };
 
     /// How many bytes a reader has, where that is known before they are read.
     fn length(&self, reader: &Self::Reader) -> Option<u64>
@@ -55,7 +61,8 @@ pub trait Devices<'w> {
     fn count<X>(&mut self, calls: &Counted<X>)
         ensures counts { Fails (failed self.old) (failed self.new) (failed_count calls.now) }
         ensures stays { stands self.new ≡ stands self.old }
-        ensures kept { placed self.new ≡ placed self.old };
+        ensures kept { placed self.new ≡ placed self.old }
+        ensures filed { filed self.new ≡ filed self.old };
 
     /// What writes beside a file, or on standard output.
     fn create(&mut self, file: Option<&'w str>) -> Result<Self::Writer, Stop>
@@ -77,11 +84,34 @@ pub trait Devices<'w> {
         ensures fault { IfErr result (λ stop. stop ≡ Stop.Fault) }
         ensures counts { Fails (failed self.old) (failed self.new) (failed_calls result) }
         ensures placed { IsFinished file.entry is_whole result (Self.Writer.contents writer) (placed self.old) (placed self.new) };
+
+    /// What writes in a folder, under a name that is no stream's.
+    fn create_in(&mut self, folder: &'w str) -> Result<Self::Writer, Stop>
+        ensures blank { IfOk result (λ w. Self.Writer.contents w ≡ blank) }
+        ensures empty { IsEmpty blank }
+        ensures fault { IfErr result (λ stop. stop ≡ Stop.Fault) }
+        ensures counts { Fails (failed self.old) (failed self.new) (failed_calls result) }
+        ensures filed { filed self.new ≡ filed self.old };
+
+    /// Puts what is written there under a stream's name, where it is whole and has one, and else takes it away.
+    fn finish_in(
+        &mut self,
+        folder: &'w str,
+        writer: Self::Writer,
+        stream: Option<[u8; STREAM_LENGTH]>,
+    ) -> Result<(), Stop>
+        ensures fault { IfErr result (λ stop. stop ≡ Stop.Fault) }
+        ensures counts { Fails (failed self.old) (failed self.new) (failed_calls result) }
+        ensures filed { IsKept stream result (Self.Writer.contents writer) (filed self.old) (filed self.new) };
 }
 
-/// What is told of a run while it goes on. Nothing is promised of it: the run does the same whoever is told.
+/// What is told of a run while it goes on. Nothing is promised of it: but for streams that are said to be silent, the
+/// run does the same whoever is told.
 pub trait Teller: Pace + Progress {
     /// Called first: what is to be told, how many bits a second are sent at most, and how many bytes there
     /// are to read, where these are known.
     fn begin(&mut self, telling: Telling, rate: Option<u64>, length: Option<u64>);
+
+    /// Called as each stream ends that is taken one after another, whole or given up, with what was seen.
+    fn tell_stream(&mut self, stream: &[u8; STREAM_LENGTH], ending: Ending, seen: &Seen);
 }

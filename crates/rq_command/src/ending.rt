@@ -1,12 +1,21 @@
 //! How the program ends.
 ghost use Rattle.std.specs.Prelude.{◌≡◌};
-ghost use Rattle.rq_command.specs.Endings.{all_lost, ending_status, stop_status, status_of, word_status};
+ghost use Rattle.rq_command.specs.Endings.{all_lost, ending_status, following_status, stop_status, status_of, word_status};
 
 use clap::Error;
 use clap::error::ErrorKind;
 use raptorq::error::Error as Refusal;
 use rq_cast::{Ending, Seen, Sent, Standing};
 use rq_streams::Stop;
+
+/// How many streams were taken one after another.
+#[derive(Clone, Copy, Debug, Default, PartialEq, Eq)]
+pub struct Streams {
+    /// How many are whole.
+    pub whole: u64,
+    /// How many were silent too long while cells of others came, and are given up.
+    pub given_up: u64,
+}
 
 /// How the program ended.
 #[derive(Debug, Drop)]
@@ -23,6 +32,8 @@ pub enum End {
     Changed(u32),
     /// It has received, and seen so much, also where something stopped it.
     Received(Result<Ending, Stop>, Seen),
+    /// It has received so many streams one after another, and a run behind them has ended so, and seen so much.
+    Followed(Streams, Result<Ending, Stop>, Seen),
     /// It has listed the objects whose cells stand among bytes.
     Surveyed(Vec<Standing>),
     /// Something stopped it.
@@ -45,6 +56,7 @@ impl End {
             End::Changed(_) => 1,
             End::Received(Ok(ending), _) => ending_status(*ending),
             End::Received(Err(stop), _) => stop_status(*stop),
+            End::Followed(streams, last, seen) => following_status(*streams, *last, seen),
             End::Surveyed(standings) => if standings.is_empty() { 2 } else { 0 },
             End::Stopped(stop) => stop_status(*stop),
         }
@@ -77,7 +89,20 @@ fn ending_status(ending: Ending) -> u8
 {
     match ending {
         Ending::Written { .. } => 0,
-        Ending::Incomplete { .. } => 2,
+        Ending::Incomplete { .. } | Ending::GivenUp { .. } => 2,
+    }
+}
+
+// Of streams that were taken one after another: where one was whole, none was given up and no cell came of a further
+// one, all is done.
+fn following_status(streams: Streams, last: Result<Ending, Stop>, seen: &Seen) -> u8
+    ensures { result ≡ following_status streams last seen.now }
+{
+    match last {
+        Ok(Ending::Incomplete { .. })
+            if streams.whole > 0 && streams.given_up == 0 && seen.cells == 0 => { 0 }
+        Ok(ending) => ending_status(ending),
+        Err(stop) => stop_status(stop),
     }
 }
 

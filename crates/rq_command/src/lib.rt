@@ -4,13 +4,14 @@
 
 mod devices;
 mod ending;
+mod following;
 mod messages;
 mod program;
 mod rounds;
 mod told;
 
 pub use devices::{Devices, Teller};
-pub use ending::End;
+pub use ending::{End, Streams};
 pub use messages::{announce, write_end, write_standings};
 pub use program::run;
 pub use rq_words::{InfoJob, Job, ReceiveJob, Rounds, SendJob, Telling, job};

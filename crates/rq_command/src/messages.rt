@@ -96,7 +96,7 @@ fn write_standing_json<W: Write>(standing: &Standing, out: &mut W) -> io::Result
     write!(out, "\",\"bytes\":{bytes}")?;
     match standing.ended {
         Ending::Written { .. } => write!(out, ",\"missing\":0")?,
-        Ending::Incomplete { parts, missing } => {
+        Ending::Incomplete { parts, missing } | Ending::GivenUp { parts, missing, .. } => {
             write!(out, ",\"parts\":{parts}")?;
             if let Some(missing) = missing {
                 write!(out, ",\"missing\":{missing}")?;
@@ -179,6 +179,18 @@ fn write_ending<W: Write>(ending: Ending, seen: &Seen, out: &mut W) -> io::Resul
     write_missing(parts, missing, seen, out)
 }
 
+// Says how many streams were given up.
+fn write_given_up<W: Write>(given_up: u64, out: &mut W) -> io::Result<()> {
+    let noun = match given_up {
+        1 => "stream was",
+        _ => "streams were",
+    };
+    writeln!(
+        out,
+        "rqcast: {given_up} {noun} silent too long while others came: a greater --timeout waits longer"
+    )
+}
+
 // Says what stopped a run. Why a call failed the devices know.
 fn write_stop<W: Write>(stop: Stop, out: &mut W) -> io::Result<()> {
     match stop {
@@ -220,6 +232,12 @@ pub fn write_end<W: Write>(end: &End, out: &mut W) -> io::Result<()> {
         ),
         End::Received(Ok(ending), seen) => write_ending(*ending, seen, out),
         End::Received(Err(stop), _) => write_stop(*stop, out),
+        End::Followed(_, Ok(Ending::Incomplete { .. }), _) if end.status() == 0 => Ok(()),
+        End::Followed(streams, Ok(_), seen) if streams.given_up > 0 && seen.cells == 0 => {
+            write_given_up(streams.given_up, out)
+        }
+        End::Followed(_, Ok(ending), seen) => write_ending(*ending, seen, out),
+        End::Followed(_, Err(stop), _) => write_stop(*stop, out),
         End::Surveyed(standings) if standings.is_empty() => {
             writeln!(out, "rqcast: no cell is there")
         }

@@ -1,6 +1,7 @@
 //! The program from its words to its end, over any devices.
-ghost use Rattle.std.specs.Prelude.{◌≡◌, ◌⊎◌, ℕ, ◌+◌, ◌<◌, map, option_map, Ok, Err, IfOk, IfErr, IfSome, true};
+ghost use Rattle.std.specs.Prelude.{◌≡◌, ◌⊎◌, ℕ, ◌+◌, ◌<◌, map, option_map, Ok, Err, IfOk, IfErr, IfSome, true, false};
 ghost use Rattle.rq_streams.specs.Ends.{failed_calls};
+ghost use Rattle.rq_cast.specs.Received.{is_given_up};
 ghost use Rattle.rq_command.specs.Failed.{Fails, StopsReading};
 ghost use Rattle.rq_words.specs.Values.{times_of};
 ghost use Rattle.rq_command.specs.Keyed.{key_file, IsKeyRead};
@@ -9,13 +10,14 @@ ghost use Rattle.rq_command.specs.Program.{StopsJob, MindsTerminal, EndsSending,
 
 use crate::devices::{Devices, Teller};
 use crate::ending::End;
+use crate::following::{Following, follow_all};
 use crate::rounds::{Rounds, open_files, send_rounds};
 use crate::told::Told;
 use rq_cast::{Ending, Halt, Input, Seen, check_length, run_receive, standings_in};
 use rq_cells::{Key, Wanted};
 use rq_rows::full_table;
 use rq_streams::{Counted, Stop, read_all};
-use rq_words::{InfoJob, Job, ReceiveJob, SendJob, WIDEST_WINDOW, job};
+use rq_words::{FollowJob, InfoJob, Job, ReceiveJob, SendJob, WIDEST_WINDOW, job};
 use std::alloc::Global;
 use std::convert::AsStr;
 use std::io::Read;
@@ -31,6 +33,7 @@ fn read_whole<'w, D: Devices<'w>, R: Read + Drop>(
     ensures counts { Fails (D.failed devices.old) (D.failed devices.new) (failed_calls result) }
     ensures stays { D.stands devices.new ≡ D.stands devices.old }
     ensures kept { D.placed devices.new ≡ D.placed devices.old }
+    ensures filed { D.filed devices.new ≡ D.filed devices.old }
 {
     let mut input = Counted::new(reader);
     let read = read_all(alloc, &mut input);
@@ -50,6 +53,7 @@ fn key_of<'w, D: Devices<'w>>(
     ensures counts { Fails (D.failed devices.old) (D.failed devices.new) (failed_calls result) }
     ensures stays { D.stands devices.new ≡ D.stands devices.old }
     ensures kept { D.placed devices.new ≡ D.placed devices.old }
+    ensures filed { D.filed devices.new ≡ D.filed devices.old }
 {
     let Some(file) = file else {
         return Ok(Some(Key::none()));
@@ -141,6 +145,7 @@ fn place<'w, D: Devices<'w>>(
     writer: D::Writer,
     ended: Result<Ending, Stop>,
 ) -> Result<Ending, Stop>
+    requires { is_given_up ended ≡ false }
     ensures same { (ended ≡ result) ⊎ ((is_whole ended ≡ true) × (result ≡ Err Stop.Fault)) }
     ensures placed { IsPlaced file.entry result (D.Writer.contents writer) (D.placed devices.old) (D.placed devices.new) }
     ensures failures { (n : ℕ) × Fails (D.failed devices.old) (D.failed devices.new) n × FailsReceiving result (failed_calls ended + n) }
@@ -162,7 +167,7 @@ fn receive<'w, D: Devices<'w>, T: Teller>(
 ) -> Result<End, Stop>
     requires { 0 < job.window }
     ensures does { EndsJob (Job.Receive job.entry) (D.terminal devices.old) (D.stands devices.old) D.blank (end_of result)
-        (D.placed devices.old) (D.placed devices.new) }
+        (D.placed devices.old) (D.placed devices.new) (D.filed devices.old) (D.filed devices.new) }
     ensures failures { Failures (end_of result) (D.failed devices.old) (D.failed devices.new) }
 {
     let ReceiveJob {
@@ -193,6 +198,7 @@ fn receive<'w, D: Devices<'w>, T: Teller>(
         alloc,
         &wanted,
         window,
+        None,
         &mut input,
         &mut writer,
         &mut seen,
@@ -204,6 +210,45 @@ fn receive<'w, D: Devices<'w>, T: Teller>(
     Ok(End::Received(ended, seen))
 }
 
+// Receives streams one after another.
+fn follow<'w, D: Devices<'w>, T: Teller>(
+    alloc: Global,
+    job: FollowJob<'w>,
+    devices: &mut D,
+    teller: &mut T,
+) -> Result<End, Stop>
+    requires { 0 < job.window }
+    ensures does { EndsJob (Job.Follow job.entry) (D.terminal devices.old) (D.stands devices.old) D.blank (end_of result)
+        (D.placed devices.old) (D.placed devices.new) (D.filed devices.old) (D.filed devices.new) }
+    ensures failures { Failures (end_of result) (D.failed devices.old) (D.failed devices.new) }
+{
+    let FollowJob {
+        passed,
+        window,
+        key,
+        folder,
+        timeout,
+        files,
+        telling,
+    } = job;
+    let Some(key) = key_of(alloc, key, devices)? else {
+        return Ok(End::EmptyKey);
+    };
+    let table = full_table(alloc)?;
+    let reader = devices.open(files)?;
+    teller.begin(telling, None, devices.length(&reader));
+    let input = Input::new(Counted::new(reader));
+    let run = Following {
+        key: &key,
+        table: &table,
+        window,
+        timeout,
+        folder,
+    };
+    let (streams, last, seen) = follow_all(alloc, &run, passed, input, devices, teller);
+    Ok(End::Followed(streams, last, seen))
+}
+
 // Lists the streams whose cells stand among bytes, by the widest window.
 fn info<'w, D: Devices<'w>, T: Teller>(
     alloc: Global,
@@ -212,7 +257,7 @@ fn info<'w, D: Devices<'w>, T: Teller>(
     teller: &mut T,
 ) -> Result<End, Stop>
     ensures does { EndsJob (Job.Info job.entry) (D.terminal devices.old) (D.stands devices.old) D.blank (end_of result)
-        (D.placed devices.old) (D.placed devices.new) }
+        (D.placed devices.old) (D.placed devices.new) (D.filed devices.old) (D.filed devices.new) }
     ensures failures { Failures (end_of result) (D.failed devices.old) (D.failed devices.new) }
 {
     let InfoJob {
@@ -247,7 +292,8 @@ fn end_of(ended: Result<End, Stop>) -> End
 ///
 /// Words that ask for no job read and write nothing. Of a job with a key the file of that is read first, and
 /// where it is empty nothing else is done. A file is put in its place only where the run has written all of
-/// it, and else is as it was.
+/// it, and else is as it was. Of streams that are taken one after another each whole one is put under its name, and
+/// none of the last eight is taken again.
 pub fn run<'w, S: AsStr, D: Devices<'w>, T: Teller>(
     alloc: Global,
     words: &'w [S],
@@ -256,7 +302,7 @@ pub fn run<'w, S: AsStr, D: Devices<'w>, T: Teller>(
 ) -> End
     // What the words ask for is done, and nothing where they are refused.
     ensures does { Does (map S.text words.entry.now) (D.terminal devices.old) (D.stands devices.old) D.blank result
-        (D.placed devices.old) (D.placed devices.new) }
+        (D.placed devices.old) (D.placed devices.new) (D.filed devices.old) (D.filed devices.new) }
 
     // A failed call ends the run, and nothing else is a fault.
     ensures failures { Failures result (D.failed devices.old) (D.failed devices.new) }
@@ -264,6 +310,7 @@ pub fn run<'w, S: AsStr, D: Devices<'w>, T: Teller>(
     match job(alloc, words) {
         Ok(Job::Send(job)) => end_of(send(alloc, job, devices, teller)),
         Ok(Job::Receive(job)) => end_of(receive(alloc, job, devices, teller)),
+        Ok(Job::Follow(job)) => end_of(follow(alloc, job, devices, teller)),
         Ok(Job::Info(job)) => end_of(info(alloc, job, devices, teller)),
         Err(error) => End::Unasked(error),
     }

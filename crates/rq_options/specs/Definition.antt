@@ -50,16 +50,21 @@ abbrev pub with_ids : App → App
 with_ids a = with_rule (with_rule (with_rule (with_rule a (value_rule (codes "rate"))) (value_rule (codes "share")))
     (with_default (codes "0") (value_rule (codes "from")))) (value_rule (codes "rounds"))
 
--- the options that say which stream is received, where to, and by what window
+-- the options that say where to is received, whether one stream or all, and how long one may be silent
 abbrev pub with_places : App → App
-with_places a = with_rule (with_rule (with_rule (with_rule a (with_letter 111 (value_rule (codes "output")))) (value_rule (codes "name")))
-    (several_rule (codes "not"))) (with_default (codes "2") (value_rule (codes "window")))
+with_places a =
+    with_rule (with_rule (with_rule a (with_letter 111 (value_rule (codes "output")))) (flag_rule (codes "follow"))) (value_rule (codes "timeout"))
+
+-- the options that say which stream is received, and by what window
+abbrev pub with_choice : App → App
+with_choice a =
+    with_rule (with_rule (with_rule a (value_rule (codes "name"))) (several_rule (codes "not"))) (with_default (codes "2") (value_rule (codes "window")))
 
 unfoldable pub send_app : App
 send_app = with_rule (with_common (with_ids (with_repair (subcommand_app (codes "send"))))) file_rule
 
 unfoldable pub receive_app : App
-receive_app = with_rule (with_common (with_places (subcommand_app (codes "receive")))) cells_rule
+receive_app = with_rule (with_common (with_choice (with_places (subcommand_app (codes "receive"))))) cells_rule
 
 unfoldable pub info_app : App
 info_app = with_rule (with_common (subcommand_app (codes "info"))) cells_rule

@@ -2,7 +2,7 @@
 ghost use Rattle.std.specs.Prelude.{◌≡◌, IfOk, false};
 ghost use Rattle.clap.specs.Words.{app_of, rule_of, with_rule};
 ghost use Rattle.clap.specs.declared.builder.command.Command.TheViews.{out-Command};
-ghost use Rattle.rq_options.specs.Definition.{value_rule, several_rule, flag_rule, file_rule, cells_rule, subcommand_app, top_app, with_common, with_repair, with_ids, with_places, send_app, receive_app, info_app, program_app};
+ghost use Rattle.rq_options.specs.Definition.{value_rule, several_rule, flag_rule, file_rule, cells_rule, subcommand_app, top_app, with_common, with_repair, with_ids, with_places, with_choice, send_app, receive_app, info_app, program_app};
 
 use crate::version::VERSION;
 use clap::{Arg, ArgAction, Command};
@@ -171,7 +171,7 @@ fn numbered<'a>(alloc: Global, command: Command<'a>) -> Result<Command<'a>, Allo
     added(three, rounds)
 }
 
-// The options of `receive` alone.
+// The options of `receive` that say where to.
 fn placed<'a>(alloc: Global, command: Command<'a>) -> Result<Command<'a>, AllocError>
     ensures app { IfOk result (λ c. app_of c ≡ with_places (app_of command.entry)) }
     ensures local { IfOk result (λ c. (out-Command c).has_globals ≡ (out-Command command.entry).has_globals) }
@@ -183,27 +183,47 @@ fn placed<'a>(alloc: Global, command: Command<'a>) -> Result<Command<'a>, AllocE
         "Write beside FILE, and put it there when it is whole",
     );
     let one = added(command, output.short('o'))?;
+    let follow = flag(
+        alloc,
+        "follow",
+        "Take one stream after another, into files of the folder FILE",
+    );
+    let two = added(one, follow)?;
+    let timeout = value(
+        alloc,
+        "timeout",
+        "SECONDS",
+        "How long a stream may be silent while others come, by --follow",
+    );
+    added(two, timeout)
+}
+
+// The options of `receive` that say which cells are taken.
+fn chosen<'a>(alloc: Global, command: Command<'a>) -> Result<Command<'a>, AllocError>
+    ensures app { IfOk result (λ c. app_of c ≡ with_choice (app_of command.entry)) }
+    ensures local { IfOk result (λ c. (out-Command c).has_globals ≡ (out-Command command.entry).has_globals) }
+{
     let name = value(
         alloc,
         "name",
         "HEX",
         "What `send` printed as name, or its beginning",
     );
-    let two = added(one, name)?;
+    let one = added(command, name)?;
     let not = several(
         alloc,
         "not",
         "HEX",
         "A name, or its beginning, that is passed over",
     );
-    let three = added(two, not)?;
+    let two = added(one, not)?;
     let window = value(
         alloc,
         "window",
         "PARTS",
         "How many parts are kept at once, from the first missing one on",
     );
-    added(three, window.default_value("2"))
+    added(two, window.default_value("2"))
 }
 
 /// `send`, with its options.
@@ -225,7 +245,8 @@ pub(crate) fn receive<'a>(alloc: Global) -> Result<Command<'a>, AllocError>
 {
     let about = "Writes what was sent, of cells among any bytes";
     let placed = placed(alloc, subcommand(alloc, "receive", about)?)?;
-    let common = common(alloc, placed)?;
+    let chosen = chosen(alloc, placed)?;
+    let common = common(alloc, chosen)?;
     added(common, cells(alloc))
 }
 

@@ -6,6 +6,7 @@ mod line;
 mod pace;
 mod pulse;
 mod sending;
+mod silence;
 mod watch;
 
 pub use amounts::{Amount, Time};

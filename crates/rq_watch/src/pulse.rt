@@ -45,6 +45,12 @@ impl<'a, C: Clock> Pulse<'a, C> {
         self.begun = Instant::now(self.clock).ok();
     }
 
+    /// Begins to count anew, from the time on that it is.
+    pub fn renew(&mut self) {
+        self.begin();
+        self.start = self.begun;
+    }
+
     /// How many bytes came since it began last.
     pub fn bytes(&self) -> u64 {
         self.bytes

@@ -5,8 +5,10 @@ use crate::line::{COLUMNS, Course};
 use crate::pace::Pacer;
 use crate::pulse::Pulse;
 use crate::sending::Sending;
+use crate::silence::Silence;
 use raptorq::Decoder;
 use rq_cast::{Ending, Pace, Progress, Seen, Sender, Sent, missing_packets};
+use rq_cells::STREAM_LENGTH;
 use rq_command::{End, Teller, Telling, announce};
 use rq_streams::Stop;
 use std::io;
@@ -16,6 +18,25 @@ use std::time::Clock;
 // So many cells.
 fn noun_of(cells: u64) -> &'static str {
     if cells == 1 { "cell" } else { "cells" }
+}
+
+// What was seen, and where that is known how many parts are written and how many packets of the next one are
+// missing, by their names.
+fn counts_of(
+    seen: &Seen,
+    parts: Option<u64>,
+    missing: Option<u64>,
+) -> [(&'static str, Option<u64>); 8] {
+    [
+        ("cells", Some(seen.cells)),
+        ("damaged", Some(seen.damaged)),
+        ("others", Some(seen.others)),
+        ("restarted", Some(seen.restarted)),
+        ("ahead", Some(seen.ahead)),
+        ("behind", Some(seen.behind)),
+        ("parts", parts),
+        ("missing", missing),
+    ]
 }
 
 // What clears a line of a terminal from here on.
@@ -28,6 +49,7 @@ pub struct Watch<'a, C: Clock, W: Write> {
     is_terminal: bool,
     telling: Telling,
     pulse: Pulse<'a, C>,
+    silence: Silence<'a, C>,
     pacer: Pacer<'a, C>,
     // How many bytes there are to read, and how many symbols a part has, where that is known.
     length: Option<u64>,
@@ -45,6 +67,7 @@ impl<'a, C: Clock, W: Write> Watch<'a, C, W> {
             is_terminal,
             telling: Telling::default(),
             pulse: Pulse::new(clock),
+            silence: Silence::new(clock),
             pacer: Pacer::new(clock, None),
             length: None,
             symbols: None,
@@ -81,8 +104,14 @@ impl<'a, C: Clock, W: Write> Watch<'a, C, W> {
 
     // Writes the time, the bytes and other counts, as far as they are known, as a line of JSON.
     fn write_json(&mut self, counts: &[(&str, Option<u64>)]) -> io::Result<()> {
+        write!(self.out, "{{")?;
+        self.write_counts(counts)
+    }
+
+    // The same behind what was written of the line.
+    fn write_counts(&mut self, counts: &[(&str, Option<u64>)]) -> io::Result<()> {
         let (bytes, time) = (self.pulse.bytes(), self.pulse.elapsed().as_millis());
-        write!(self.out, "{{\"milliseconds\":{time},\"bytes\":{bytes}")?;
+        write!(self.out, "\"milliseconds\":{time},\"bytes\":{bytes}")?;
         for (name, count) in counts {
             if let Some(count) = count {
                 write!(self.out, ",\"{name}\":{count}")?;
@@ -99,16 +128,7 @@ impl<'a, C: Clock, W: Write> Watch<'a, C, W> {
         parts: Option<u64>,
         missing: Option<u64>,
     ) -> io::Result<()> {
-        self.write_json(&[
-            ("cells", Some(seen.cells)),
-            ("damaged", Some(seen.damaged)),
-            ("others", Some(seen.others)),
-            ("restarted", Some(seen.restarted)),
-            ("ahead", Some(seen.ahead)),
-            ("behind", Some(seen.behind)),
-            ("parts", parts),
-            ("missing", missing),
-        ])
+        self.write_json(&counts_of(seen, parts, missing))
     }
 
     // Takes the line away, where one is shown.
@@ -135,6 +155,12 @@ impl<'a, C: Clock, W: Write> Watch<'a, C, W> {
             // Of a failed call no more is said than what failed.
             End::Received(Err(Stop::Fault), _) => Ok(()),
             End::Received(_, seen) => self.say_received(seen, None, None),
+            // No stream had begun.
+            End::Followed(streams, Ok(_), seen)
+                if streams.whole.max(streams.given_up) > 0 && seen.cells == 0 => { Ok(()) }
+            End::Followed(_, Ok(Ending::Incomplete { parts, missing }), seen) => {
+                self.say_received(seen, Some(u64::from(*parts)), *missing)
+            }
             _ => Ok(()),
         };
     }
@@ -203,6 +229,37 @@ impl<'a, C: Clock, W: Write> Watch<'a, C, W> {
             1 => writeln!(self.out, ", begun anew once, as some were forged"),
             times => writeln!(self.out, ", begun anew {times} times, as some were forged"),
         }
+    }
+
+    // Writes the name of a stream that is whole or given up, how much passed, and what was seen.
+    fn say_stream(
+        &mut self,
+        stream: &[u8; STREAM_LENGTH],
+        ending: Ending,
+        seen: &Seen,
+    ) -> io::Result<()> {
+        let (parts, missing) = match ending {
+            Ending::Written { .. } => (None, None),
+            Ending::Incomplete { parts, missing } | Ending::GivenUp { parts, missing, .. } => {
+                (Some(u64::from(parts)), missing)
+            }
+        };
+        let is_json = self.telling == Telling::Json;
+        if is_json {
+            write!(self.out, "{{\"name\":\"")?;
+        }
+        for byte in stream {
+            write!(self.out, "{:02x}", *byte)?;
+        }
+        if is_json {
+            write!(self.out, "\",")?;
+            return self.write_counts(&counts_of(seen, parts, missing));
+        }
+        match parts {
+            None => write!(self.out, " ")?,
+            Some(_) => write!(self.out, " given up: ")?,
+        }
+        self.say_received(seen, parts, missing)
     }
 
     // Writes how many cells were dropped, and why.
@@ -287,6 +344,10 @@ impl<C: Clock, W: Write> Progress for Watch<'_, C, W> {
             _ => self.show(&course),
         };
     }
+
+    fn is_silent(&mut self, seconds: u64, seen: &Seen) -> bool {
+        self.silence.lasts(seconds, seen)
+    }
 }
 
 impl<C: Clock, W: Write> Teller for Watch<'_, C, W> {
@@ -295,5 +356,15 @@ impl<C: Clock, W: Write> Teller for Watch<'_, C, W> {
         self.length = length;
         self.pacer.set_rate(rate);
         self.pulse.begin();
+    }
+
+    fn tell_stream(&mut self, stream: &[u8; STREAM_LENGTH], ending: Ending, seen: &Seen) {
+        self.clear();
+        if self.telling != Telling::Quiet {
+            let _ = self.say_stream(stream, ending, seen);
+        }
+        self.silence.begin();
+        self.pulse.renew();
+        self.symbols = None;
     }
 }

@@ -1,17 +1,18 @@
 -- Words that ask for nothing.
-use Rattle.std.proofs.Common.{◌≡◌, ◌⊎◌, ℕ, List, [], ◌∷◌, Option, Some, Ok, Err, inl, inr, sym, ap, ap₂, subst, ◌∙◌}
-use Rattle.clap.specs.Words.{HasKind, IsAmong, Kinds, Row}
+use Rattle.std.proofs.Common.{◌≡◌, ◌⊎◌, ℕ, List, [], ◌∷◌, Option, Some, Result, Ok, Err, IfOk, IfErr, inl, inr, sym, ap, ap₂, subst, ◌∙◌}
+use Rattle.clap.specs.Words.{FailsBy, HasKind, IsAmong, Kinds, Row, kind_of}
 use Rattle.clap.specs.Kinds.{or_else}
 use Rattle.clap.specs.declared.error.Error.{Error}
 use Rattle.clap.specs.declared.error.kind.ErrorKind.{ErrorKind}
 use Rattle.clap.specs.declared.error.kind.ErrorKind.TheVariants.{OutOfMemory}
 use Rattle.clap.specs.declared.parser.matches.ArgMatches.{ArgMatches}
 use Rattle.rq_options.specs.declared.matches.Verb.{Verb}
+use Rattle.rq_options.specs.declared.matches.Verb.TheVariants as verb
 use Rattle.rq_options.specs.Definition.{faults_of}
 use Rattle.rq_options.specs.Options.{verb_in, verb_used}
 use Rattle.rq_words.specs.declared.jobs.Job.{Job}
-use Rattle.rq_words.specs.declared.jobs.Job.TheVariants.{Send, Receive, Info}
-use Rattle.rq_words.specs.Asked.{Asked, AsksFor, IsRefused, Uses, both, kinds_of, misuses_of, refusals_of}
+use Rattle.rq_words.specs.declared.jobs.Job.TheVariants.{Send, Receive, Follow, Info}
+use Rattle.rq_words.specs.Asked.{Asked, AsksFor, IsReceivedOf, IsRefused, Uses, both, kinds_of, misuses_of, refusals_of}
 
 -- ---- one option and another
 
@@ -39,6 +40,14 @@ pub uses : (words : List (List ℕ)) (m : ArgMatches) (v : Verb) (rows : List Ro
     → Uses words v rows
 uses words m v rows faultless is used = record { faultless = faultless; used = sym (is ∙ used) }
 
+-- a stream is received, or all are
+pub received : (words : List (List ℕ)) (rows : List Row) (r : Result Job Error) → Uses words verb.Receive rows → IfOk r (IsReceivedOf rows) → IfOk r (AsksFor words)
+received words rows (Ok (Send job)) uses is = absurd is
+received words rows (Ok (Receive job)) uses is = (rows, uses, is)
+received words rows (Ok (Follow job)) uses is = (rows, uses, is)
+received words rows (Ok (Info job)) uses is = absurd is
+received words rows (Err e) uses is = tt
+
 -- ---- words that are refused
 
 -- those that ask for a job aren't
@@ -47,6 +56,8 @@ unfolding refusals_of
 unrefused words (Send job) (rows, uses, asks) =
     ap₂ (λ (f : Kinds) (u : Option (Verb × List Row)). or_else f (misuses_of u)) uses.faultless uses.used ∙ ap kinds_of asks.asked_for
 unrefused words (Receive job) (rows, uses, asks) =
+    ap₂ (λ (f : Kinds) (u : Option (Verb × List Row)). or_else f (misuses_of u)) uses.faultless uses.used ∙ ap kinds_of asks.asked_for
+unrefused words (Follow job) (rows, uses, asks) =
     ap₂ (λ (f : Kinds) (u : Option (Verb × List Row)). or_else f (misuses_of u)) uses.faultless uses.used ∙ ap kinds_of asks.asked_for
 unrefused words (Info job) (rows, uses, asks) =
     ap₂ (λ (f : Kinds) (u : Option (Verb × List Row)). or_else f (misuses_of u)) uses.faultless uses.used ∙ ap kinds_of asks.asked_for
@@ -80,3 +91,9 @@ refused_then words kind used faultless is h = elim h [
   | inr among ↦ refused_for words kind (subst (IsAmong kind)
       (ap₂ (λ (f : Kinds) (u : Option (Verb × List Row)). or_else f (misuses_of u)) (sym faultless) is) among)
 ]
+
+-- of the words behind a subcommand
+pub fails_then : {X : Type 0} (words : List (List ℕ)) (r : Result X Error) (used : Option (Verb × List Row)) → faults_of words ≡ [] → used ≡ verb_used words
+    → FailsBy (misuses_of used) r → IfErr r (λ e. IsRefused words (kind_of e))
+fails_then words (Ok x) used faultless is fails = tt
+fails_then words (Err e) used faultless is fails = refused_then words (kind_of e) used faultless is fails

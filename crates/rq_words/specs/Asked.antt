@@ -19,10 +19,11 @@ use Rattle.rq_words.specs.declared.jobs.Telling.{Telling}
 use Rattle.rq_words.specs.declared.jobs.Telling.TheVariants.{Usual, Quiet, Progress, Json}
 use Rattle.rq_words.specs.declared.jobs.SendJob.{SendJob}
 use Rattle.rq_words.specs.declared.jobs.ReceiveJob.{ReceiveJob}
+use Rattle.rq_words.specs.declared.jobs.FollowJob.{FollowJob}
 use Rattle.rq_words.specs.declared.jobs.InfoJob.{InfoJob}
 use Rattle.rq_words.specs.declared.jobs.Job.{Job}
-use Rattle.rq_words.specs.declared.jobs.Job.TheVariants.{Send, Receive, Info}
-use Rattle.rq_words.specs.Values.{part_of, window_of, symbol_size_of, loss_of, repair_of, rounds_of, times_of, rate_of, id_of, share_of, name_of}
+use Rattle.rq_words.specs.declared.jobs.Job.TheVariants.{Send, Receive, Follow, Info}
+use Rattle.rq_words.specs.Values.{part_of, window_of, timeout_of, symbol_size_of, loss_of, repair_of, rounds_of, times_of, rate_of, id_of, share_of, name_of}
 
 -- What is asked for, or the kind of its refusal: the first one in the order in which the options are read.
 abbrev pub Asked : Type 0 → Type 0
@@ -160,36 +161,77 @@ passed_by texts = if nat_lt 64 (length texts) then Err ValueValidation else each
 unfoldable pub passed_asked : List Row → Asked (List (List ℕ))
 passed_asked rows = passed_by (texts_of rows (codes "not"))
 
+-- the folder of streams that are taken one after another, which has a name, where no stream has one
+abbrev pub follow_by : Bool → Option (List ℕ) → Option (List ℕ) → Asked (Option (List ℕ))
+follow_by false output name = Ok None
+follow_by true None name = Err MissingRequiredArgument
+follow_by true (Some folder) None = Ok (Some folder)
+follow_by true (Some folder) (Some name) = Err ArgumentConflict
+
+unfoldable pub follow_asked : List Row → Asked (Option (List ℕ))
+follow_asked rows = follow_by (is_flagged rows (codes "follow")) (first_of (codes "output") rows) (first_of (codes "name") rows)
+
+-- for how many seconds a stream may be silent, where streams are taken one after another
+abbrev pub with_follow : Bool → ℕ → Asked (Option ℕ)
+with_follow true seconds = Ok (Some seconds)
+with_follow false seconds = Err MissingRequiredArgument
+
+abbrev pub timeout_by : Option (List ℕ) → Bool → Asked (Option ℕ)
+timeout_by None follows = Ok None
+timeout_by (Some text) follows = and_then (valued (timeout_of text)) (with_follow follows)
+
+unfoldable pub timeout_asked : List Row → Asked (Option ℕ)
+timeout_asked rows = timeout_by (first_of (codes "timeout") rows) (is_flagged rows (codes "follow"))
+
 unfoldable pub window_asked : List Row → Asked ℕ
 window_asked rows = valued (window_of (text_or rows (codes "window") []))
 
--- how many parts are kept, and what is told
-abbrev pub receiving_asked : List Row → Asked (ℕ × Telling)
-receiving_asked rows = both (window_asked rows) (telling_asked rows)
+-- how long one may be silent, how many parts are kept, and what is told
+abbrev pub receiving_asked : List Row → Asked (Option ℕ × (ℕ × Telling))
+receiving_asked rows = both (timeout_asked rows) (both (window_asked rows) (telling_asked rows))
+
+-- whether one stream is received or all, and the same
+abbrev pub following_asked : List Row → Asked (Option (List ℕ) × (Option ℕ × (ℕ × Telling)))
+following_asked rows = both (follow_asked rows) (receiving_asked rows)
 
 -- what is received, and what isn't
 abbrev pub which_asked : List Row → Asked (List ℕ × List (List ℕ))
 which_asked rows = both (name_asked rows) (passed_asked rows)
 
 -- and all of it
-abbrev pub receive_asked : List Row → Asked ((List ℕ × List (List ℕ)) × (ℕ × Telling))
-receive_asked rows = both (which_asked rows) (receiving_asked rows)
+abbrev pub receive_asked : List Row → Asked ((List ℕ × List (List ℕ)) × (Option (List ℕ) × (Option ℕ × (ℕ × Telling))))
+receive_asked rows = both (which_asked rows) (following_asked rows)
 
 pub record IsSendOf (rows : List Row) (job : SendJob) : Type 0 where
   pub asked_for : send_asked rows ≡ Ok (job.order, (job.rate, (job.rounds, job.telling)))
   pub key : option_map (λ s. s.now) job.key ≡ first_of (codes "key") rows
   pub files : map (λ s. s.now) job.files.items ≡ texts_of rows (codes "file")
 
+-- no timeout is asked for then
 pub record IsReceiveOf (rows : List Row) (job : ReceiveJob) : Type 0 where
-  pub asked_for : receive_asked rows ≡ Ok ((job.name.items, map (λ v. v.items) job.passed.items), (job.window, job.telling))
+  pub timeout : Option ℕ
+  pub asked_for : receive_asked rows ≡ Ok ((job.name.items, map (λ v. v.items) job.passed.items), (None, (timeout, (job.window, job.telling))))
   pub key : option_map (λ s. s.now) job.key ≡ first_of (codes "key") rows
   pub output : option_map (λ s. s.now) job.output ≡ first_of (codes "output") rows
+  pub files : map (λ s. s.now) job.files.items ≡ texts_of rows (codes "cells")
+
+-- no name is asked for then
+pub record IsFollowOf (rows : List Row) (job : FollowJob) : Type 0 where
+  pub name : List ℕ
+  pub asked_for : receive_asked rows ≡ Ok ((name, map (λ v. v.items) job.passed.items), (Some job.folder.now, (job.timeout, (job.window, job.telling))))
+  pub key : option_map (λ s. s.now) job.key ≡ first_of (codes "key") rows
   pub files : map (λ s. s.now) job.files.items ≡ texts_of rows (codes "cells")
 
 pub record IsInfoOf (rows : List Row) (job : InfoJob) : Type 0 where
   pub asked_for : telling_asked rows ≡ Ok job.telling
   pub key : option_map (λ s. s.now) job.key ≡ first_of (codes "key") rows
   pub files : map (λ s. s.now) job.files.items ≡ texts_of rows (codes "cells")
+
+-- what `receive` asks for
+abbrev pub IsReceivedOf : List Row → Job → Type 0
+IsReceivedOf rows (Receive job) = IsReceiveOf rows job
+IsReceivedOf rows (Follow job) = IsFollowOf rows job
+IsReceivedOf rows _ = ⊥
 
 -- The parser finds no fault in the words, and among them a subcommand with these rows.
 pub record Uses (words : List (List ℕ)) (v : Verb) (rows : List Row) : Type 0 where
@@ -200,24 +242,28 @@ pub record Uses (words : List (List ℕ)) (v : Verb) (rows : List Row) : Type 0 
 abbrev pub AsksFor : List (List ℕ) → Job → Type 0
 AsksFor words (Send job) = (rows : List Row) × Uses words verb.Send rows × IsSendOf rows job
 AsksFor words (Receive job) = (rows : List Row) × Uses words verb.Receive rows × IsReceiveOf rows job
+AsksFor words (Follow job) = (rows : List Row) × Uses words verb.Receive rows × IsFollowOf rows job
 AsksFor words (Info job) = (rows : List Row) × Uses words verb.Info rows × IsInfoOf rows job
 
 -- the ids of an order go on from one to the next
 abbrev pub StepsOn : Job → Type 0
 StepsOn (Send job) = 0 < job.order.ids.step
 StepsOn (Receive job) = ⊤
+StepsOn (Follow job) = ⊤
 StepsOn (Info job) = ⊤
 
 -- a part has bytes, and a window parts
 abbrev pub HasParts : Job → Type 0
 HasParts (Send job) = 0 < job.order.part
 HasParts (Receive job) = 0 < job.window
+HasParts (Follow job) = 0 < job.window
 HasParts (Info job) = ⊤
 
 -- a stream is sent in some rounds
 abbrev pub HasRounds : Job → Type 0
 HasRounds (Send job) = 0 < times_of job.rounds
 HasRounds (Receive job) = ⊤
+HasRounds (Follow job) = ⊤
 HasRounds (Info job) = ⊤
 
 -- ---- words that ask for nothing

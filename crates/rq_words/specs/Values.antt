@@ -26,6 +26,10 @@ part_of text = up_to (greatest_transfer_length - 32) text
 unfoldable pub window_of : List ℕ → Option ℕ
 window_of text = up_to 1024 text
 
+-- seconds of a day at most
+unfoldable pub timeout_of : List ℕ → Option ℕ
+timeout_of text = up_to 86400 text
+
 -- the most bytes of a symbol, where a cell has as many as a text says: 64 of them are no symbol
 unfoldable pub symbol_size_of : List ℕ → Option ℕ
 symbol_size_of text = option_and_then (λ n. if nat_lt 64 n && nat_le n greatest_cell_size then Some (n - 64) else None) (count_of text)

@@ -76,6 +76,25 @@ pub struct ReceiveJob<'a> {
     pub telling: Telling,
 }
 
+/// Streams that are received one after another.
+#[derive(Debug, PartialEq, Eq, Drop)]
+pub struct FollowJob<'a> {
+    /// The beginnings of the names of streams that are passed over, 64 at most.
+    pub passed: Vec<Vec<u8>>,
+    /// How many parts are kept at once, from the first one on that isn't written: not 0.
+    pub window: u32,
+    /// The file whose bytes are the key that their cells are made by, where there is one.
+    pub key: Option<&'a str>,
+    /// The folder of the files that they become.
+    pub folder: &'a str,
+    /// For how many seconds one may be silent while cells of others come, where that is said: not 0.
+    pub timeout: Option<u64>,
+    /// The files among whose bytes their cells stand, one behind another, or none for standard input.
+    pub files: Vec<&'a str>,
+    /// What is told.
+    pub telling: Telling,
+}
+
 /// Which bytes are looked through.
 #[derive(Debug, PartialEq, Eq, Drop)]
 pub struct InfoJob<'a> {
@@ -94,6 +113,8 @@ pub enum Job<'a> {
     Send(SendJob<'a>),
     /// Receives a stream.
     Receive(ReceiveJob<'a>),
+    /// Receives streams one after another.
+    Follow(FollowJob<'a>),
     /// Lists the streams whose cells stand among bytes.
     Info(InfoJob<'a>),
 }

@@ -3,9 +3,10 @@
 
 mod jobs;
 mod numbers;
+mod receiving;
 mod values;
 mod words;
 
-pub use jobs::{InfoJob, Job, ReceiveJob, Rounds, SendJob, Telling};
+pub use jobs::{FollowJob, InfoJob, Job, ReceiveJob, Rounds, SendJob, Telling};
 pub use values::WIDEST_WINDOW;
 pub use words::job;

@@ -1,6 +1,6 @@
 //! What the values of options say.
 ghost use Rattle.std.specs.Prelude.{◌≡◌, ◌<◌, ◌≤◌, option_map, IfOk, IfSome};
-ghost use Rattle.rq_words.specs.Values.{up_to, part_of, window_of, symbol_size_of, percent_of, packets_of, loss_of, repair_of, rounds_of, times_of, rate_of, id_of, share_of, sized, is_refused, name_of};
+ghost use Rattle.rq_words.specs.Values.{up_to, part_of, window_of, timeout_of, symbol_size_of, percent_of, packets_of, loss_of, repair_of, rounds_of, times_of, rate_of, id_of, share_of, sized, is_refused, name_of};
 
 use crate::jobs::Rounds;
 use crate::numbers::{count, scaled};
@@ -14,6 +14,9 @@ const LONGEST_PART: u64 = 942_574_504_243;
 
 /// How many parts a window has at most.
 pub const WIDEST_WINDOW: u32 = 1024;
+
+// How many seconds a stream may be silent at most: a day.
+const LONGEST_TIMEOUT: u64 = 86_400;
 
 // How many bytes a cell has beside its symbol, and at most.
 const BESIDE_SYMBOL: u64 = 64;
@@ -58,6 +61,14 @@ pub(crate) fn window(text: &str) -> Option<u32>
     ensures some { IfSome result (λ parts. 0 < parts) }
 {
     Some(up_to(u64::from(WIDEST_WINDOW), text)? as u32)
+}
+
+/// How many seconds a text says, up to those of a day.
+#[tactic(auto, unfolding(crate::specs::Values::timeout_of))]
+pub(crate) fn timeout(text: &str) -> Option<u64>
+    ensures { result ≡ timeout_of text.now }
+{
+    up_to(LONGEST_TIMEOUT, text)
 }
 
 /// The most bytes of a symbol, where a cell has as many as a text says: from 65 to 65599.

@@ -1,12 +1,12 @@
 //! What the program's words ask for.
 ghost use Rattle.std.specs.Prelude.{◌≡◌, ◌<◌, codes, map, option_map, IfOk, IfErr};
-ghost use Rattle.std.specs.Result.{result_map_both};
 ghost use Rattle.clap.specs.Words.{FailsBy, first_of, found_of, kind_of, rows_of};
 ghost use Rattle.rq_words.specs.Values.{loss_of, repair_of, times_of};
-ghost use Rattle.rq_words.specs.Asked.{asked, kinds_of, valued, part_asked, symbol_size_asked, repair_asked, rate_asked, with_file, rounds_asked, share_asked, from_asked, ids_asked, order_asked, telling_asked, course_asked, send_asked, name_asked, window_asked, receiving_asked, receive_asked, IsSendOf, IsReceiveOf, IsInfoOf, AsksFor, StepsOn, HasParts, HasRounds, IsRefused, passed_asked, which_asked};
+ghost use Rattle.rq_words.specs.Asked.{asked, kinds_of, valued, part_asked, symbol_size_asked, repair_asked, rate_asked, with_file, rounds_asked, share_asked, from_asked, ids_asked, order_asked, telling_asked, course_asked, send_asked, IsSendOf, IsInfoOf, AsksFor, StepsOn, HasParts, HasRounds, IsRefused};
 ghost use Rattle.rq_options.specs.Options.{misuse_kind};
 
-use crate::jobs::{InfoJob, Job, ReceiveJob, Rounds, SendJob, Telling};
+use crate::jobs::{InfoJob, Job, Rounds, SendJob, Telling};
+use crate::receiving::receive_job;
 use crate::values;
 use clap::error::ErrorKind;
 use clap::{ArgMatches, Error};
@@ -14,14 +14,11 @@ use rq_cast::{Ids, Order, Repair};
 use rq_options::{
     Misuse, Verb, is_flagged, matches_of, no_subcommand, text_of, text_or, texts_of, used,
 };
-use std::alloc::{AllocError, Global};
+use std::alloc::Global;
 use std::convert::AsStr;
 
 // The loss that is lived through where no word says one.
 const USUAL_LOSS: &str = "5";
-
-// How many names are passed over at most.
-const MOST_PASSED: usize = 64;
 
 // How many bytes a part has.
 #[tactic(auto, unfolding(crate::specs::Asked::part_asked))]
@@ -205,7 +202,7 @@ fn order_of<'a>(matches: &ArgMatches<'a>) -> Result<Order, Misuse<'a>>
 
 // What is told.
 #[tactic(auto, unfolding(crate::specs::Asked::telling_asked))]
-fn telling_of<'a>(matches: &ArgMatches<'a>) -> Result<Telling, Misuse<'a>>
+pub(crate) fn telling_of<'a>(matches: &ArgMatches<'a>) -> Result<Telling, Misuse<'a>>
     ensures { asked result ≡ telling_asked (rows_of (found_of matches.now)) }
 {
     let quiet = is_flagged(matches, "quiet");
@@ -275,125 +272,6 @@ fn send_job<'a>(alloc: Global, matches: &ArgMatches<'a>) -> Result<SendJob<'a>, 
     })
 }
 
-// How the stream begins.
-#[tactic(auto, unfolding(crate::specs::Asked::name_asked))]
-fn name_of<'a>(
-    alloc: Global,
-    matches: &ArgMatches<'a>,
-) -> Result<Result<Vec<u8>, Misuse<'a>>, AllocError>
-    ensures { IfOk result (λ name. asked (result_map_both (λ v. v.items) (λ misuse. misuse) name) ≡ name_asked (rows_of (found_of matches.now))) }
-{
-    let Some(text) = text_of(matches, "name") else {
-        return Ok(Ok(Vec::new(alloc)));
-    };
-    Ok(values::name(alloc, text)?.ok_or(Misuse::Value {
-        option: "--name <HEX>",
-        takes: "2 to 16 hexadecimal digits, an even number of them",
-        text,
-    }))
-}
-
-// A value of `--not` that is refused.
-fn no_name(text: &str) -> Misuse<'_>
-    ensures { misuse_kind result ≡ ErrorKind.ValueValidation }
-{
-    Misuse::Value {
-        option: "--not <HEX>",
-        takes: "2 to 16 hexadecimal digits, an even number of them, 64 times at most",
-        text,
-    }
-}
-
-// How the streams begin that are passed over.
-#[tactic(auto, unfolding(crate::specs::Asked::passed_asked))]
-fn passed_of<'a>(
-    alloc: Global,
-    matches: &ArgMatches<'a>,
-) -> Result<Result<Vec<Vec<u8>>, Misuse<'a>>, AllocError>
-    ensures { IfOk result (λ passed. asked (result_map_both (λ v. map (λ n. n.items) v.items) (λ misuse. misuse) passed)
-        ≡ passed_asked (rows_of (found_of matches.now))) }
-{
-    let texts = texts_of(alloc, matches, "not")?;
-    if let Some(text) = texts.get(MOST_PASSED) {
-        return Ok(Err(no_name(text)));
-    }
-    let mut passed = Vec::new(alloc);
-    'names: for text in &texts {
-        let Some(name) = values::name(alloc, text)? else {
-            return Ok(Err(no_name(text)));
-        };
-        passed.push(name)?;
-    }
-    Ok(Ok(passed))
-}
-
-// How the stream begins that is received, and those that are passed over.
-fn which_of<'a>(
-    alloc: Global,
-    matches: &ArgMatches<'a>,
-) -> Result<Result<(Vec<u8>, Vec<Vec<u8>>), Misuse<'a>>, AllocError>
-    ensures { IfOk result (λ which. asked (result_map_both (λ v. (v.0.items, map (λ n. n.items) v.1.items)) (λ misuse. misuse) which)
-        ≡ which_asked (rows_of (found_of matches.now))) }
-{
-    let name = match name_of(alloc, matches)? {
-        Ok(name) => name,
-        Err(misuse) => return Ok(Err(misuse)),
-    };
-    Ok(match passed_of(alloc, matches)? {
-        Ok(passed) => Ok((name, passed)),
-        Err(misuse) => Err(misuse),
-    })
-}
-
-// How many parts are kept at once.
-#[tactic(auto, unfolding(crate::specs::Asked::window_asked))]
-fn window_of<'a>(matches: &ArgMatches<'a>) -> Result<u32, Misuse<'a>>
-    ensures value { asked result ≡ window_asked (rows_of (found_of matches.now)) }
-    ensures some { IfOk result (λ parts. 0 < parts) }
-{
-    let text = text_or(matches, "window", "");
-    values::window(text).ok_or(Misuse::Value {
-        option: "--window <PARTS>",
-        takes: "a number from 1 to 1024",
-        text,
-    })
-}
-
-// The same, and what is told.
-fn receiving_of<'a>(matches: &ArgMatches<'a>) -> Result<(u32, Telling), Misuse<'a>>
-    ensures value { asked result ≡ receiving_asked (rows_of (found_of matches.now)) }
-    ensures some { IfOk result (λ receiving. 0 < receiving.0) }
-{
-    let window = window_of(matches)?;
-    Ok((window, telling_of(matches)?))
-}
-
-// Which stream is received, and where from and to.
-fn receive_job<'a>(alloc: Global, matches: &ArgMatches<'a>) -> Result<ReceiveJob<'a>, Error>
-    ensures job { IfOk result (IsReceiveOf (rows_of (found_of matches.now))) }
-    ensures parts { IfOk result (λ job. 0 < job.window) }
-    ensures fails { FailsBy (kinds_of (receive_asked (rows_of (found_of matches.now)))) result }
-{
-    let (name, passed) = match which_of(alloc, matches)? {
-        Ok(which) => which,
-        Err(misuse) => return Err(misuse.error(alloc, Verb::Receive)),
-    };
-    let (window, telling) = match receiving_of(matches) {
-        Ok(receiving) => receiving,
-        Err(misuse) => return Err(misuse.error(alloc, Verb::Receive)),
-    };
-    let files = texts_of(alloc, matches, "cells")?;
-    Ok(ReceiveJob {
-        name,
-        passed,
-        window,
-        key: text_of(matches, "key"),
-        output: text_of(matches, "output"),
-        files,
-        telling,
-    })
-}
-
 // Which bytes are looked through.
 fn info_job<'a>(alloc: Global, matches: &ArgMatches<'a>) -> Result<InfoJob<'a>, Error>
     ensures job { IfOk result (IsInfoOf (rows_of (found_of matches.now))) }
@@ -415,8 +293,10 @@ fn info_job<'a>(alloc: Global, matches: &ArgMatches<'a>) -> Result<InfoJob<'a>, 
 ///
 /// Refuses what the parser refuses, requests for help and the version among it. Then it refuses the first
 /// of these: a value that its option doesn't take, of `--part`, `--cell`, `--loss` or `--repair`, `--share`,
-/// `--from`, `--rate`, `--rounds`, `--name`, `--not` and `--window` in this order, where `--loss` beside `--repair` stands
-/// for theirs, and `--rounds` of more than 1 without a file for its; and two of `--quiet`, `--progress` and `--json`.
+/// `--from`, `--rate`, `--rounds`, `--name`, `--not`, `--follow`, `--timeout` and `--window` in this order, where
+/// `--loss` beside `--repair` stands for theirs, `--rounds` of more than 1 without a file for its, and so do `--follow`
+/// without `--output` or beside `--name`, and `--timeout` without `--follow`; and two of `--quiet`, `--progress` and
+/// `--json`.
 /// [`ErrorKind::OutOfMemory`](clap::error::ErrorKind) may come before any of them.
 pub fn job<'a, S: AsStr>(alloc: Global, words: &'a [S]) -> Result<Job<'a>, Error>
     ensures job { IfOk result (AsksFor (map S.text words.entry.now)) }
@@ -428,7 +308,7 @@ pub fn job<'a, S: AsStr>(alloc: Global, words: &'a [S]) -> Result<Job<'a>, Error
     let matches = matches_of(alloc, words)?;
     match used(&matches) {
         Some((Verb::Send, behind)) => Ok(Job::Send(send_job(alloc, behind)?)),
-        Some((Verb::Receive, behind)) => Ok(Job::Receive(receive_job(alloc, behind)?)),
+        Some((Verb::Receive, behind)) => receive_job(alloc, behind),
         Some((Verb::Info, behind)) => Ok(Job::Info(info_job(alloc, behind)?)),
         // There are no others, and one is required.
         None => Err(no_subcommand(alloc)),

@@ -1,6 +1,8 @@
 //! A file that is written beside its place.
 
 use crate::system::System;
+use rq_cells::STREAM_LENGTH;
+use std::fmt::Write;
 use std::fs::{File, Permissions, TryLockError};
 use std::io::ErrorKind;
 use std::os::unix::fs::PermissionsExt;
@@ -39,6 +41,33 @@ fn path_beside<'w>(system: System<'_, 'w>, place: &PathBuf) -> io::Result<&'w st
         .beside
         .get_or_try_init(|| format!(in alloc; "{}.rqcast", place.display()))?;
     Ok(path.as_str())
+}
+
+// The path in a folder of what isn't whole yet, which is known as long as the words of the line are.
+fn path_inside<'w>(system: System<'_, 'w>, folder: &str) -> io::Result<&'w str> {
+    let alloc = system.rt.alloc();
+    let path = system
+        .beside
+        .get_or_try_init(|| format!(in alloc; "{folder}/receiving.rqcast"))?;
+    Ok(path.as_str())
+}
+
+// The path in a folder that a stream names, in 16 hexadecimal digits.
+fn path_of(rt: &HostRuntime, folder: &str, stream: &[u8; STREAM_LENGTH]) -> io::Result<PathBuf> {
+    let alloc = rt.alloc();
+    let mut path = format!(in alloc; "{folder}/")?;
+    for byte in stream {
+        write!(path, "{:02x}", *byte)?;
+    }
+    Ok(PathBuf::from_str(alloc, path.as_str())?)
+}
+
+// The rights of a file, where there is one.
+fn rights_of(rt: &HostRuntime, path: &PathBuf) -> Option<Permissions> {
+    match fs::symlink_metadata(rt, path.as_path()) {
+        Ok(metadata) if metadata.is_file() => Some(metadata.permissions()),
+        _ => None,
+    }
 }
 
 // Whether another run writes a file now.
@@ -92,6 +121,19 @@ impl<'c, 'w> Aside<'c, 'w> {
         Ok(aside)
     }
 
+    /// Begins a file in a folder, whose place isn't known yet.
+    pub fn create_in(system: System<'c, 'w>, folder: &'w str) -> io::Result<Aside<'c, 'w>> {
+        let path = system.noted("opening", folder, path_inside(system, folder))?;
+        let place = PathBuf::from_str(system.rt.alloc(), path)?;
+        let file = system.noted("opening", path, create_anew(system.rt, path))?;
+        Ok(Aside {
+            system,
+            file,
+            place,
+            path,
+        })
+    }
+
     /// What is written.
     pub fn file(&mut self) -> &mut File {
         &mut self.file
@@ -132,5 +174,25 @@ impl<'c, 'w> Aside<'c, 'w> {
             let _ = self.remove();
         }
         put
+    }
+
+    /// Puts it in its place in a folder, which a stream names, with the rights of a file that is there. Where that
+    /// can't be, it is taken away.
+    pub fn finish_as(self, folder: &str, stream: &[u8; STREAM_LENGTH]) -> io::Result<()> {
+        let mut aside = self;
+        match path_of(aside.system.rt, folder, stream) {
+            Ok(place) => aside.place = place,
+            Err(error) => {
+                let _ = aside.remove();
+                return Err(error);
+            }
+        }
+        if let Some(rights) = rights_of(aside.system.rt, &aside.place)
+            && let Err(error) = aside.set_rights(&rights)
+        {
+            let _ = aside.remove();
+            return Err(error);
+        }
+        aside.finish(true)
     }
 }

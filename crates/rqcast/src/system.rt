@@ -4,6 +4,7 @@ ghost use Rattle.std.specs.Prelude.{◌≡◌};
 use crate::failure::Failure;
 use crate::source::Source;
 use crate::target::Target;
+use rq_cells::STREAM_LENGTH;
 use rq_command::Devices;
 use rq_streams::{Counted, Stop};
 use std::cell::{Cell, OnceCell};
@@ -16,7 +17,7 @@ pub struct System<'c, 'w> {
     pub rt: &'c HostRuntime,
     /// Which call failed first, and why.
     pub failure: &'c Cell<Option<Failure<'w>>>,
-    /// The file that is written beside its place, where there is one.
+    /// The file that is written beside its place, or in a folder, where there is one.
     pub beside: &'w OnceCell<String>,
 }
 
@@ -56,6 +57,8 @@ impl<'c, 'w> Devices<'w> for System<'c, 'w> {
 
     ghost placed = { λ _. None };
 
+    ghost filed = { λ _ _. None };
+
     ghost blank = { None };
 
     fn shows_output(&self) -> bool {
@@ -83,5 +86,18 @@ impl<'c, 'w> Devices<'w> for System<'c, 'w> {
         is_whole: bool,
     ) -> Result<(), Stop> {
         writer.finish(is_whole).map_err(|_| Stop::Fault)
+    }
+
+    fn create_in(&mut self, folder: &'w str) -> Result<Target<'c, 'w>, Stop> {
+        Target::create_in(*self, folder).map_err(|_| Stop::Fault)
+    }
+
+    fn finish_in(
+        &mut self,
+        folder: &'w str,
+        writer: Target<'c, 'w>,
+        stream: Option<[u8; STREAM_LENGTH]>,
+    ) -> Result<(), Stop> {
+        writer.finish_in(folder, stream).map_err(|_| Stop::Fault)
     }
 }

@@ -3,6 +3,7 @@
 use crate::aside::Aside;
 use crate::system::System;
 use rq_cast::loses;
+use rq_cells::STREAM_LENGTH;
 use std::fs::{File, OpenOptions};
 use std::io::{ErrorKind, Write};
 use std::{fs, io};
@@ -50,6 +51,13 @@ impl<'c, 'w> Target<'c, 'w> {
         Ok(Target { system, sink })
     }
 
+    /// Writes in a folder, beside the places of streams.
+    pub fn create_in(system: System<'c, 'w>, folder: &'w str) -> io::Result<Target<'c, 'w>> {
+        let aside = Aside::create_in(system, folder)?;
+        let sink = Sink::Aside(aside);
+        Ok(Target { system, sink })
+    }
+
     // What is written now, as a failed call names it.
     fn place(&self) -> &'w str {
         match &self.sink {
@@ -64,6 +72,15 @@ impl<'c, 'w> Target<'c, 'w> {
         match self.sink {
             Sink::Aside(aside) => aside.finish(is_whole),
             Sink::Output | Sink::Device(..) => Ok(()),
+        }
+    }
+
+    /// Puts the file in a folder under a stream's name, where it is whole and has one, and else takes it away.
+    pub fn finish_in(self, folder: &str, stream: Option<[u8; STREAM_LENGTH]>) -> io::Result<()> {
+        match (self.sink, stream) {
+            (Sink::Aside(aside), Some(stream)) => aside.finish_as(folder, &stream),
+            (Sink::Aside(aside), None) => aside.finish(false),
+            _ => Ok(()),
         }
     }
 }

@@ -6,7 +6,7 @@ use raptorq::error::Error;
 use raptorq::systematic_constants::SystematicTable;
 use rq_cast::{Ending, Pace, Seen, Sender, Sent, standings_in};
 use rq_cells::Key;
-use rq_command::{End, announce, write_end, write_standings};
+use rq_command::{End, Streams, announce, write_end, write_standings};
 use rq_streams::Stop;
 
 // Announces each part in both forms.
@@ -28,6 +28,7 @@ impl Pace for Announced {
 fn ends_are_said(rt: HostRuntime) {
     let alloc = rt.alloc();
     let none = Seen::default();
+    let one = Seen { cells: 1, ..none };
     let received = |ended| End::Received(ended, none);
     let sent = |cells, lost| {
         End::Sent(Sent {
@@ -37,6 +38,7 @@ fn ends_are_said(rt: HostRuntime) {
         })
     };
     let incomplete = |parts, missing| Ok(Ending::Incomplete { parts, missing });
+    let streams = |whole, given_up| Streams { whole, given_up };
     let rows = [
         (End::AtTerminal, "cells aren't written to a terminal", 64),
         (End::EmptyKey, "the key is empty", 64),
@@ -71,6 +73,26 @@ fn ends_are_said(rt: HostRuntime) {
             2,
         ),
         (received(Err(Stop::Fault)), "", 1),
+        (
+            End::Followed(streams(1, 0), incomplete(0, None), none),
+            "",
+            0,
+        ),
+        (
+            End::Followed(streams(3, 1), incomplete(0, None), none),
+            "rqcast: 1 stream was silent too long while others came",
+            2,
+        ),
+        (
+            End::Followed(streams(0, 0), incomplete(0, None), none),
+            "rqcast: no cell came of what is wanted",
+            2,
+        ),
+        (
+            End::Followed(streams(1, 1), incomplete(2, Some(7)), one),
+            "rqcast: 2 parts are whole, and the next one takes 7 more packets",
+            2,
+        ),
         (
             End::Stopped(Stop::Refused(Error::OutOfMemory)),
             "too little memory",

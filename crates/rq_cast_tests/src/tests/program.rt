@@ -6,12 +6,14 @@ use crate::tests::stored_cells::{
 use crate::tests::stored_parts::OF_THREE;
 use raptorq::Decoder;
 use raptorq::error::Error;
-use rq_cast::{Pace, Progress, Seen, Sender};
+use rq_cast::{Ending, Pace, Progress, Seen, Sender};
+use rq_cells::STREAM_LENGTH;
 use rq_command::{Devices, End, Teller, Telling, run};
 use rq_streams::{Counted, Stop};
 use std::alloc::{AllocError, Global};
 use std::io;
 use std::io::{Read, Write};
+use std::test::Fail;
 
 #[derive(Drop)]
 struct Bytes<'a> {
@@ -105,6 +107,28 @@ impl<'w, 'a> Devices<'w> for Memory<'a> {
         }
         Ok(())
     }
+
+    fn create_in(&mut self, _folder: &'w str) -> Result<Written, Stop> {
+        self.create(None)
+    }
+
+    // All files of a folder are put one behind another, each behind its name.
+    fn finish_in(
+        &mut self,
+        _folder: &'w str,
+        writer: Written,
+        stream: Option<[u8; STREAM_LENGTH]>,
+    ) -> Result<(), Stop> {
+        let Some(stream) = stream else {
+            return Ok(());
+        };
+        for bytes in [stream.as_slice(), writer.bytes.as_slice()] {
+            if self.placed.extend_from_slice(bytes).is_err() {
+                return Err(Stop::Fault);
+            }
+        }
+        Ok(())
+    }
 }
 
 #[derive(Drop)]
@@ -118,10 +142,16 @@ impl Pace for Nobody {
 
 impl Progress for Nobody {
     fn tell(&mut self, _bytes: usize, _seen: &Seen, _decoder: Option<&Decoder>) {}
+
+    fn is_silent(&mut self, seconds: u64, seen: &Seen) -> bool {
+        seconds == 5 && seen.others > 0
+    }
 }
 
 impl Teller for Nobody {
     fn begin(&mut self, _telling: Telling, _rate: Option<u64>, _length: Option<u64>) {}
+
+    fn tell_stream(&mut self, _stream: &[u8; STREAM_LENGTH], _ending: Ending, _seen: &Seen) {}
 }
 
 // What a run does: its status, what it placed, and how many files it read.
@@ -216,6 +246,51 @@ fn words_are_done(rt: HostRuntime) {
         let (found, wanted) = both(rt.alloc(), &row).expect(&rt, "memory");
         assert_eq!(rt; found, wanted, "{}", row.0);
     }
+}
+
+// Whether streams that come in one read are followed to this status, and these are put in the folder.
+fn follows(
+    alloc: Global,
+    line: &str,
+    input: &[&[u8]],
+    status: u8,
+    placed: &[&[u8]],
+) -> Result<bool, Error> {
+    let input = joined(alloc, input)?;
+    let placed = joined(alloc, placed)?;
+    let found = done(alloc, line, input.as_slice(), false)?;
+    Ok(found == (status, placed, 0))
+}
+
+#[test]
+fn streams_are_followed(rt: HostRuntime) -> Result<(), Fail> {
+    let alloc = rt.alloc();
+    let line = "receive --follow -o FOLDER --window 1";
+    assert!(rt; follows(alloc, line, &[], 2, &[b"old"])?);
+    let taken = follows(
+        alloc,
+        line,
+        &[&FIRST, &SECOND, &FIRST, &OF_THREE],
+        0,
+        &[b"old", &FIRST[4..12], &OBJECT, &OF_THREE[4..12], &OBJECT],
+    )?;
+    assert!(rt; taken);
+    let lacking = &[b"old", &OF_THREE[4..12], &OBJECT];
+    assert!(rt; follows(alloc, line, &[&OF_THREE, &FIRST], 2, lacking)?);
+    assert!(rt; follows(alloc, line, &[&FIRST, &OF_THREE], 2, &[b"old"])?);
+    Ok(())
+}
+
+// The first stream lacks a cell, and is said to be silent by a timeout of 5 seconds.
+#[test]
+fn silent_streams_are_given_up(rt: HostRuntime) -> Result<(), Fail> {
+    let alloc = rt.alloc();
+    let patient = "receive --follow -o FOLDER --timeout 4";
+    assert!(rt; follows(alloc, patient, &[&FIRST, &OF_THREE], 2, &[b"old"])?);
+    let line = "receive --follow -o FOLDER --timeout 5";
+    let left = &[b"old", &OF_THREE[4..12], &OBJECT];
+    assert!(rt; follows(alloc, line, &[&FIRST, &OF_THREE], 2, left)?);
+    Ok(())
 }
 
 #[test]

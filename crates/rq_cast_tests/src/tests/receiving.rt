@@ -60,6 +60,7 @@ pub fn received<R: Read + Drop>(
         alloc,
         &wanted,
         window.max(1),
+        None,
         &mut input,
         &mut writer,
         &mut seen,

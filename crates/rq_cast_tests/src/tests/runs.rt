@@ -62,7 +62,8 @@ impl Read for Pieces<'_> {
 fn ending_of(ending: rq_cast::Ending) -> Ending {
     match ending {
         rq_cast::Ending::Written { .. } => Ending::Written,
-        rq_cast::Ending::Incomplete { parts, missing } => Ending::Incomplete { parts, missing },
+        rq_cast::Ending::Incomplete { parts, missing }
+        | rq_cast::Ending::GivenUp { parts, missing, .. } => Ending::Incomplete { parts, missing },
     }
 }
 

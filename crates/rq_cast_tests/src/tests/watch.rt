@@ -39,6 +39,33 @@ fn a_line_is_written_past_each_second(rt: HostRuntime) {
 }
 
 #[test]
+fn silence_begins_with_the_first_cell_of_another(rt: HostRuntime) {
+    let clock = Hand { at: Cell::new(0) };
+    let mut out: Vec<u8> = Vec::new(rt.alloc());
+    let mut watch = Watch::new(&clock, &mut out, false);
+    // When, in seconds, how many cells of the stream and of others were seen, and whether it is silent for 60.
+    for (at, cells, others, is_silent) in [
+        (0, 1, 0, false),
+        (100, 1, 0, false),
+        (119, 1, 1, false),
+        (120, 2, 1, false),
+        (121, 2, 2, false),
+        (180, 2, 3, false),
+        (181, 2, 3, true),
+        (182, 3, 3, false),
+        (300, 3, 3, false),
+    ] {
+        clock.at.set(at * 1000);
+        let seen = Seen {
+            cells,
+            others,
+            ..Seen::default()
+        };
+        assert_eq!(rt; watch.is_silent(60, &seen), is_silent);
+    }
+}
+
+#[test]
 fn amounts_and_times_are_short(rt: HostRuntime) -> Result<(), AllocError> {
     let alloc = rt.alloc();
     for (bytes, text) in [

@@ -159,6 +159,7 @@ fn names_key(alloc: Global, line: &str, key: Option<&str>) -> Result<bool, Alloc
     match job(alloc, words.as_slice()) {
         Ok(Job::Send(job)) => Ok(job.key == key),
         Ok(Job::Receive(job)) => Ok(job.key == key),
+        Ok(Job::Follow(job)) => Ok(job.key == key),
         Ok(Job::Info(job)) => Ok(job.key == key),
         Err(_) => Ok(false),
     }
@@ -219,6 +220,20 @@ fn wrong_words_are_named(rt: HostRuntime) {
             "receive --not 01 --not 0 --name 02",
             "'0' for '--not <HEX>'",
         ),
+        ("receive --follow", "'--follow' takes a '--output <FILE>'"),
+        (
+            "receive --follow --name 01 -o FOLDER",
+            "'--follow' cannot be used with '--name <HEX>'",
+        ),
+        (
+            "receive --timeout 5",
+            "'--timeout <SECONDS>' takes a '--follow'",
+        ),
+        (
+            "receive --follow -o FOLDER --timeout 0",
+            "'0' for '--timeout <SECONDS>'",
+        ),
+        ("receive --follow -o FOLDER --timeout 86401", "'86401'"),
         ("receive --window 0", "'0' for '--window <PARTS>'"),
         ("receive --window 1025 -q --json", "'1025'"),
         ("receive --output", "'--output <FILE>'"),

@@ -1,7 +1,7 @@
 use Rattle.std.proofs.Common.{Err, inr, sym, ap, ◌∙◌}
 use Rattle.std.proofs.lemmas.Result.{err_from_is_err_and}
 use Rattle.rq_streams.specs.Ends.{failed_calls}
-use Rattle.rq_command.proofs.Failing.{fails_at_end, fails_nowhere, not_placed, not_whole, once, put, taken_away, whole}
+use Rattle.rq_command.proofs.Failing.{fails_at_end, fails_nowhere, not_placed, not_whole, once, put, taken_away}
 use Rattle.rq_command.proofs.program.place.Goals as goal
 
 pub returns-then-not-is_whole-clause-placed : goal.returns-then-not-is_whole-clause-placed
@@ -13,7 +13,7 @@ pub returns-then-not-is_whole-clause-failures : goal.returns-then-not-is_whole-c
 returns-then-not-is_whole-clause-failures g c = (
   failed_calls c.finish.result,
   c.finish.ensures.counts,
-  not_whole c.args.ended (failed_calls c.finish.result) (sym c.is_whole.ensures ∙ c.if-not-is_whole.true) (once c.finish.result),
+  not_whole c.args.ended (failed_calls c.finish.result) (sym c.is_whole.ensures ∙ c.if-not-is_whole.true) c.requires (once c.finish.result),
 )
 
 pub returns-in_err-finish-clause-same : goal.returns-in_err-finish-clause-same

@@ -1,15 +1,15 @@
 use Rattle.std.proofs.Common.{◌∙◌, ap, ap₂}
 use Rattle.std.proofs.lemmas.Result.{IfOk-weaker}
 use Rattle.clap.specs.Words.{with_rule}
-use Rattle.rq_options.specs.Definition.{receive_app, with_common, with_places}
+use Rattle.rq_options.specs.Definition.{receive_app, with_choice, with_common, with_places}
 use Rattle.rq_options.proofs.definition.receive.Goals as goal
 
 pub returns-clause-app : goal.returns-clause-app
 unfolding receive_app
 returns-clause-app c = IfOk-weaker c.added.result _ _ (λ m h. h
-    ∙ ap₂ with_rule (c.in_ok-common.ensures.app ∙ ap with_common (c.in_ok-placed.ensures.app ∙ ap with_places c.in_ok-subcommand.ensures.app)) c.cells.ensures.rule)
+    ∙ ap₂ with_rule (c.in_ok-common.ensures.app ∙ ap with_common (c.in_ok-chosen.ensures.app ∙ ap with_choice (c.in_ok-placed.ensures.app ∙ ap with_places c.in_ok-subcommand.ensures.app))) c.cells.ensures.rule)
     c.added.ensures.app
 
 pub returns-clause-local : goal.returns-clause-local
 returns-clause-local c = IfOk-weaker c.added.result _ _ (λ m h. h ∙ c.in_ok-common.ensures.local
-    ∙ c.in_ok-placed.ensures.local ∙ c.in_ok-subcommand.ensures.local) c.added.ensures.local
+    ∙ c.in_ok-chosen.ensures.local ∙ c.in_ok-placed.ensures.local ∙ c.in_ok-subcommand.ensures.local) c.added.ensures.local

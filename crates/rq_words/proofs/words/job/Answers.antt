@@ -2,7 +2,7 @@ use Rattle.std.proofs.Common.{None, Some, map, ◌∙◌}
 use Rattle.std.proofs.lemmas.Result.{err_from_is_err_and}
 use Rattle.clap.specs.Words.{found_of, kind_of, rows_of}
 use Rattle.rq_options.specs.declared.matches.Verb.TheVariants as verb
-use Rattle.rq_words.proofs.Asking.{refused_at_once, refused_then}
+use Rattle.rq_words.proofs.Asking.{fails_then, received, refused_at_once, refused_then, uses}
 use Rattle.rq_words.proofs.words.job.Goals as goal
 
 pub returns-in_err-matches-clause-refused : goal.returns-in_err-matches-clause-refused
@@ -18,13 +18,19 @@ returns-in_err-send_job-in-Some-Send-default-clause-refused g c =
     (Some (verb.Send, rows_of (found_of c.in-Some-Send-default.behind.now))) c.in_ok-matches.ensures.fails
     ((rw c.in-Some-Send-default.field-0-0-is at c.in-Some-Send-default.ensures) ∙ c.in_ok-matches.ensures.used) c.in_err-send_job-in-Some-Send-default.ensures.fails)
 
-pub returns-in_err-receive_job-in-Some-Receive-default-clause-refused : goal.returns-in_err-receive_job-in-Some-Receive-default-clause-refused
-returns-in_err-receive_job-in-Some-Receive-default-clause-refused g c =
-    let p = err_from_is_err_and c.from_residual-in_err-receive_job-in-Some-Receive-default.result c.from_residual-in_err-receive_job-in-Some-Receive-default.ensures.1 in
-    rw (p.1, p.2)
-    (refused_then (map g.S.AsStr.text c.args.words.now) (kind_of c.in_err-receive_job-in-Some-Receive-default.field-0.0)
-    (Some (verb.Receive, rows_of (found_of c.in-Some-Receive-default.behind.now))) c.in_ok-matches.ensures.fails
-    ((rw c.in-Some-Receive-default.field-0-0-is at c.in-Some-Receive-default.ensures) ∙ c.in_ok-matches.ensures.used) c.in_err-receive_job-in-Some-Receive-default.ensures.fails)
+pub returns-in-Some-Receive-default-clause-job : goal.returns-in-Some-Receive-default-clause-job
+returns-in-Some-Receive-default-clause-job g c =
+    let words = map g.S.AsStr.text c.args.words.now in
+    let rows = rows_of (found_of c.in-Some-Receive-default.behind.now) in
+    received words rows c.receive_job.result
+    (uses words c.in_ok-matches.matches verb.Receive rows c.in_ok-matches.ensures.fails (rw c.in-Some-Receive-default.field-0-0-is at c.in-Some-Receive-default.ensures)
+    c.in_ok-matches.ensures.used) c.receive_job.ensures.job
+
+pub returns-in-Some-Receive-default-clause-refused : goal.returns-in-Some-Receive-default-clause-refused
+returns-in-Some-Receive-default-clause-refused g c =
+    let words = map g.S.AsStr.text c.args.words.now in
+    fails_then words c.receive_job.result (Some (verb.Receive, rows_of (found_of c.in-Some-Receive-default.behind.now))) c.in_ok-matches.ensures.fails
+    ((rw c.in-Some-Receive-default.field-0-0-is at c.in-Some-Receive-default.ensures) ∙ c.in_ok-matches.ensures.used) c.receive_job.ensures.fails
 
 pub returns-in_err-info_job-in-Some-Info-default-clause-refused : goal.returns-in_err-info_job-in-Some-Info-default-clause-refused
 returns-in_err-info_job-in-Some-Info-default-clause-refused g c =

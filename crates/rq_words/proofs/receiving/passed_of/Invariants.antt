@@ -1,7 +1,7 @@
 use Rattle.std.proofs.Common.{◌≡◌, map, drop}
 use Rattle.rq_words.specs.Asked.{each_named}
 use Rattle.rq_words.proofs.Naming.{named_behind}
-use Rattle.rq_words.proofs.words.passed_of.Given as goal
+use Rattle.rq_words.proofs.receiving.passed_of.Given as goal
 
 -- what the first texts name, and then the others
 abbrev pub invariant-names : goal.invariant-names

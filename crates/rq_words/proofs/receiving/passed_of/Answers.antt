@@ -2,7 +2,7 @@ use Rattle.std.proofs.Common.{◌+◌, [], ◌∷◌, Err, map, drop, sym, ap, �
 use Rattle.std.proofs.lemmas.List.{map-append}
 use Rattle.clap.specs.Words.{found_of, rows_of}
 use Rattle.rq_words.proofs.Naming.{named_behind, named_first, passed_are, read_all, read_on, read_wrong}
-use Rattle.rq_words.proofs.words.passed_of.Goals as goal
+use Rattle.rq_words.proofs.receiving.passed_of.Goals as goal
 
 pub names-init : goal.names-init
 names-init c =
