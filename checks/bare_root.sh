@@ -98,20 +98,21 @@ emulator() {
     command -v "qemu-$1-static" || command -v "qemu-$1"
 }
 
-# Each processor makes the same streams, and what is less than the least is refused: PROGRAM..
+# A processor of each level makes the same stream, and what is less than the least is refused: PROGRAM WORDS..
 on_processors() {
-    local program processor status
-    for program in "$@"; do
-        "$program" send 1280 13 <LICENSE >stream 2>/dev/null
-        for processor in Nehalem Haswell; do
-            # It warns of features that it lacks.
-            "$(emulator x86_64)" -cpu "$processor" "$program" send 1280 13 <LICENSE 2>/dev/null | cmp - stream
-        done
-        status=0
-        "$(emulator x86_64)" -cpu core2duo "$program" send 1280 13 <LICENSE >/dev/null 2>printed || status=$?
-        [ "$status" -eq 127 ] && [ -s printed ] || failed "on a core2duo $program ends with $status"
+    local processor status=0
+    "$@" <LICENSE >stream 2>/dev/null || failed "$* ends with $?"
+    for processor in Nehalem Haswell; do
+        # It warns of features that it lacks.
+        "$(emulator x86_64)" -cpu "$processor" "$@" <LICENSE 2>/dev/null | cmp - stream
     done
-    status=0
+    "$(emulator x86_64)" -cpu core2duo "$@" <LICENSE >/dev/null 2>printed || status=$?
+    [ "$status" -eq 127 ] && [ -s printed ] || failed "on a core2duo $1 ends with $status"
+}
+
+# What loads the library is refused there too.
+on_core2duo() {
+    local status=0
     # shellcheck disable=SC2046 # flags of pkg-config
     gcc there_and_back.c -o hello $(pkg-config --cflags --libs reamertan)
     "$(emulator x86_64)" -cpu core2duo ./hello LICENSE made >/dev/null 2>printed || status=$?
@@ -130,7 +131,9 @@ by_apt() {
     by_cmake /usr /usr/share/doc/libreamertan-dev
     say "installed by apt, a stream without each tenth frame was received, and cells with a hole"
     in_c /usr/lib/x86_64-linux-gnu
-    on_processors /usr/bin/reamertan-rq /usr/bin/rqcast
+    on_processors /usr/bin/reamertan-rq send 1280 13
+    on_processors /usr/bin/rqcast send --quiet --cell 1280 --repair 13
+    on_core2duo
 }
 
 on_arm() {
