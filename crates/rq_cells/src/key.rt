@@ -3,7 +3,7 @@ ghost use Rattle.std.specs.Prelude.{◌≡◌, Some, None};
 ghost use Rattle.rq_cells.specs.Cells.{code_of, check_of};
 
 use crate::parts::part;
-use rq_hmac::hmac_sha512;
+use rq_hmac::HmacSha512;
 use sha2::{Digest, Sha512};
 use std::alloc::AllocError;
 use std::marker::Model;
@@ -15,15 +15,15 @@ pub(crate) const CHECK_LENGTH: usize = 8;
 /// anybody can, and checks show damage alone.
 #[derive(Default, Drop)]
 pub struct Key {
-    bytes: Option<Vec<u8>>,
+    hmac: Option<HmacSha512>,
 }
 
 impl Model for Key {
-    ghost use Rattle.std.specs.Prelude.{ℕ, List, Option, option_map};
+    ghost use Rattle.std.specs.Prelude.{ℕ, List, Option};
 
     ghost Value = { Option (List ℕ) };
 
-    ghost view = { λ k. option_map (λ v. v.items) k.bytes };
+    ghost view = { λ k. k.hmac };
 }
 
 impl Clone for Key {
@@ -31,7 +31,7 @@ impl Clone for Key {
 
     fn clone(&self) -> Result<Key, AllocError> {
         Ok(Key {
-            bytes: self.bytes.clone()?,
+            hmac: self.hmac.clone()?,
         })
     }
 }
@@ -41,22 +41,24 @@ impl Key {
     pub fn none() -> Key
         ensures { result ≡ None }
     {
-        Key { bytes: None }
+        Key { hmac: None }
     }
 
     /// A key of any bytes: checks are made by HMAC-SHA-512 (RFC 2104).
     pub fn new(bytes: Vec<u8>) -> Key
         ensures { result ≡ Some bytes.items }
     {
-        Key { bytes: Some(bytes) }
+        Key {
+            hmac: Some(HmacSha512::new(bytes)),
+        }
     }
 
     // The code of bytes.
     fn code(&self, bytes: &[u8]) -> [u8; 64]
         ensures { result ≡ code_of self.now bytes.now }
     {
-        match &self.bytes {
-            Some(key) => hmac_sha512(key.as_slice(), bytes),
+        match &self.hmac {
+            Some(hmac) => hmac.code(bytes),
             None => Sha512::digest(bytes),
         }
     }

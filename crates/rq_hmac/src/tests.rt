@@ -1,9 +1,10 @@
-use crate::hmac_sha512;
+use crate::HmacSha512;
 use hex::FromHex;
+use std::alloc::AllocError;
 
 // RFC 4231, sections 4.2 to 4.5, 4.7 and 4.8: keys of less than a block and of more than one.
 #[test]
-fn published_codes(rt: HostRuntime) {
+fn published_codes(rt: HostRuntime) -> Result<(), AllocError> {
     let counted: [u8; 25] = [
         1, 2, 3, 4, 5, 6, 7, 8, 9, 10, 11, 12, 13, 14, 15, 16, 17, 18, 19, 20, 21, 22, 23, 24, 25,
     ];
@@ -48,6 +49,8 @@ fn published_codes(rt: HostRuntime) {
     ];
     for (key, message, code) in cases {
         let code = <[u8; 64] as FromHex>::from_hex(code);
-        assert_eq!(rt; code, Ok(hmac_sha512(key, message)));
+        let hmac = HmacSha512::new(Vec::from_slice(rt.alloc(), key)?);
+        assert_eq!(rt; code, Ok(hmac.code(message)));
     }
+    Ok(())
 }
