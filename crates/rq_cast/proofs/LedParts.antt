@@ -1,5 +1,5 @@
 -- What a part's packets determine whose head leads.
-use Rattle.std.proofs.Common.{◌≡◌, ◌≢◌, ℕ, ◌+◌, ◌-◌, ◌^◌, ◌<◌, ◌≤◌, List, [], ◌∷◌, ◌++◌, Bool, true, false, Option, Some, None, length, take, drop, filter, sym, ap, subst, ◌∙◌, arith, inl, inr, length-append}
+use Rattle.std.proofs.Common.{◌≡◌, ◌≢◌, ℕ, ◌+◌, ◌^◌, ◌<◌, ◌≤◌, List, [], ◌∷◌, ◌++◌, Bool, true, false, Option, Some, None, length, take, drop, filter, sym, ap, subst, ◌∙◌, arith, inl, inr, length-append}
 use Rattle.std.specs.Prelude.{IfSome, is_some, option_map, vec_items}
 use Rattle.std.proofs.lemmas.Bool.{false_from_ne_true}
 use Rattle.std.proofs.lemmas.List.{take-append-drop}
@@ -19,7 +19,7 @@ use Rattle.rq_cast.specs.Names.{AreNames}
 use Rattle.rq_cast.specs.Parts.{IsPart}
 use Rattle.rq_cast.specs.Settling.{IsMisplaced}
 use Rattle.rq_cast.specs.Streams.{one_if}
-use Rattle.rq_cast.specs.Taken.{has_head, IsTakenHead, received_packets, IsNamed, IsNotNamed, IsNamedIn}
+use Rattle.rq_cast.specs.Taken.{has_head, IsTakenHead, received_packets, IsNamed, IsNamedIn}
 use Rattle.rq_cast.specs.Votes.{votes_for, votes_against, LeadsFrom, IsHonestHead, is_same, rival_for, rival_cells, Lead, HasTakenOf, IsNext, HasVotes}
 use Rattle.rq_cast.specs.PartReceiving.{IsAttempt, GivesUp, IsUnused}
 use Rattle.rq_cast.proofs.Leads.{uncounted_lead}
@@ -80,8 +80,7 @@ votes_named table names came p has = record { tally = has.tally; led = λ h obje
 
 -- ---- what its packets determine
 
-module _ (table : List TableRow) (names : List (List ℕ)) (came : List Cell) (p : PartReceiver) (has : HasVotes table (Some names) came p)
-    (is : IsAttempt p.choice.head p.attempt) where
+module _ (table : List TableRow) (p : PartReceiver) (is : IsAttempt p.choice.head p.attempt) where
   -- the answer is the object of the head in use
   answered : (h : Head) (object : List ℕ) (cells : List Cell) (u : HasTakenOf table h object cells p)
       → IsObjectAnswer table h.configuration object (u.earlier ++ received_packets h cells) (result_of (state_of p.attempt.decoder))
@@ -90,7 +89,8 @@ module _ (table : List TableRow) (names : List (List ℕ)) (came : List Cell) (p
       (is.configuration ∙ ap (λ (k : Head). k.configuration) u.in_use) u.follows object u.honest
 
   -- they determine what isn't the part, and it begins anew
-  module _ (asked : Names) (are : AreNames names asked) (mis : IsMisplaced asked p) (new : PartReceiver) (up : GivesUp table p new) where
+  module _ (names : List (List ℕ)) (came : List Cell) (has : HasVotes table (Some names) came p) (asked : Names) (are : AreNames names asked)
+      (mis : IsMisplaced asked p) (new : PartReceiver) (up : GivesUp table p new) where
     not_misplaced : (h : Head) (object : List ℕ) → IsNext (Some names) h object → HasTakenOf table h object [] p → ⊥
     not_misplaced h object (is_last, bytes, part) u =
         let a = answered h object [] u in
@@ -123,13 +123,12 @@ module _ (table : List TableRow) (names : List (List ℕ)) (came : List Cell) (p
           };
     }
 
-  -- it waits, and no head leads by cells that determine the part
-  module _ (waits : p.attempt.object ≡ None) (h : Head) (object : List ℕ) (next : IsNext (Some names) h object) (here : IsHonestHead table h object came)
-      (few : length came < 2 ^ 64) (n : ℕ) (within : n ≤ length came) (leads : LeadsFrom h n came)
+  -- a head leads by cells that determine its object
+  module _ (names : Option (List (List ℕ))) (came : List Cell) (has : HasVotes table names came p) (h : Head) (object : List ℕ) (next : IsNext names h object)
+      (here : IsHonestHead table h object came) (few : length came < 2 ^ 64) (n : ℕ) (within : n ≤ length came) (leads : LeadsFrom h n came)
       (only : IsOnlyObject table h.configuration (received_packets h (drop n came)) object) where
-    not_waiting : HasTakenOf table h object (drop n came) p → ⊥
-    not_waiting u =
-        let P = IsPacketOf table h.configuration object in
+    answers : HasTakenOf table h object (drop n came) p → result_of (state_of p.attempt.decoder) ≡ Some object
+    answers u =
         let packets = u.earlier ++ received_packets h (drop n came) in
         let longer : IsOnlyObject table h.configuration packets object = λ other run.
         only other (record {
@@ -140,12 +139,19 @@ module _ (table : List TableRow) (names : List (List ℕ)) (came : List Cell) (p
         let some = (answers_where_any_can table h.configuration packets (state_of p.attempt.decoder)
         (is.configuration ∙ ap (λ (k : Head). k.configuration) u.in_use) u.follows object u.honest).1 longer in
         let a = answered h object (drop n came) u in
-        let none : IsNotNamed p.choice.head (result_of (state_of p.attempt.decoder)) =
-        subst (λ o. IsNamedIn p.choice.head (result_of (state_of p.attempt.decoder)) (option_map vec_items o)) waits is.object in
-        none object (a.whole (a.only some)) (subst (λ (k : Head). IsNamed k object) (sym u.in_use) here.named)
+        a.whole (a.only some)
 
-    pub no_leader : ⊥
-    no_leader = elim ((has.led h object next here).takes few n within leads) [
-      | inl u ↦ not_waiting u
-      | inr none ↦ none_leads table h object here n none only
+    named_so : (answer : Option (List ℕ)) → IsNamedIn p.choice.head (result_of (state_of p.attempt.decoder)) answer → HasTakenOf table h object (drop n came) p
+        → answer ≡ Some object
+    named_so None none u = absurd (none object (answers u) (subst (λ (k : Head). IsNamed k object) (sym u.in_use) here.named))
+    named_so (Some x) (same, named) u = sym same ∙ answers u
+
+    pub led_object : option_map vec_items p.attempt.object ≡ Some object
+    led_object = elim ((has.led h object next here).takes few n within leads) [
+      | inl u ↦ named_so (option_map vec_items p.attempt.object) is.object u
+      | inr none ↦ absurd (none_leads table h object here n none only)
     ]
+
+    -- so it doesn't wait
+    pub no_leader : p.attempt.object ≡ None → ⊥
+    no_leader waits = let e : None ≡ Some object = sym (ap (option_map vec_items) waits) ∙ led_object in absurd (cc e)

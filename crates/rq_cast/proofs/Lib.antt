@@ -19,6 +19,7 @@ pub mod Listed
 pub mod Needed
 pub mod PartNames
 pub mod PartTaken
+pub mod PartsInOrder
 pub mod PartVotes
 pub mod Prepared
 pub mod Receiving
@@ -41,6 +42,7 @@ pub mod Shaped
 pub mod StreamSteps
 pub mod SymbolDigests
 pub mod TakenPackets
+pub mod ToldCalls
 pub mod Votes
 pub mod WindowFirst
 pub mod WindowLacks

@@ -1,16 +1,14 @@
 -- The cells of a stream's rounds, as a receiver takes them together.
-use Rattle.std.proofs.Common.{◌≡◌, inl, inr, ℕ, zero, suc, ◌+◌, ◌<◌, ◌≤◌, List, [], ◌∷◌, ◌++◌, length, Ok, Err, refl, sym, ap, subst, ◌∙◌, arith}
-use Rattle.std.specs.Prelude.{All, ◌==◌}
+use Rattle.std.proofs.Common.{◌≡◌, inl, inr, ℕ, zero, suc, ◌+◌, ◌<◌, ◌≤◌, List, [], ◌∷◌, ◌++◌, length, refl, sym, ap, subst, ◌∙◌, arith}
+use Rattle.std.specs.Prelude.{◌==◌}
 use Rattle.std.proofs.lemmas.List.Elements.{All-weaker}
 use Rattle.rq_standard.specs.declared.row.TableRow.{TableRow}
 use Rattle.rq_standard.specs.Configuration.{Configuration}
 use Rattle.rq_standard.specs.Headline.{IsPacketOf}
 use Rattle.rq_standard.specs.Packet.{Packet}
-use Rattle.rq_base.proofs.Accepted.{same_ok}
 use Rattle.raptorq.specs.Encoder.{Encoded, IsEncoderOf, IsPacketIn}
 use Rattle.raptorq.specs.BlocksEncoded.{new_block_encoded}
 use Rattle.rq_rows.specs.FullTable.{full_rows}
-use Rattle.rq_cells.specs.declared.head.Head.{Head}
 use Rattle.rq_cells.specs.declared.cell.Cell.{Cell}
 use Rattle.rq_cells.specs.Cells.{Key}
 use Rattle.rq_cast.specs.declared.order.Order.{Order}
@@ -21,7 +19,7 @@ use Rattle.rq_cast.specs.Sent.{Sending}
 use Rattle.rq_cast.specs.SentParts.{last_index, bytes_of_part, names_of, IsPreparedPart}
 use Rattle.rq_cast.specs.Laws.{IsCellFrom, SendOverAllRows, RoundsAreOneSenders}
 use Rattle.rq_cast.proofs.SentReceived.{prepared_parts_are_sent, sent_are_one_senders}
-use Rattle.rq_cast.proofs.SentStreams.{names_next}
+use Rattle.rq_cast.proofs.PartsInOrder.{names_next}
 
 -- an object has one fitting configuration
 one_fits : (n size : ℕ) (t t' : List TableRow) (c c' : Configuration) → IsFitting n size t c → IsFitting n size t' c' → c ≡ c'

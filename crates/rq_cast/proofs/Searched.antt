@@ -1,5 +1,5 @@
 -- No wanted cell is whole yet in what came.
-use Rattle.std.proofs.Common.{◌≡◌, ℕ, ◌+◌, ◌-◌, ◌<◌, ◌≤◌, List, [], ◌++◌, length, drop, arith, refl, sym, ap, subst, ◌∙◌, None, ◌⊎◌, inl, inr, length-append, append_assoc, drop-drop}
+use Rattle.std.proofs.Common.{◌≡◌, ℕ, ◌+◌, ◌-◌, ◌<◌, ◌≤◌, List, ◌++◌, length, drop, arith, sym, ap, subst, ◌∙◌, None, ◌⊎◌, inl, inr, length-append, append_assoc, drop-drop}
 use Rattle.std.proofs.lemmas.List.{length-drop, drop-append-le}
 use Rattle.std.proofs.lemmas.Bool.{cases_lt}
 use Rattle.rq_cells.specs.declared.wanted.Heads.{Heads}

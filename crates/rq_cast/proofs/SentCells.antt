@@ -1,5 +1,5 @@
 -- Cells that are written or lost one by one.
-use Rattle.std.proofs.Common.{◌≡◌, ℕ, suc, ◌+◌, ◌-◌, ◌≤◌, ◌<◌, List, [], ◌++◌, length, replicate, take, drop, Option, refl, sym, ap, subst, ◌∙◌, arith, inl, inr, append-nil, append_assoc, length-append}
+use Rattle.std.proofs.Common.{◌≡◌, ℕ, suc, ◌+◌, ◌-◌, ◌≤◌, ◌<◌, true, false, List, [], ◌∷◌, ◌++◌, length, replicate, take, drop, Option, refl, sym, ap, subst, ◌∙◌, arith, inl, inr, append-nil, append_assoc, length-append}
 use Rattle.std.proofs.Math.Seq.{take-append_seam}
 use Rattle.std.proofs.lemmas.List.{length-replicate, length-take-le, take_all, take_at}
 use Rattle.std.specs.Io.KnownBytes.{Keeps, Appends}
@@ -14,78 +14,95 @@ use Rattle.rq_cells.specs.declared.cell.Cell.{Cell}
 use Rattle.rq_cells.specs.Cells.{Key, check_of, digest_of, head_bytes, cell_fields, cell_size}
 use Rattle.rq_cells.proofs.HeadBytes.{length-head_bytes}
 use Rattle.rq_streams.specs.declared.run.Stop.TheVariants.{Fault, Refused}
+use Rattle.rq_cast.specs.Calls.{Call, kept_of, one_call, Tells}
 use Rattle.rq_cast.specs.Writing.{IsRoom}
 use Rattle.rq_cast.proofs.SentDigests.{payload_of}
 use Rattle.rq_cast.specs.Sent.{Sending, cell_count, sent_id, IsSentCell, AreSent, SendsFirst, StopsSending}
+use Rattle.rq_cast.proofs.ToldCalls.{tells_none, tells_then}
 
 -- nothing is sent yet
-pub sends_none : (s : Sending) (there : Option (List ℕ)) → SendsFirst s 0 0 [] there there
-sends_none s there = record { written = []; sent = (refl, refl); appended = Appends-nil there }
+pub sends_none : (s : Sending) (told : Option (List Call)) (there : Option (List ℕ)) → SendsFirst s 0 [] [] [] told told there there
+sends_none s told there = record { written = []; sent = (refl, refl); is_told = tells_none told; appended = Appends-nil there }
 
-module _ (s : Sending) (n lost : ℕ) (there mid then : Option (List ℕ)) (sends : SendsFirst s n lost [] there mid) where
-  -- one cell more is written
-  pub sends_more : (bytes : List ℕ) → IsSentCell s n bytes → Appends mid then bytes → SendsFirst s (n + 1) lost [] there then
-  sends_more bytes cell more =
-      let next : suc n ≡ n + 1 = omega arith in
-      let all = sends.written ++ bytes in
-      record {
-        written = all;
-        sent = subst (λ m. AreSent s m all lost) next (inr (sends.written, bytes, sends.sent, cell, refl));
-        appended = subst (Appends there then) (ap (λ xs. xs ++ bytes) (append-nil sends.written) ∙ sym (append-nil all))
-            (Appends-trans there mid then (sends.written ++ []) bytes sends.appended more);
-      }
+-- what a call wrote of a cell, or lost
+pub kept_by : (mid then : Option (List ℕ)) (bytes : List ℕ) → Keeps mid then → Appends mid then (kept_of (record { bytes = bytes; is_lost = true }))
+kept_by mid then bytes kept = Appends-kept mid mid then [] (Appends-nil mid) kept
 
-  -- one is lost
-  pub sends_but_one : Keeps mid then → SendsFirst s (n + 1) (lost + 1) [] there then
-  sends_but_one kept =
-      let next : suc n ≡ n + 1 = omega arith in
-      record {
-        written = sends.written;
-        sent = subst (λ m. AreSent s m sends.written (lost + 1)) next (inl (lost, sends.sent, refl));
-        appended = Appends-kept there mid then (sends.written ++ []) sends.appended kept;
-      }
+module _ (s : Sending) (n : ℕ) (calls : List Call) (told told_mid : Option (List Call)) (there mid then : Option (List ℕ))
+    (sends : SendsFirst s n calls [] [] told told_mid there mid) where
+  module _ (told' : Option (List Call)) where
+    told_more : (more : List Call) → Tells told_mid told' more → Tells told told' (calls ++ more)
+    told_more more one = subst (Tells told told') (ap (λ xs. xs ++ more) (append-nil calls)) (tells_then told told_mid told' (calls ++ []) more sends.is_told one)
 
-  -- a beginning of one is written
-  pub sends_begun : (bytes : List ℕ) → Appends mid then bytes → SendsFirst s n lost bytes there then
-  sends_begun bytes more = record {
-    written = sends.written;
-    sent = sends.sent;
-    appended = subst (Appends there then) (ap (λ xs. xs ++ bytes) (append-nil sends.written))
-        (Appends-trans there mid then (sends.written ++ []) bytes sends.appended more);
-  }
+    -- one cell more is begun
+    pub sends_more : (call : Call) → IsSentCell s n call.bytes → Tells told_mid told' (call ∷ []) → Appends mid then (kept_of call)
+        → SendsFirst s (n + 1) (calls ++ (call ∷ [])) [] [] told told' there then
+    sends_more call cell one more =
+        let next : suc n ≡ n + 1 = omega arith in
+        let bytes = kept_of call in
+        let all = sends.written ++ bytes in
+        let called = calls ++ (call ∷ []) in
+        record {
+          written = all;
+          sent = subst (λ m. AreSent s m all called) next (sends.written, calls, call, sends.sent, cell, refl, refl);
+          is_told = subst (Tells told told') (sym (append-nil called)) (told_more (call ∷ []) one);
+          appended = subst (Appends there then) (ap (λ xs. xs ++ bytes) (append-nil sends.written) ∙ sym (append-nil all))
+              (Appends-trans there mid then (sends.written ++ []) bytes sends.appended more);
+        }
+
+    -- a beginning of one is written
+    pub sends_begun : (bytes : List ℕ) (more : List Call) → Tells told_mid told' more → Appends mid then bytes
+        → SendsFirst s n calls bytes more told told' there then
+    sends_begun bytes more one begun = record {
+      written = sends.written;
+      sent = sends.sent;
+      is_told = told_more more one;
+      appended = subst (Appends there then) (ap (λ xs. xs ++ bytes) (append-nil sends.written))
+          (Appends-trans there mid then (sends.written ++ []) bytes sends.appended begun);
+    }
+
+    -- a failed call leaves a beginning of a cell
+    pub stops_within : (k : ℕ) (bytes : List ℕ) → n < cell_count s → IsSentCell s n bytes → Tells told_mid told' (one_call bytes false)
+        → Appends mid then (take k bytes) → StopsSending s calls told told' there then Fault
+    stops_within k bytes below cell one begun = record {
+      number = n;
+      within = omega (arith, below);
+      behind = take k bytes;
+      more = one_call bytes false;
+      sends = sends_begun (take k bytes) (one_call bytes false) one begun;
+      stopped = inr (record { within = below; cell = bytes; sent = cell; taken = k; begun = refl; by = refl });
+    }
 
   -- nothing more is written
-  pub sends_kept : Keeps mid then → SendsFirst s n lost [] there then
-  sends_kept kept = record { written = sends.written; sent = sends.sent; appended = Appends-kept there mid then (sends.written ++ []) sends.appended kept }
-
-  -- a failed call leaves a beginning of a cell
-  pub stops_within : (k : ℕ) (bytes : List ℕ) → n < cell_count s → IsSentCell s n bytes → Appends mid then (take k bytes) → StopsSending s lost there then Fault
-  stops_within k bytes below cell more = record {
-    number = n;
-    within = omega arith;
-    behind = take k bytes;
-    sends = sends_begun (take k bytes) more;
-    stopped = inr (record { within = below; cell = bytes; sent = cell; taken = k; begun = refl });
+  pub sends_kept : Keeps mid then → SendsFirst s n calls [] [] told told_mid there then
+  sends_kept kept = record {
+    written = sends.written;
+    sent = sends.sent;
+    is_told = sends.is_told;
+    appended = Appends-kept there mid then (sends.written ++ []) sends.appended kept;
   }
 
-  -- so does a failed flush, or none
-  pub stops_behind : n ≤ cell_count s → Keeps mid then → StopsSending s lost there then Fault
+  -- a failed flush leaves none
+  pub stops_behind : n ≤ cell_count s → Keeps mid then → StopsSending s calls told told_mid there then Fault
   stops_behind within kept = record {
     number = n;
     within = within;
     behind = [];
+    more = [];
     sends = sends_kept kept;
-    stopped = inl refl;
+    stopped = inl (refl, refl);
   }
 
 -- memory is wanting before any cell
-pub stops_wanting : (s : Sending) (there then : Option (List ℕ)) (e : Error) → e ≡ OutOfMemory → Keeps there then → StopsSending s 0 there then (Refused e)
-stops_wanting s there then e memory kept = record {
+pub stops_wanting : (s : Sending) (told : Option (List Call)) (there then : Option (List ℕ)) (e : Error) → e ≡ OutOfMemory → Keeps there then
+    → StopsSending s [] told told there then (Refused e)
+stops_wanting s told there then e memory kept = record {
   number = 0;
   within = omega arith;
   behind = [];
-  sends = sends_kept s 0 0 there there then (sends_none s there) kept;
-  stopped = (memory, refl, refl);
+  more = [];
+  sends = sends_kept s 0 [] told told there there then (sends_none s told there) kept;
+  stopped = (memory, refl, refl, refl);
 }
 
 -- ---- one cell over another

@@ -38,7 +38,7 @@ use Rattle.rq_cast.proofs.EndsWith.{length-seal}
 use Rattle.rq_cast.proofs.AllRows.{over_all, size_fitting}
 use Rattle.rq_cast.proofs.PartNames.{concat_push, stream_of_more}
 use Rattle.rq_cast.proofs.SameHead.{same_head}
-use Rattle.rq_cast.proofs.SentStreams.{names_next}
+use Rattle.rq_cast.proofs.PartsInOrder.{names_next}
 
 pub length-name : (number : ℕ) (c : Configuration) (object : List ℕ) → length (name_of_part number c object) ≡ 16
 length-name number c object =

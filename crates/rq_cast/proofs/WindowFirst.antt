@@ -99,8 +99,8 @@ module _ (table : List TableRow) (stream : List ℕ) (width : ℕ) (came : List 
       (λ is. subst (λ o. IfSome o (IsOpen table seen)) (sym anew.is)
       (open_begun table seen anew.old anew.new anew.gives_up.anew (subst (λ o. IfSome o (IsOpen table seen)) anew.was is)))
       (λ cells has. subst (HasVoted table (Some (names_of m.parts)) cells) (sym anew.is)
-      (misplaced_votes table (names_of m.parts) cells anew.old (subst (HasVoted table (Some (names_of m.parts)) cells) anew.was has)
-      (subst (λ (o : Option PartReceiver). IfSome o (λ p. IsAttempt p.choice.head p.attempt)) anew.was (attempt_first table old sound))
+      (misplaced_votes table anew.old (subst (λ (o : Option PartReceiver). IfSome o (λ p. IsAttempt p.choice.head p.attempt)) anew.was (attempt_first table old sound))
+      (names_of m.parts) cells (subst (HasVoted table (Some (names_of m.parts)) cells) anew.was has)
       old.names m.names anew.misplaced anew.new anew.gives_up))
       (λ s senders b st. absurd (not_misplaced table stream width came cell given old m sound open_still anew.old anew.was anew.misplaced s senders b st)) in
       rested table stream width came cell given new moving

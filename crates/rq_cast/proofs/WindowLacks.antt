@@ -1,5 +1,5 @@
 -- What the first part lacks that isn't settled.
-use Rattle.std.proofs.Common.{◌≡◌, ℕ, ◌+◌, List, Option, Some, None, false, sym, ap, subst, ◌∙◌, arith, length, drop}
+use Rattle.std.proofs.Common.{◌≡◌, ℕ, ◌+◌, List, Option, Some, None, false, ap, subst, ◌∙◌, arith, length}
 use Rattle.std.specs.Prelude.{IfSome, MatchOption, option_map, vec_items}
 use Rattle.std.proofs.lemmas.List.{length-map}
 use Rattle.rq_standard.specs.declared.row.TableRow.{TableRow}

@@ -1,5 +1,5 @@
 -- What the places of a window have of cells with several heads.
-use Rattle.std.proofs.Common.{◌≡◌, ◌≢◌, ℕ, zero, suc, ◌+◌, ◌<◌, ◌≤◌, List, [], ◌∷◌, ◌++◌, Bool, true, false, if◌then◌else◌, Option, Some, None, refl, sym, ap, subst, ◌∙◌, arith, length, ltb, leb, append-nil, append_assoc}
+use Rattle.std.proofs.Common.{◌≡◌, ℕ, ◌+◌, ◌<◌, List, [], ◌∷◌, ◌++◌, Bool, true, false, if◌then◌else◌, Option, Some, None, refl, sym, ap, subst, ◌∙◌, arith, length, ltb, leb, append-nil, append_assoc}
 use Rattle.std.specs.Prelude.{IfSome, ◌&&◌, ◌==◌}
 use Rattle.std.proofs.lemmas.Bool.{and_parts, eq-eqb, eqb-true, ltb-true}
 use Rattle.rq_standard.specs.declared.row.TableRow.{TableRow}
@@ -7,7 +7,7 @@ use Rattle.rq_cells.specs.declared.cell.Cell.{Cell}
 use Rattle.rq_cast.specs.declared.part_receiver.PartReceiver.{PartReceiver}
 use Rattle.rq_cast.specs.PartReceiving.{IsAttempt}
 use Rattle.rq_cast.specs.Streams.{index_of, is_in, stand, cell_at, cells_of}
-use Rattle.rq_cast.specs.Windows.{Settled, names_of, HasVoted, names_at, IsLed, ReceivesCell}
+use Rattle.rq_cast.specs.Windows.{Settled, names_of, HasVoted, IsLed, ReceivesCell}
 use Rattle.rq_cast.proofs.WindowSenders.{in_window}
 use Rattle.rq_cast.proofs.LedParts.{unused_votes, refused_none, votes_named, none_leads, no_leader, for_behind}
 
@@ -83,5 +83,5 @@ pub unled_by : (table : List TableRow) (width : ℕ) (came : List Cell) (stands 
 unled_by table width came stands parts None none is waits l =
     none_leads table l.head l.object l.honest l.from (for_behind l.head (cells_of width (length parts) stands came) l.from (none l.head l.honest.taken)) l.only
 unled_by table width came stands parts (Some p) has is waits l =
-    no_leader table (names_of parts) (cells_of width (length parts) stands came) p has is waits l.head l.object (l.is_last, l.bytes, l.part) l.honest l.few l.from
-    l.within l.leads l.only
+    no_leader table p is (Some (names_of parts)) (cells_of width (length parts) stands came) has l.head l.object (l.is_last, l.bytes, l.part) l.honest l.few l.from
+    l.within l.leads l.only waits

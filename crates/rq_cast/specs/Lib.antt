@@ -1,3 +1,4 @@
+pub mod Calls
 pub mod Digests
 pub mod Ids
 pub mod Input

@@ -1,5 +1,5 @@
 -- Which cells the sender of a part sends, and what is written of them.
-use Rattle.std.specs.Prelude.{◌≡◌, ◌↔◌, ◌⊎◌, ℕ, zero, suc, ◌+◌, ◌-◌, ◌*◌, ◌/◌, ◌%◌, ◌<◌, ◌≤◌, min, Bool, List, [], ◌++◌, length, take, Option}
+use Rattle.std.specs.Prelude.{◌≡◌, ◌↔◌, ◌⊎◌, ℕ, zero, suc, ◌+◌, ◌-◌, ◌*◌, ◌/◌, ◌%◌, ◌<◌, ◌≤◌, min, Bool, false, List, [], ◌∷◌, ◌++◌, length, take, Option}
 use Rattle.std.specs.Io.KnownBytes.{Appends}
 use Rattle.rq_bytes.specs.declared.error.Error.TheVariants.{OutOfMemory}
 use Rattle.rq_standard.specs.declared.row.TableRow.{TableRow}
@@ -17,6 +17,7 @@ use Rattle.rq_cast.specs.declared.order.Ids.{Ids}
 use Rattle.rq_cast.specs.declared.series.Series.{Series}
 use Rattle.rq_cast.specs.declared.sending.Sender.{Sender}
 use Rattle.rq_cast.specs.declared.series.Repair.{Repair}
+use Rattle.rq_cast.specs.Calls.{Call, kept_of, one_call, Tells}
 use Rattle.rq_cast.specs.Ids.{IsIdEnd}
 use Rattle.rq_cast.specs.Parts.{greatest_count, part_head}
 use Rattle.rq_cast.specs.Rounds.{round_first}
@@ -109,36 +110,40 @@ pub record IsSentCell (s : Sending) (i : ℕ) (bytes : List ℕ) : Type 0 where
 
 -- ---- what is written
 
--- the first n cells one behind another, but for those that were lost
-abbrev pub AreSent : Sending → ℕ → List ℕ → ℕ → Type 0
-AreSent s zero written lost = (written ≡ []) × (lost ≡ 0)
-AreSent s (suc n) written lost =
-    ((before : ℕ) × AreSent s n written before × (lost ≡ before + 1))
-    ⊎ ((front : List ℕ) × (bytes : List ℕ) × AreSent s n front lost × IsSentCell s n bytes × (written ≡ front ++ bytes))
+-- Each of the first n cells is begun by one call. They are written one behind another, but for those whose calls lost them.
+abbrev pub AreSent : Sending → ℕ → List ℕ → List Call → Type 0
+AreSent s zero written calls = (written ≡ []) × (calls ≡ [])
+AreSent s (suc n) written calls =
+    (front : List ℕ) × (before : List Call) × (call : Call) × AreSent s n front before × IsSentCell s n call.bytes
+    × (written ≡ front ++ kept_of call) × (calls ≡ before ++ (call ∷ []))
 
--- the first n cells are written but for so many that were lost, and then these bytes
-pub record SendsFirst (s : Sending) (n lost : ℕ) (behind : List ℕ) (there then : Option (List ℕ)) : Type 0 where
+-- the first n cells are written as these calls began them, and then these bytes by one more call or none; which are told
+pub record SendsFirst (s : Sending) (n : ℕ) (calls : List Call) (behind : List ℕ) (more : List Call) (told told' : Option (List Call))
+    (there then : Option (List ℕ)) : Type 0 where
   pub written : List ℕ
-  pub sent : AreSent s n written lost
+  pub sent : AreSent s n written calls
+  pub is_told : Tells told told' (calls ++ more)
   pub appended : Appends there then (written ++ behind)
 
--- a beginning of the cell of a number, where there is one
-pub record IsBegun (s : Sending) (n : ℕ) (bytes : List ℕ) : Type 0 where
+-- a beginning of the cell of a number, where there is one, by a call that didn't lose it
+pub record IsBegun (s : Sending) (n : ℕ) (bytes : List ℕ) (more : List Call) : Type 0 where
   pub within : n < cell_count s
   pub cell : List ℕ
   pub sent : IsSentCell s n cell
   pub taken : ℕ
   pub begun : bytes ≡ take taken cell
+  pub by : more ≡ one_call cell false
 
 -- a failed call may leave a beginning of the next cell, and want of memory comes before the first
-abbrev pub StopsBehind : Sending → ℕ → List ℕ → Stop → Type 0
-StopsBehind s n bytes Fault = (bytes ≡ []) ⊎ IsBegun s n bytes
-StopsBehind s n bytes (Refused e) = (e ≡ OutOfMemory) × (n ≡ 0) × (bytes ≡ [])
+abbrev pub StopsBehind : Sending → ℕ → List ℕ → List Call → Stop → Type 0
+StopsBehind s n bytes more Fault = ((bytes ≡ []) × (more ≡ [])) ⊎ IsBegun s n bytes more
+StopsBehind s n bytes more (Refused e) = (e ≡ OutOfMemory) × (n ≡ 0) × (bytes ≡ []) × (more ≡ [])
 
--- Some of the first cells are written but for so many that were lost, and then something stops it.
-pub record StopsSending (s : Sending) (lost : ℕ) (there then : Option (List ℕ)) (stop : Stop) : Type 0 where
+-- Some first cells are written as these calls began them, and then something stops it.
+pub record StopsSending (s : Sending) (calls : List Call) (told told' : Option (List Call)) (there then : Option (List ℕ)) (stop : Stop) : Type 0 where
   pub number : ℕ
   pub within : number ≤ cell_count s
   pub behind : List ℕ
-  pub sends : SendsFirst s number lost behind there then
-  pub stopped : StopsBehind s number behind stop
+  pub more : List Call
+  pub sends : SendsFirst s number calls behind more told told' there then
+  pub stopped : StopsBehind s number behind more stop

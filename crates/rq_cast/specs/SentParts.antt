@@ -15,6 +15,7 @@ use Rattle.rq_cast.specs.declared.known.Known.{Known}
 use Rattle.rq_cast.specs.declared.order.Order.{Order}
 use Rattle.rq_cast.specs.declared.output.Output.{Output}
 use Rattle.rq_cast.specs.declared.stream_sending.Sent.{Sent}
+use Rattle.rq_cast.specs.Calls.{Call, Tells, lost_in}
 use Rattle.rq_cast.specs.Output.{CountsLost}
 use Rattle.rq_cast.specs.Parts.{greatest_count, object_of}
 use Rattle.rq_cast.specs.Preparing.{IsPrepared, RefusesObject}
@@ -52,21 +53,22 @@ IsAsKnownIn order known input index s = IsAsKnown known index (index == last_ind
 
 -- ---- what is written
 
--- all cells of the first n parts, one part behind another, but for those that were lost
-abbrev pub AreSentParts : (ℕ → Sending) → ℕ → List ℕ → ℕ → Type 0
-AreSentParts of zero written lost = (written ≡ []) × (lost ≡ 0)
-AreSentParts of (suc n) written lost =
-    (front : List ℕ) × (bytes : List ℕ) × (before : ℕ) × (more : ℕ)
-    × AreSentParts of n front before × AreSent (of n) (cell_count (of n)) bytes more × (written ≡ front ++ bytes) × (lost ≡ before + more)
+-- all cells of the first n parts, one part behind another, but for those whose calls lost them
+abbrev pub AreSentParts : (ℕ → Sending) → ℕ → List ℕ → List Call → Type 0
+AreSentParts of zero written calls = (written ≡ []) × (calls ≡ [])
+AreSentParts of (suc n) written calls =
+    (front : List ℕ) × (bytes : List ℕ) × (before : List Call) × (more : List Call)
+    × AreSentParts of n front before × AreSent (of n) (cell_count (of n)) bytes more × (written ≡ front ++ bytes) × (calls ≡ before ++ more)
 
 -- The first n parts of an input are made ready, are what they were, and are sent.
-pub record SendsParts (order : Order) (key : Key) (known : Known) (input : List ℕ) (of : ℕ → Sending) (n : ℕ) (written : List ℕ) (lost : ℕ) : Type 0 where
+pub record SendsParts (order : Order) (key : Key) (known : Known) (input : List ℕ) (of : ℕ → Sending) (n : ℕ) (written : List ℕ) (calls : List Call) : Type 0 where
   pub prepared : (i : ℕ) → i < n → IsPreparedPart order key input of i (of i)
   pub same : (i : ℕ) → i < n → IsAsKnownIn order known input i (of i)
-  pub sent : AreSentParts of n written lost
+  pub sent : AreSentParts of n written calls
 
 -- What is read to its end is sent in parts, in a round of it.
-pub record SendsStream (order : Order) (key : Key) (known : Known) (before after there then : Option (List ℕ)) (sent : Sent) (behind : Known) : Type 0 where
+pub record SendsStream (order : Order) (key : Key) (known : Known) (before after there then : Option (List ℕ)) (told told' : Option (List Call))
+    (sent : Sent) (behind : Known) : Type 0 where
   pub input : List ℕ
   pub taken : Consumes before after input
   pub at_end : IsAtEnd after
@@ -74,7 +76,10 @@ pub record SendsStream (order : Order) (key : Key) (known : Known) (before after
   pub written : List ℕ
   pub appended : Appends there then written
   pub parts : sent.parts ≡ last_index order.part input + 1
-  pub sends : SendsParts order key known input of sent.parts written sent.lost
+  pub calls : List Call
+  pub is_told : Tells told told' calls
+  pub sends : SendsParts order key known input of sent.parts written calls
+  pub lost : sent.lost ≡ lost_in calls
   pub cells : sent.cells ≡ sum_by cell_count (map of (range_with_len 0 sent.parts))
   pub names : KnowsAll known (names_of of sent.parts) behind
 
@@ -92,9 +97,9 @@ StopsUnsent order key known input of index after (Changed part) =
     (part ≡ index) × IsRead order.part input index after
     × ((s : Sending) × IsPreparedPart order key input of index s × (IsAsKnownIn order known input index s → ⊥))
 
--- Some first cells of the part of an index are sent, but for so many that were lost, and perhaps a beginning of the next one.
+-- Some first cells of the part of an index are sent as these calls began them, and perhaps a beginning of the next one by one more.
 pub record StopsWithin (order : Order) (key : Key) (known : Known) (input : List ℕ) (of : ℕ → Sending) (index : ℕ) (after : Option (List ℕ)) (halt : Halt)
-    (written : List ℕ) (lost : ℕ) : Type 0 where
+    (written : List ℕ) (calls more : List Call) : Type 0 where
   pub stop : Stop
   pub by : halt ≡ By stop
   pub read : IsRead order.part input index after
@@ -104,13 +109,14 @@ pub record StopsWithin (order : Order) (key : Key) (known : Known) (input : List
   pub number : ℕ
   pub within : number ≤ cell_count sending
   pub cells : List ℕ
-  pub sent : AreSent sending number cells lost
+  pub sent : AreSent sending number cells calls
   pub behind : List ℕ
-  pub stopped : StopsBehind sending number behind stop
+  pub stopped : StopsBehind sending number behind more stop
   pub is : written ≡ cells ++ behind
 
 -- The first parts of what was read are sent, and of the next one what could be. Nothing behind that is read.
-pub record StopsStream (order : Order) (key : Key) (known : Known) (before after there then : Option (List ℕ)) (halt : Halt) (lost : ℕ) : Type 0 where
+pub record StopsStream (order : Order) (key : Key) (known : Known) (before after there then : Option (List ℕ)) (told told' : Option (List Call))
+    (halt : Halt) (lost : ℕ) : Type 0 where
   pub input : List ℕ
   pub taken : Consumes before after input
   pub of : ℕ → Sending
@@ -118,15 +124,17 @@ pub record StopsStream (order : Order) (key : Key) (known : Known) (before after
   pub whole : index * order.part ≤ length input
   pub no_further : length input ≤ (index + 1) * order.part
   pub front : List ℕ
-  pub lost_before : ℕ
-  pub sends : SendsParts order key known input of index front lost_before
+  pub calls_before : List Call
+  pub sends : SendsParts order key known input of index front calls_before
   pub next : List ℕ
-  pub lost_next : ℕ
+  pub calls_next : List Call
+  pub more : List Call
   pub stopped :
-      (StopsUnsent order key known input of index after halt × (next ≡ []) × (lost_next ≡ 0))
-      ⊎ StopsWithin order key known input of index after halt next lost_next
+      (StopsUnsent order key known input of index after halt × (next ≡ []) × (calls_next ≡ []) × (more ≡ []))
+      ⊎ StopsWithin order key known input of index after halt next calls_next more
   pub appended : Appends there then (front ++ next)
-  pub lost_in_all : lost ≡ lost_before + lost_next
+  pub is_told : Tells told told' (calls_before ++ (calls_next ++ more))
+  pub lost_in_all : lost ≡ lost_in calls_before + lost_in calls_next
 
 -- how many calls failed where this stops it
 abbrev pub halted_calls : Halt → ℕ

@@ -35,6 +35,12 @@ failed_writes (Ok true) = 0
 failed_writes (Ok false) = 1
 failed_writes (Err stop) = 1
 
+-- whether the call that begins it loses it
+abbrev pub loses_cell : Result Bool Stop → Bool
+loses_cell (Ok true) = false
+loses_cell (Ok false) = true
+loses_cell (Err stop) = false
+
 -- how many cells are lost
 abbrev pub lost_cells : Result Bool Stop → ℕ
 lost_cells (Ok true) = 0

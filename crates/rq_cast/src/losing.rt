@@ -1,6 +1,6 @@
 //! Which calls lose a cell.
 ghost use Rattle.std.specs.Prelude.{◌≡◌};
-ghost use Rattle.rq_cast.specs.Losing.{loses};
+ghost use Rattle.rq_cast.specs.Losing.{is_lost, loses};
 
 use std::io;
 use std::io::ErrorKind;
@@ -21,4 +21,14 @@ pub fn loses(error: &io::Error) -> bool
             | ErrorKind::NetworkDown
     );
     is_of_network || error.raw_os_error() == Some(NO_ROOM)
+}
+
+/// Whether a call that should have begun a cell lost it.
+pub(crate) fn is_lost(begun: &io::Result<usize>) -> bool
+    ensures { result ≡ is_lost begun.now }
+{
+    match begun {
+        Ok(_) => false,
+        Err(error) => loses(error),
+    }
 }

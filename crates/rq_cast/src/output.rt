@@ -5,7 +5,8 @@ ghost use Rattle.std.specs.Io.KnownBytes.{Appends, Keeps, WriteAppends};
 ghost use Rattle.rq_streams.specs.Counted.{failed_count, CountsWrite};
 ghost use Rattle.rq_streams.specs.Ends.{failed_calls};
 
-use crate::losing::loses;
+use crate::losing::is_lost;
+use crate::pace::Pace;
 use rq_streams::{Counted, Stop, flush, write_bytes};
 use std::io;
 use std::io::Write;
@@ -50,26 +51,28 @@ impl<W> Output<W> {
 }
 
 impl<W: Write> Output<W> {
+    ghost use Rattle.rq_cast.specs.Calls.{Tells, one_call};
     ghost use Rattle.rq_cast.specs.Output.{counting, sink, lost_count, flushed};
     ghost use Rattle.rq_cast.specs.Losing.{is_lost};
 
-    /// Begins a cell by one call.
-    pub(crate) fn begin(&mut self, cell: &[u8]) -> io::Result<usize>
+    /// Begins a cell by one call, and tells of that.
+    pub(crate) fn begin<P: Pace>(&mut self, cell: &[u8], pace: &mut P) -> io::Result<usize>
         requires { failed_count (counting self.old) < 2 ^ 64 - 1 }
         ensures bound { WritesAtMost result cell.now }
         ensures bytes { WriteAppends (W.contents (sink self.old)) (W.contents (sink self.new)) result cell.now }
         ensures counts { CountsWrite (failed_count (counting self.old)) (failed_count (counting self.new)) result cell.now }
         ensures lost { is_lost result ≡ true → lost_count self.new ≡ lost_count self.old + 1 }
         ensures others { is_lost result ≡ false → lost_count self.new ≡ lost_count self.old }
+        ensures told { Tells (P.calls pace.old) (P.calls pace.new) (one_call cell.now (is_lost result)) }
         ensures unflushed { flushed self.new ≡ false }
     {
         self.is_flushed = false;
         let result = self.writer.write(cell);
-        if let Err(error) = &result
-            && loses(error)
-        {
+        let is_lost = is_lost(&result);
+        if is_lost {
             self.lost += 1;
         }
+        pace.tell_call(cell, is_lost);
         result
     }
 

@@ -34,7 +34,7 @@ pub(crate) fn stream_of_name(name: &[u8; NAME_LENGTH]) -> [u8; STREAM_LENGTH]
 }
 
 /// The first 32 bytes of a hash.
-pub(crate) fn first_bytes(hash: &[u8; 64]) -> [u8; 32]
+pub fn first_bytes(hash: &[u8; 64]) -> [u8; 32]
     ensures { result ≡ take 32 hash.now }
 {
     let mut first = [0; 32];

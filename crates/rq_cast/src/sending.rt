@@ -5,10 +5,11 @@ ghost use Rattle.raptorq.specs.Encoder.{encoded_of, IsFrameIn};
 ghost use Rattle.rq_streams.specs.Counted.{failed_count};
 ghost use Rattle.rq_streams.specs.Ends.{failed_calls};
 ghost use Rattle.rq_cells.specs.Cells.{digest_of};
+ghost use Rattle.rq_cast.specs.Calls.{Tells, one_call};
 ghost use Rattle.rq_cast.specs.Names.{AreNames};
 ghost use Rattle.rq_cast.specs.Parts.{source_digests, number_of, part_head};
 ghost use Rattle.rq_cast.specs.Output.{counting, sink, lost_count, flushed};
-ghost use Rattle.rq_cast.specs.Writing.{AreDigestsIn, IsRoom, WritesCell, failed_writes, lost_cells};
+ghost use Rattle.rq_cast.specs.Writing.{AreDigestsIn, IsRoom, WritesCell, failed_writes, loses_cell, lost_cells};
 
 mod rows;
 
@@ -17,6 +18,7 @@ use crate::losing::loses;
 use crate::names::Names;
 use crate::order::Order;
 use crate::output::Output;
+use crate::pace::Pace;
 use crate::series::Series;
 use raptorq::error::Error;
 use raptorq::systematic_constants::SystematicTable;
@@ -29,28 +31,24 @@ use std::io::Write;
 // How many blocks are sent side by side.
 const GROUP: u64 = 8;
 
-/// What is told of each part, and waits before each cell, so that no more are sent in a time than are wanted.
-pub trait Pace {
-    /// Called before the first cell of each part, with its sender.
-    fn begin_part(&mut self, sender: &Sender<'_>);
-
-    /// Waits until so many bytes may be sent.
-    fn wait(&mut self, bytes: usize);
-}
-
 // Writes a cell, by one call so that a datagram is one, and of a short write the rest behind it.
 // Answers whether it is written: else the network lost it.
-fn write_cell<W: Write>(output: &mut Output<W>, cell: &[u8]) -> Result<bool, Stop>
+fn write_cell<W: Write, P: Pace>(
+    output: &mut Output<W>,
+    cell: &[u8],
+    pace: &mut P,
+) -> Result<bool, Stop>
     requires some { 0 < length cell.now }
     requires room { failed_count (counting output.old) < 2 ^ 64 - 1 }
     ensures writes { IfOk result (WritesCell (W.contents (sink output.old)) (W.contents (sink output.new)) cell.now) }
     ensures counts { failed_count (counting output.new) ≡ failed_count (counting output.old) + failed_writes result }
     ensures lost { lost_count output.new ≡ lost_count output.old + lost_cells result }
+    ensures told { Tells (P.calls pace.old) (P.calls pace.new) (one_call cell.now (loses_cell result)) }
     ensures stops { IfErr result (λ stop. stop ≡ Stop.Fault) }
     ensures beginning { OnErr result ((n : ℕ)
         × Appends (W.contents (sink output.old)) (W.contents (sink output.new)) (take n cell.now)) }
 {
-    match output.begin(cell) {
+    match output.begin(cell, pace) {
         Ok(0) => Err(Stop::Fault),
         Ok(n) => {
             output.write_rest(&cell[n..])?;
@@ -117,6 +115,7 @@ impl<'a> Sender<'a> {
     ghost use Rattle.rq_standard.specs.Packet.{SymbolId};
     ghost use Rattle.raptorq.specs.Refused.{RefusesEncoder};
     ghost use Rattle.rq_cast.specs.Sent.{Sending, IsSendingOf, IsSeriesOf, encoded_by, sending_of, cell_count, sent_id, SendsFirst, StopsSending};
+    ghost use Rattle.rq_cast.specs.Calls.{Call, lost_in};
     ghost use Rattle.rq_cast.specs.Output.{CountsLost};
 
     /// The sender of an object's symbols with these ids, in cells that begin with a head, and whose checks are made
@@ -213,7 +212,8 @@ impl<'a> Sender<'a> {
 
     /// Writes its cells, one of each block for each id, and flushes then. Answers how many were lost.
     ///
-    /// It waits before each cell, which is one call: on a socket of datagrams a cell is one. Of a
+    /// It waits before each cell, which is one call: on a socket of datagrams a cell is one. Behind each it tells
+    /// whether the cell is lost. Of a
     /// short write the rest follows. A cell is lost where its call fails as those do that
     /// send a datagram to nobody, nowhere, over a network that is down or without room, and the next one
     /// is written then. Each other failed call ends it with [`Stop::Fault`], and a beginning of a cell
@@ -225,13 +225,15 @@ impl<'a> Sender<'a> {
         pace: &mut P,
     ) -> Result<u64, Stop>
         requires { failed_count (counting output.old) < 2 ^ 64 - 2 ^ 32 }
-        ensures sends { IfOk result (λ lost. SendsFirst (sending_of self.now) (cell_count (sending_of self.now)) lost []
+        ensures sends { IfOk result (λ lost. (calls : List Call) × (lost ≡ lost_in calls)
+            × SendsFirst (sending_of self.now) (cell_count (sending_of self.now)) calls [] [] (P.calls pace.old) (P.calls pace.new)
             (W.contents (sink output.old)) (W.contents (sink output.new))) }
         ensures counts { IfOk result (λ lost. CountsLost output.old output.new lost 0) }
         ensures few { IfOk result (λ lost. lost ≤ cell_count (sending_of self.now)) }
         ensures flushes { OnOk result (flushed output.new ≡ true) }
-        ensures stops { IfErr result (λ stop. (lost : ℕ) × CountsLost output.old output.new lost (failed_calls result)
-            × StopsSending (sending_of self.now) lost (W.contents (sink output.old)) (W.contents (sink output.new)) stop) }
+        ensures stops { IfErr result (λ stop. (calls : List Call) × CountsLost output.old output.new (lost_in calls) (failed_calls result)
+            × StopsSending (sending_of self.now) calls (P.calls pace.old) (P.calls pace.new)
+            (W.contents (sink output.old)) (W.contents (sink output.new)) stop) }
     {
         let mut row = self.row(alloc)?;
         let mut lost = 0;
@@ -239,7 +241,7 @@ impl<'a> Sender<'a> {
             self.make(number, &mut row);
             let cell = row.cells[(number - row.from) as usize].as_slice();
             pace.wait(cell.len());
-            if !write_cell(output, cell)? {
+            if !write_cell(output, cell, pace)? {
                 lost += 1;
             }
         }

@@ -11,10 +11,11 @@ use crate::known::Known;
 use crate::names::Names;
 use crate::order::Order;
 use crate::output::Output;
+use crate::pace::Pace;
 use crate::part_reading::read_part;
 use crate::parts::MOST_PARTS;
 use crate::preparing::fitting;
-use crate::sending::{Pace, Part, Sender};
+use crate::sending::{Part, Sender};
 use raptorq::error::Error;
 use rq_cells::Key;
 use rq_streams::{Counted, Stop};
@@ -76,6 +77,7 @@ struct StreamSender<'a> {
 }
 
 impl<'a> StreamSender<'a> {
+    ghost use Rattle.rq_cast.specs.Calls.{Call, lost_in};
     ghost use Rattle.rq_cast.specs.Preparing.{IsPrepared};
     ghost use Rattle.rq_cast.specs.Sent.{sending_of};
     ghost use Rattle.rq_cast.specs.PartSending.{RefusesPart, SendsPart, StopsPart};
@@ -114,12 +116,14 @@ impl<'a> StreamSender<'a> {
         requires few { self.old.names.count < 2 ^ 30 }
         requires room { failed_count (counting output.old) < 2 ^ 64 - 2 ^ 32 }
         ensures sends { OnOk result ((before : List (List ℕ)) → AreNames before self.old.names
-            → SendsPart is_last before bytes.items self.old self.new (W.contents (sink output.old)) (W.contents (sink output.new))) }
+            → SendsPart is_last before bytes.items self.old self.new (P.calls pace.old) (P.calls pace.new)
+            (W.contents (sink output.old)) (W.contents (sink output.new))) }
         ensures counts { OnOk result (CountsLost output.old output.new (self.new.lost - self.old.lost) 0) }
         ensures flushes { OnOk result (flushed output.new ≡ true) }
         ensures stops { IfErr result (λ halt. (before : List (List ℕ)) → AreNames before self.old.names
-            → (lost : ℕ) × CountsLost output.old output.new lost (halted_calls halt)
-            × StopsPart is_last before bytes.items self.old lost (W.contents (sink output.old)) (W.contents (sink output.new)) halt) }
+            → (calls : List Call) × CountsLost output.old output.new (lost_in calls) (halted_calls halt)
+            × StopsPart is_last before bytes.items self.old calls (P.calls pace.old) (P.calls pace.new)
+            (W.contents (sink output.old)) (W.contents (sink output.new)) halt) }
         ensures order { self.new.order ≡ self.old.order }
         ensures key { self.new.key.now ≡ self.old.key.now }
     {
@@ -143,7 +147,8 @@ impl<'a> StreamSender<'a> {
 /// where it fits them, and else over all rows of section 5.6. Its cells are sent as [`Sender`] says, with
 /// checks that are made by a key.
 ///
-/// It waits before each cell, which is one call: on a socket of datagrams a cell is one. Of a short write the
+/// It waits before each cell, which is one call: on a socket of datagrams a cell is one. Behind each it tells whether
+/// the cell is lost ([`Pace`]). Of a short write the
 /// rest follows. A cell is lost where its call fails as those do that send a datagram to nobody, nowhere, over a
 /// network that is down or without room, and the next one is written then. Behind each part it flushes. Each other failed call ends it
 /// with [`Stop::Fault`], and a beginning of a cell may be written.
@@ -172,7 +177,7 @@ pub fn send_stream<R: Read, W: Write, P: Pace>(
 
     // All that is read is sent.
     ensures sends { IfOk result (λ r. SendsStream order.now key.now known (R.remaining (inner reader.old)) (R.remaining (inner reader.new))
-        (W.contents (sink output.old)) (W.contents (sink output.new)) r.0 r.1) }
+        (W.contents (sink output.old)) (W.contents (sink output.new)) (P.calls pace.old) (P.calls pace.new) r.0 r.1) }
     ensures counts { IfOk result (λ r. CountsLost output.old output.new r.0.lost 0) }
     ensures reader { OnOk result (failed_count reader.new ≡ failed_count reader.old) }
     ensures flushes { OnOk result (flushed output.new ≡ true) }
@@ -180,7 +185,7 @@ pub fn send_stream<R: Read, W: Write, P: Pace>(
     // Or the parts before the one at which it stops, and of this one what could be.
     ensures stops { IfErr result (λ halt. (lost : ℕ)
         × StopsStream order.now key.now known (R.remaining (inner reader.old)) (R.remaining (inner reader.new))
-        (W.contents (sink output.old)) (W.contents (sink output.new)) halt lost
+        (W.contents (sink output.old)) (W.contents (sink output.new)) (P.calls pace.old) (P.calls pace.new) halt lost
         × CountsStop reader.old reader.new output.old output.new halt lost) }
 {
     let mut stream = StreamSender {

@@ -7,7 +7,7 @@ use Rattle.rq_cast.proofs.stream_sending.send_stream.Given as goal
 abbrev pub invariant-parts : goal.invariant-parts
 invariant-parts g l = record {
   sent : HasSentWhole l.order l.key l.fn.known (g.R.Read.remaining l.fn.reader.inner) (g.R.Read.remaining l.reader.inner)
-      (g.W.Write.contents (sink l.fn.output)) (g.W.Write.contents (sink l.output)) l.stream;
+      (g.W.Write.contents (sink l.fn.output)) (g.W.Write.contents (sink l.output)) (g.P.Pace.calls l.fn.pace) (g.P.Pace.calls l.pace) l.stream;
   few : l.stream.names.count ≤ 2 ^ 30;
   reader : l.reader.failed ≡ l.fn.reader.failed;
   counts : CountsLost l.fn.output l.output l.stream.lost 0;
