@@ -1,67 +1,75 @@
--- The cells of one sender, all of which have to be written.
-use Rattle.std.proofs.Common.{◌≡◌, ℕ, ◌+◌, List, [], ◌++◌, Option, Err, inl, refl, subst, arith, append-nil}
+-- The cells of senders, all of which have to be written.
+use Rattle.std.proofs.Common.{◌≡◌, ℕ, ◌+◌, List, [], ◌++◌, Option, Err, inl, refl, ap, subst, arith, append-nil}
 use Rattle.std.specs.Io.KnownBytes.{Appends}
+use Rattle.std.proofs.KnownBytes.{Appends-trans}
 use Rattle.rq_streams.specs.declared.counted.Counted.{Counted}
 use Rattle.rq_streams.specs.declared.run.Stop.{Stop}
 use Rattle.rq_streams.specs.declared.run.Stop.TheVariants.{Fault, Refused}
 use Rattle.rq_streams.specs.Counted.{failed_count}
 use Rattle.rq_streams.specs.Ends.{failed_calls}
 use Rattle.rq_cast.specs.declared.output.Output.{Output}
+use Rattle.rq_cast.specs.Calls.{Call, lost_in}
 use Rattle.rq_cast.specs.Output.{CountsLost}
 use Rattle.rq_cast.specs.Sent.{Sending, cell_count, AreSent, SendsFirst, StopsSending}
-use Rattle.rq_guard.specs.Protecting.{SendsAll, StopsAll, CountsFault, CountsStop}
+use Rattle.rq_guard.specs.Protecting.{AllThen, Adds, SendsAll, StopsAll, CountsFault, CountsStop}
 
-module _ (s : Sending) (there then : Option (List ℕ)) where
+module _ (s : Sending) (there then : Option (List ℕ)) (told told' : Option (List Call)) (calls : List Call) where
   -- none is lost
-  pub sends_all : (lost : ℕ) → lost ≡ 0 → SendsFirst s (cell_count s) lost [] there then → SendsAll s there then
-  sends_all lost none sends = (
+  pub sends_all : lost_in calls ≡ 0 → SendsFirst s (cell_count s) calls [] [] told told' there then → SendsAll s there then
+  sends_all none sends = (
     sends.written,
-    subst (AreSent s (cell_count s) sends.written) none sends.sent,
+    (calls, sends.sent, none),
     subst (Appends there then) (append-nil sends.written) sends.appended,
   )
 
   -- some are
-  pub stops_lost : (lost : ℕ) → SendsFirst s (cell_count s) lost [] there then → StopsAll s there then Fault
-  stops_lost lost sends = (
+  pub stops_lost : SendsFirst s (cell_count s) calls [] [] told told' there then → StopsAll s there then Fault
+  stops_lost sends = (
     sends.written ++ [],
     record {
       number = cell_count s;
       within = omega arith;
       cells = sends.written;
-      lost = lost;
+      calls = calls;
       sent = sends.sent;
       behind = [];
-      stopped = inl refl;
+      more = [];
+      stopped = inl (refl, refl);
       is = refl;
     },
     sends.appended,
   )
 
-  pub stops_all : (lost : ℕ) (stop : Stop) → StopsSending s lost there then stop → StopsAll s there then stop
-  stops_all lost stop stops = (
+  pub stops_all : (stop : Stop) → StopsSending s calls told told' there then stop → StopsAll s there then stop
+  stops_all stop stops = (
     stops.sends.written ++ stops.behind,
     record {
       number = stops.number;
       within = stops.within;
       cells = stops.sends.written;
-      lost = lost;
+      calls = calls;
       sent = stops.sends.sent;
       behind = stops.behind;
+      more = stops.more;
       stopped = stops.stopped;
       is = refl;
     },
     stops.sends.appended,
   )
 
-  none_lost : (n lost : ℕ) (written : List ℕ) → n ≡ 0 → AreSent s n written lost → lost ≡ 0
-  none_lost n lost written none sent = (subst (λ m. AreSent s m written lost) none sent).1
+  none_lost : (n : ℕ) (written : List ℕ) → n ≡ 0 → AreSent s n written calls → lost_in calls ≡ 0
+  none_lost n written none sent = ap lost_in (subst (λ m. AreSent s m written calls) none sent).1
 
   -- a fault is a failed call
-  pub counts_stopped : {W : Type 0} (o o' : Output W) (lost : ℕ) (stop : Stop) → CountsLost o o' lost (failed_calls {X = ℕ} (Err stop)) → StopsSending s lost there then stop
-      → CountsFault o o' stop
-  counts_stopped o o' lost Fault counts stops = omega (arith, counts.failed)
-  counts_stopped o o' lost (Refused e) counts stops =
-      omega (arith, counts.failed, none_lost stops.number lost stops.sends.written stops.stopped.1 stops.sends.sent)
+  pub counts_stopped : {W : Type 0} (o o' : Output W) (stop : Stop) → CountsLost o o' (lost_in calls) (failed_calls {X = ℕ} (Err stop))
+      → StopsSending s calls told told' there then stop → CountsFault o o' stop
+  counts_stopped o o' Fault counts stops = omega (arith, counts.failed)
+  counts_stopped o o' (Refused e) counts stops =
+      omega (arith, counts.failed, none_lost stops.number stops.sends.written stops.stopped.1 stops.sends.sent)
+
+-- one sender's cells, and then what is behind them
+pub all_then : (s : Sending) (P : List ℕ → Type 0) (there mid then : Option (List ℕ)) → SendsAll s there mid → Adds P mid then → Adds (AllThen s P) there then
+all_then s P there mid then all behind = (all.0 ++ behind.0, (all.0, behind.0, all.1, behind.1, refl), Appends-trans there mid then all.0 behind.0 all.2 behind.2)
 
 -- none failed before
 pub counts_before : {W : Type 0} (o mid o' : Output W) (stop : Stop) → CountsLost o mid 0 0 → CountsFault mid o' stop → CountsFault o o' stop

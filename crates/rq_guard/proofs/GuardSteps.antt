@@ -1,15 +1,12 @@
 -- A file as far as it is guarded, and where that stops.
-use Rattle.std.proofs.Common.{◌≡◌, inl, inr, ℕ, ◌+◌, ◌*◌, ◌<◌, ◌≤◌, zero-mul, Bool, true, false, None, List, [], ◌++◌, length, map, Option, refl, sym, ap, subst, ◌∙◌, arith, append-nil, length-append}
+use Rattle.std.proofs.Common.{◌≡◌, inl, inr, ℕ, ◌+◌, ◌*◌, ◌<◌, zero-mul, Bool, true, false, List, [], ◌++◌, length, map, Option, refl, sym, ap, subst, ◌∙◌, arith, append-nil, length-append}
 use Rattle.std.specs.Prelude.{nat_lt, ◌==◌}
 use Rattle.std.specs.List.{range_with_len, sum_by}
 use Rattle.std.specs.Io.KnownBytes.{Consumes, Appends}
 use Rattle.std.proofs.KnownBytes.{Consumes-nil, Consumes-trans, Appends-nil, Appends-trans, Appends-kept}
-use Rattle.std.proofs.lemmas.Bool.{cases_lt, ltb-true, ltb-false}
 use Rattle.std.proofs.lemmas.List.{length_push}
 use Rattle.rq_bytes.specs.declared.error.Error.{Error}
 use Rattle.rq_bytes.specs.declared.error.Error.TheVariants.{TransferTooLong}
-use Rattle.rq_standard.specs.Configuration.{Configuration}
-use Rattle.raptorq.specs.Encoder.{no_block}
 use Rattle.rq_streams.specs.declared.run.Stop.{Stop}
 use Rattle.rq_streams.specs.declared.run.Stop.TheVariants.{Fault, Refused}
 use Rattle.rq_cells.specs.Cells.{Key}
@@ -17,15 +14,15 @@ use Rattle.rq_cast.specs.Names.{AreNames}
 use Rattle.rq_cast.specs.Parts.{greatest_count}
 use Rattle.rq_cast.specs.PartReading.{ReadsPart, ReadsWithin}
 use Rattle.rq_cast.specs.Reading.{IsStopOfReads}
-use Rattle.rq_cast.specs.Sent.{Sending}
-use Rattle.rq_cast.specs.SentParts.{bytes_of_part, last_index, IsRead}
-use Rattle.rq_cast.proofs.SentStreams.{bytes_next, last_is, is_last_next}
+use Rattle.rq_cast.specs.SentParts.{last_index}
+use Rattle.rq_cast.proofs.PartsInOrder.{ReadsNext, reads_next, with_next, names_all, sum_next, part_same}
+use Rattle.rq_cast.proofs.StreamSteps.{no_sending}
 use Rattle.rq_guard.specs.declared.protecting.GuardOrder.{GuardOrder}
 use Rattle.rq_guard.specs.declared.protecting.Guarded.{Guarded}
 use Rattle.rq_guard.specs.declared.protecting.Protector.{Protector}
 use Rattle.rq_guard.specs.Protecting.{Guarding, IsGuarding, RefusesGuarding, guard_cells, guarded_names, IsGuardedPart, GuardsParts, Protects, StopsUnguarded, StopsProtecting}
 use Rattle.rq_guard.specs.ProtectingParts.{GuardsPart, StopsPart}
-use Rattle.rq_guard.proofs.GuardedParts.{with_next, names_all, cells_all, guarding_same, guards_longer, guards_next}
+use Rattle.rq_guard.proofs.GuardedParts.{guards_longer, guards_next}
 
 -- Of what was read the parts are guarded that these names are of.
 pub record HasGuarded (order : GuardOrder) (key : Key) (before after there then : Option (List ℕ)) (input : List ℕ) (p : Protector) : Type 0 where
@@ -46,19 +43,8 @@ pub record HasGuardedWhole (order : GuardOrder) (key : Key) (before after there 
   pub has : HasGuarded order key before after there then input p
 
 -- what guards nothing
-no_configuration : Configuration
-no_configuration = record { transfer_length = 0; symbol_size = 0; source_blocks = 0; sub_blocks = 0; alignment = 0 }
-
-no_sending : Sending
-no_sending = record {
-  key = None;
-  encoded = record { configuration = no_configuration; block = λ b. no_block b 0 };
-  head = record { stream = []; number = 0; name = []; configuration = no_configuration };
-  series = record { first = 0; step = 0; count = 0; few = omega arith; ids = λ k below. absurd (omega (arith, below)) };
-}
-
 no_parts : ℕ → Guarding
-no_parts i = record { list = no_sending; part = no_sending }
+no_parts i = record { list = no_sending; part = no_sending; spare = no_sending }
 
 pub has_guarded_none : (order : GuardOrder) (key : Key) (before there : Option (List ℕ)) (p : Protector) → p.order ≡ order → p.key.now ≡ key
     → AreNames [] p.names → p.cells ≡ 0 → HasGuardedWhole order key before before there there p
@@ -94,38 +80,17 @@ module _ (order : GuardOrder) (key : Key) (some : 0 < order.part) (before mid af
   abbrev input : List ℕ
   input = made.input ++ bytes
 
-  long : n * order.part ≤ length made.input
-  long = omega (arith, made.whole)
-
-  taken_more : Consumes before after input
-  taken_more = Consumes-trans before mid after made.input bytes made.has.taken reads.taken
-
-  length_more : length input ≡ n * order.part + length bytes
-  length_more = length-append made.input bytes ∙ ap (λ k. k + length bytes) made.whole
-
-  last_same : is_last ≡ (n == last_index order.part input)
-  last_same = short ∙ sym (is_last_next order.part made.input bytes n some made.whole reads.few)
-
-  bytes_are : bytes ≡ bytes_of_part order.part input n
-  bytes_are = sym (bytes_next order.part made.input bytes n made.whole reads.few)
-
-  -- the part is read
-  is_read : IsRead order.part input n after
-  is_read =
-      let next : (n + 1) * order.part ≡ n * order.part + order.part = omega arith in
-      elim (cases_lt (length bytes) order.part) [
-        | inl less ↦ inr (reads.at_end less, last_is order.part made.input bytes n made.whole less)
-        | inr all ↦ inl (omega (arith, length_more, all, reads.few, next))
-      ]
+  reading : ReadsNext order.part before after made.input bytes n is_last
+  reading = reads_next order.part some before mid after made.input bytes n is_last made.has.taken made.whole short reads
 
   ready : (g : Guarding) → IsGuarding old.order old.key.now is_last (guarded_names of n) bytes g → IsGuardedPart order key input of n g
   ready g prepared =
-      guarding_same order key last_same refl bytes_are refl
+      part_same (IsGuarding order key) reading.last refl reading.are refl
       (subst (λ k. IsGuarding order k is_last (guarded_names of n) bytes g) made.has.keyed
       (subst (λ o. IsGuarding o old.key.now is_last (guarded_names of n) bytes g) made.has.ordered prepared))
 
   guards_so_far : GuardsParts order key input of n made.has.written
-  guards_so_far = guards_longer order key some made.input bytes of n made.has.written long made.has.guards
+  guards_so_far = guards_longer order key some made.input bytes of n made.has.written (omega (arith, made.whole)) made.has.guards
 
   module _ (new : Protector) (then : Option (List ℕ)) (more : GuardsPart is_last (guarded_names of n) bytes old new between then)
       (same_order : new.order ≡ old.order) (same_key : new.key.now ≡ old.key.now) where
@@ -138,64 +103,51 @@ module _ (order : GuardOrder) (key : Key) (some : 0 < order.part) (before mid af
     has_guarded_more : HasGuarded order key before after there then input new
     has_guarded_more =
         let named : AreNames (guarded_names all (n + 1)) new.names =
-        subst (λ names. AreNames names new.names) (sym (names_all of n more.guarding)) more.named in
+        subst (λ names. AreNames names new.names) (sym (names_all of n more.guarding (λ (g : Guarding). g.part))) more.named in
         let guards : GuardsParts order key input all (n + 1) (made.has.written ++ more.written) =
         guards_next order key input of n more.guarding made.has.written more.written guards_so_far (ready more.guarding more.prepared) more.sent in
         record {
           ordered = same_order ∙ made.has.ordered;
           keyed = same_key ∙ made.has.keyed;
-          taken = taken_more;
+          taken = reading.taken;
           of = all;
           named = subst (λ k. AreNames (guarded_names all k) new.names) (sym one_more) named;
           written = made.has.written ++ more.written;
           appended = Appends-trans there between then made.has.written more.written made.has.appended more.appended;
           guards = subst (λ k. GuardsParts order key input all k (made.has.written ++ more.written)) (sym one_more) guards;
-          cells = more.cells ∙ ap (λ k. k + guard_cells more.guarding) made.has.cells ∙ sym (cells_all of n more.guarding)
+          cells = more.cells ∙ ap (λ k. k + guard_cells more.guarding) made.has.cells ∙ sym (sum_next of n more.guarding guard_cells)
               ∙ ap (λ k. sum_by guard_cells (map all (range_with_len 0 k))) (sym one_more);
         }
 
     pub has_guarded_whole : is_last ≡ false → HasGuardedWhole order key before after there then new
     has_guarded_whole more_to_come =
-        let all_there : order.part ≤ length bytes = ltb-false (length bytes) order.part (sym short ∙ more_to_come) in
-        let next : (n + 1) * order.part ≡ n * order.part + order.part = omega arith in
-        record {
-          input = input;
-          whole = subst (λ k. length input ≡ k * order.part) (sym one_more) (omega (arith, length_more, all_there, reads.few, next));
-          has = has_guarded_more;
-        }
+        record { input = input; whole = subst (λ k. length input ≡ k * order.part) (sym one_more) (reading.whole more_to_come); has = has_guarded_more }
 
     pub protects : is_last ≡ true → (answer : Guarded) → answer.parts ≡ new.names.count → answer.cells ≡ new.cells
         → Protects order key before after there then answer
     protects ended answer parts cells =
-        let less : length bytes < order.part = ltb-true (length bytes) order.part (sym short ∙ ended) in
-        let last = last_is order.part made.input bytes n made.whole less in
         let has = has_guarded_more in
         record {
           input = input;
-          taken = taken_more;
-          at_end = reads.at_end less;
+          taken = reading.taken;
+          at_end = (reading.ends ended).0;
           of = has.of;
           written = has.written;
           appended = has.appended;
-          parts = parts ∙ one_more ∙ ap (λ k. k + 1) (sym last);
+          parts = parts ∙ one_more ∙ ap (λ k. k + 1) (sym (reading.ends ended).1);
           guards = subst (λ k. GuardsParts order key input has.of k has.written) (sym parts) has.guards;
           cells = cells ∙ has.cells ∙ ap (λ k. sum_by guard_cells (map has.of (range_with_len 0 k))) (sym parts);
         }
 
   -- it stops as the part is made ready or written
   module _ (then : Option (List ℕ)) (stop : Stop) where
-    few : length input ≤ (n + 1) * order.part
-    few =
-        let next : (n + 1) * order.part ≡ n * order.part + order.part = omega arith in
-        omega (arith, length_more, reads.few, next)
-
     unguarded : (e : Error) → stop ≡ Refused e → RefusesGuarding old.key.now is_last (guarded_names of n) bytes e → StopsUnguarded order key input of n after stop
     unguarded e is refuses =
         subst (StopsUnguarded order key input of n after) (sym is)
         (inr (inl (
-          is_read,
-          subst (λ xs. RefusesGuarding key (n == last_index order.part input) (guarded_names of n) xs e) bytes_are
-              (subst (λ b. RefusesGuarding key b (guarded_names of n) bytes e) last_same
+          reading.read,
+          subst (λ xs. RefusesGuarding key (n == last_index order.part input) (guarded_names of n) xs e) reading.are
+              (subst (λ b. RefusesGuarding key b (guarded_names of n) bytes e) reading.last
               (subst (λ k. RefusesGuarding k is_last (guarded_names of n) bytes e) made.has.keyed refuses)),
         )))
 
@@ -203,11 +155,11 @@ module _ (order : GuardOrder) (key : Key) (some : 0 < order.part) (before mid af
     stops_at_part stops = elim stops [
       | inl (e, is, refuses, kept) ↦ record {
         input = input;
-        taken = taken_more;
+        taken = reading.taken;
         of = of;
         index = n;
-        whole = omega (arith, length_more);
-        no_further = few;
+        whole = omega (arith, reading.long);
+        no_further = reading.no_further;
         front = made.has.written;
         guards = guards_so_far;
         next = [];
@@ -216,15 +168,15 @@ module _ (order : GuardOrder) (key : Key) (some : 0 < order.part) (before mid af
       }
       | inr within ↦ record {
         input = input;
-        taken = taken_more;
+        taken = reading.taken;
         of = of;
         index = n;
-        whole = omega (arith, length_more);
-        no_further = few;
+        whole = omega (arith, reading.long);
+        no_further = reading.no_further;
         front = made.has.written;
         guards = guards_so_far;
         next = within.written;
-        stopped = inr (record { read = is_read; guarding = within.guarding; prepared = ready within.guarding within.prepared; stopped = within.stopped });
+        stopped = inr (record { read = reading.read; guarding = within.guarding; prepared = ready within.guarding within.prepared; stopped = within.stopped });
         appended = Appends-trans there between then made.has.written within.written made.has.appended within.appended;
       }
     ]

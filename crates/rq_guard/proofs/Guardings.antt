@@ -1,5 +1,5 @@
 -- What is made ready to guard a part.
-use Rattle.std.proofs.Common.{◌≡◌, ℕ, ◌*◌, ◌^◌, ◌<◌, Bool, true, false, List, length, map, take, Ok, inl, inr, sym, ap, subst, ◌∙◌, arith}
+use Rattle.std.proofs.Common.{◌≡◌, ℕ, ◌^◌, ◌<◌, Bool, true, false, List, length, map, take, Ok, inl, inr, sym, ap, subst, ◌∙◌, arith}
 use Rattle.rq_bytes.specs.declared.error.Error.{Error}
 use Rattle.rq_bytes.specs.declared.error.Error.TheVariants.{OutOfMemory, TransferTooLong}
 use Rattle.rq_bytes.specs.Refusals.{IsRefusal}
@@ -16,19 +16,21 @@ use Rattle.rq_cells.specs.Cells.{Key}
 use Rattle.rq_cast.specs.declared.series.Repair.{Repair}
 use Rattle.rq_cast.specs.Parts.{greatest_count, number_of, object_of, source_digests, part_head}
 use Rattle.rq_cast.specs.Preparing.{IsFitting, RefusesFitting}
-use Rattle.rq_cast.specs.Sent.{Sending, Encodes, IsSendingOf, IsSeries}
+use Rattle.rq_cast.specs.Sent.{Sending, Encodes, IsSendingOf}
 use Rattle.rq_guard.specs.declared.protecting.GuardOrder.{GuardOrder}
+use Rattle.rq_guard.specs.declared.protecting.Half.{Half}
+use Rattle.rq_guard.specs.declared.protecting.Half.TheVariants.{Source, Spare}
 use Rattle.rq_guard.specs.Layout.{IsLayout}
 use Rattle.rq_guard.specs.Lists.{Listed, listed_length, list_symbol_size, list_number, list_bytes}
-use Rattle.rq_guard.specs.Protecting.{list_of_part, list_head, IsListSending, RefusesList, IsRepairSeries, IsRepairSending, Guarding, IsGuarding, RefusesGuarding}
+use Rattle.rq_guard.specs.Protecting.{list_of_part, list_head, IsListSeries, IsListSending, RefusesList, IsRepairSeries, IsRepairSending, Guarding, IsGuarding, RefusesGuarding}
 
 -- ---- a list
 
 module _ (key : Key) (l : Listed) (bytes : List ℕ) (are : bytes ≡ list_bytes key l) where
-  pub list_sending : (table : List TableRow) (c : Configuration) (s : Sending) → IsFitting (length bytes) list_symbol_size table c → Encodes table bytes s.encoded
-      → s.encoded.configuration ≡ c → s.head ≡ list_head l.head c bytes → s.key ≡ key → IsSeries 0 1 (2 * largest_block s.encoded.configuration) s.series
-      → IsListSending key l s
-  list_sending table c s fits encodes is head keyed series = record {
+  pub list_sending : (half : Half) (table : List TableRow) (c : Configuration) (s : Sending) → IsFitting (length bytes) list_symbol_size table c
+      → Encodes table bytes s.encoded → s.encoded.configuration ≡ c → s.head ≡ list_head l.head c bytes → s.key ≡ key
+      → IsListSeries half (largest_block s.encoded.configuration) s.series → IsListSending key l half s
+  list_sending half table c s fits encodes is head keyed series = record {
     table = table;
     fitting = subst (λ k. IsFitting (length (list_bytes key l)) list_symbol_size table k) (sym is)
         (subst (λ b. IsFitting (length b) list_symbol_size table c) are fits);
@@ -71,14 +73,16 @@ module _ (repair : Repair) (key : Key) (is_last : Bool) (names : List (List ℕ)
     series = series;
   }
 
--- ---- both
+-- ---- all
 
 module _ (key : Key) (is_last : Bool) (names : List (List ℕ)) (bytes object : List ℕ) (is : object ≡ object_of is_last names bytes) where
   pub guarding_by : (order : GuardOrder) (g : Guarding) → IsRepairSending order.repair key is_last names object g.part
-      → IsListSending key (list_of_part g.part.head object) g.list → IsGuarding order key is_last names bytes g
-  guarding_by order g part list = record {
+      → IsListSending key (list_of_part g.part.head object) Source g.list → IsListSending key (list_of_part g.part.head object) Spare g.spare
+      → IsGuarding order key is_last names bytes g
+  guarding_by order g part list spare = record {
     part = subst (λ o. IsRepairSending order.repair key is_last names o g.part) is part;
-    list = subst (λ o. IsListSending key (list_of_part g.part.head o) g.list) is list;
+    list = subst (λ o. IsListSending key (list_of_part g.part.head o) Source g.list) is list;
+    spare = subst (λ o. IsListSending key (list_of_part g.part.head o) Spare g.spare) is spare;
   }
 
   pub no_layout : (e : Error) → e ≡ TransferTooLong → 1006632960 < length object → RefusesGuarding key is_last names bytes e

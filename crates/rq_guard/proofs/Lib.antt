@@ -2,7 +2,6 @@ pub mod Layouts
 pub mod ListBytes
 pub mod ListedSymbols
 pub mod Mended
-pub mod PassedCells
 pub mod TakenCells
 pub mod ReceivedLists
 pub mod UsableLists

@@ -1,12 +1,9 @@
 -- Lists one behind another, and the passes that read them.
-use Rattle.std.proofs.Common.{◌≡◌, ◌⊎◌, ℕ, ◌+◌, ◌-◌, ◌^◌, ◌<◌, ◌≤◌, List, [], ◌∷◌, ◌++◌, length, get_or, Option, Bool, true, false, sym, subst, ◌∙◌, append-nil, length-append, arith, inl, inr}
-use Rattle.std.specs.Prelude.{◌||◌}
-use Rattle.std.specs.List.{list_any}
+use Rattle.std.proofs.Common.{◌≡◌, ◌⊎◌, ℕ, ◌+◌, ◌-◌, ◌^◌, ◌<◌, ◌≤◌, List, [], ◌∷◌, ◌++◌, length, get_or, Option, sym, ap, subst, append-nil, length-append, arith, inl, inr}
 use Rattle.std.specs.Io.KnownBytes.{Consumes, IsAtEnd}
 use Rattle.std.proofs.KnownBytes.{Consumes-trans}
 use Rattle.std.proofs.lemmas.Bool.{cases_lt}
 use Rattle.std.proofs.lemmas.List.{get_or_append_left, get_or_push}
-use Rattle.std.proofs.lemmas.List.Folds.{list_any-append}
 use Rattle.rq_standard.specs.declared.row.TableRow.{TableRow}
 use Rattle.rq_cells.specs.declared.cell.FoundCell.{FoundCell}
 use Rattle.rq_cells.specs.Cells.{Key}
@@ -19,18 +16,14 @@ use Rattle.rq_guard.proofs.TakenCells.{all_found}
 
 -- ---- one more
 
-pub each_push : (P : ℕ → DigestList → Type 0) (xs : List DigestList) (x : DigestList) → ((i : ℕ) (d : DigestList) → i < length xs → P i (get_or xs i d)) → P (length xs) x
-    → (i : ℕ) (d : DigestList) → i < length (xs ++ x ∷ []) → P i (get_or (xs ++ x ∷ []) i d)
-each_push P xs x each here i d below = elim (cases_lt i (length xs)) [
-  | inl lt ↦ subst (P i) (sym (get_or_append_left xs (x ∷ []) d i lt)) (each i d lt)
+pub each_push : (P : ℕ → DigestList → Type 0) (xs ys : List DigestList) (x : DigestList) → ys ≡ xs ++ x ∷ [] → ((i : ℕ) (d : DigestList) → i < length xs → P i (get_or xs i d))
+    → P (length xs) x → (i : ℕ) (d : DigestList) → i < length ys → P i (get_or ys i d)
+each_push P xs ys x pushed each here i d below = elim (cases_lt i (length xs)) [
+  | inl lt ↦ subst (λ zs. P i (get_or zs i d)) (sym pushed) (subst (P i) (sym (get_or_append_left xs (x ∷ []) d i lt)) (each i d lt))
   | inr past ↦
-      let same : length xs ≡ i = omega (arith, below, past, length-append xs (x ∷ [])) in
-      subst (P i) (sym (get_or_push xs x d i same)) (subst (λ n. P n x) same here)
+      let same : length xs ≡ i = omega (arith, below, past, ap length pushed, length-append xs (x ∷ [])) in
+      subst (λ zs. P i (get_or zs i d)) (sym pushed) (subst (P i) (sym (get_or_push xs x d i same)) (subst (λ n. P n x) same here))
 ]
-
-pub any_push : (p : DigestList → Bool) (xs : List DigestList) (x : DigestList) (b : Bool) → list_any p xs ≡ false → p x ≡ b → list_any p (xs ++ x ∷ []) ≡ b
-any_push p xs x true none is = list_any-append p xs (x ∷ []) ∙ (λ i. none i || (is i || false))
-any_push p xs x false none is = list_any-append p xs (x ∷ []) ∙ (λ i. none i || (is i || false))
 
 -- ---- a pass
 

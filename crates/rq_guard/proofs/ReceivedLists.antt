@@ -1,5 +1,5 @@
 -- What is received of lists, cell by cell.
-use Rattle.std.proofs.Common.{◌≡◌, ◌≢◌, ◌⊎◌, ℕ, ◌+◌, ◌<◌, List, [], ◌∷◌, ◌++◌, All, Option, Some, None, Bool, cond, refl, sym, ap, subst, ◌∙◌, arith, inl, inr, length-append, nat_eq, IfSome, append-nil, option_map, vec_items}
+use Rattle.std.proofs.Common.{◌≡◌, ◌≢◌, ◌⊎◌, ℕ, ◌+◌, List, [], ◌∷◌, ◌++◌, All, Option, Some, None, Bool, cond, refl, sym, ap, subst, ◌∙◌, arith, inl, inr, length-append, nat_eq, IfSome, append-nil, option_map, vec_items}
 use Rattle.std.specs.Prelude.{option_and_then}
 use Rattle.std.proofs.lemmas.Bool.{cases_eq, false_from_ne_true, eq-eqb, eqb-true}
 use Rattle.std.proofs.lemmas.List.{get_or_append_left}
@@ -20,6 +20,8 @@ use Rattle.rq_cast.proofs.SettledParts.{headed_by}
 use Rattle.rq_cast.proofs.TakenPackets.{first_run, last_head}
 use Rattle.rq_cast.proofs.PartTaken.{unused_all}
 use Rattle.rq_cast.proofs.WindowPlaces.{open_received}
+use Rattle.rq_cast.proofs.WindowVotes.{voted_received}
+use Rattle.rq_cast.proofs.LedParts.{none_leads, for_behind, led_object}
 use Rattle.rq_guard.specs.declared.reading_lists.ListReceivers.{ListReceivers}
 use Rattle.rq_cells.specs.Cells.{Key}
 use Rattle.rq_guard.specs.Lists.{Listed}
@@ -53,6 +55,7 @@ module _ (table : List TableRow) (came : List Cell) (cell : Cell) where
   pub list_grows : (old new : Option PartReceiver) → ReceivesCell table old cell new → HasListCells table came old → HasListCells table (came ++ cell ∷ []) new
   list_grows old new receives has = record {
     are_open = open_received table came cell old new receives has.are_open;
+    voted = voted_received table None came cell old new receives has.voted;
     one_sender = λ h taken one. all_with old new receives h taken one (has.one_sender h taken (first_sender h one));
   }
 
@@ -67,11 +70,6 @@ cells_elsewhere i came cell apart =
     filter-append (is_list_cell i) came (cell ∷ [])
     ∙ ap (λ (b : Bool). list_cells i came ++ cond b (cell ∷ []) []) (false_from_ne_true (nat_eq (part_index cell.head) (first_list + i)) (λ e. apart (eqb-true (part_index cell.head) (first_list + i) e)))
     ∙ append-nil (list_cells i came)
-
--- a cell of none
-pub lists_passed : (table : List TableRow) (r : ListReceivers) (cell : Cell) → part_index cell.head < first_list → TakesListCell table r cell r
-lists_passed table r cell below came has = λ i.
-    subst (λ cells. HasListCells table cells (receiver_of r i)) (sym (cells_elsewhere i came cell (λ same. absurd (omega (arith, below, same))))) (has i)
 
 -- a cell of one
 module _ (table : List TableRow) (old new : ListReceivers) (cell : Cell) (i : ℕ) (place : Option PartReceiver) (is : part_index cell.head ≡ first_list + i)
@@ -133,9 +131,14 @@ module _ (table : List TableRow) (cells : List Cell) (p : PartReceiver) (attempt
 -- of what is received
 object_of_cells : (table : List TableRow) (index : ℕ) (cells : List Cell) (o : Option PartReceiver) → IfSome o (IsSound table index) → HasListCells table cells o
     → IsListObject table cells (option_and_then (λ p. option_map vec_items p.attempt.object) o)
-object_of_cells table index cells None sound has = record { whoever = tt; one_sender = λ h taken one. inl (has.one_sender h taken one, refl) }
+object_of_cells table index cells None sound has = record {
+  whoever = tt;
+  led = λ x l. absurd (none_leads table l.head x l.honest l.from (for_behind l.head cells l.from (has.voted l.head l.honest.taken)) l.only);
+  one_sender = λ h taken one. inl (has.one_sender h taken one, refl);
+}
 object_of_cells table index cells (Some p) sound has = record {
   whoever = received_of table cells p sound.attempt has.are_open (option_map vec_items p.attempt.object) refl;
+  led = λ x l. led_object table p sound.attempt None cells has.voted l.head x tt l.honest l.few l.from l.within l.leads l.only;
   one_sender = λ h taken one. inr (exactly table cells p sound.attempt h (has.one_sender h taken one));
 }
 

@@ -19,7 +19,6 @@ use Rattle.rq_guard.specs.Mending.{HasMended, TakesMore, has_mended_last}
 use Rattle.rq_guard.specs.Lists.{Listed}
 use Rattle.rq_guard.specs.Damage.{whole_cells, object_there}
 use Rattle.rq_guard.specs.Reading.{HasPassed, ReadsPiece, cells_of, cells_with, IsTakingFrom, TakesFrom, ReadsWhole, MendsPart}
-use Rattle.rq_guard.proofs.PassedCells.{found_all}
 
 -- two lists of cells, the first of which makes nothing ready
 pub takes_both : (table : List TableRow) (old mid new : Mending) (first second : List Cell) (bytes : List ℕ) → TakesMore table old first [] mid
@@ -31,7 +30,9 @@ takes_both table old mid new first second bytes before behind = λ stream came g
 
 -- all that stand in what came, where no cell is whole in what is kept
 pub all_found : (s : Source) (past : List ℕ) (came : List Cell) (p : CellPass) → HasPassed s past came p → cells_in s past ≡ came
-all_found s past came p has = found_all s past p.bytes.items came has.found has.none
+all_found s past came p has =
+    ap (cells_in s) (sym (append-nil past)) ∙ has.found [] ∙ ap (λ xs. came ++ cells_in s xs) (append-nil p.bytes.items) ∙ ap (λ xs. came ++ xs) has.none
+    ∙ append-nil came
 
 module _ (table : List TableRow) (key : Key) (head : Head) (before mid after : Option (List ℕ)) (reads : ℕ) (pass : CellPass) (old now : Mending)
     (t : IsTakingFrom table key head before mid reads pass old now) where

@@ -1,11 +1,11 @@
 -- Which lists stand in a guard: what its cells say of them, one receiver for each.
-use Rattle.std.specs.Prelude.{◌≡◌, ◌⊎◌, ℕ, ◌+◌, ◌^◌, ◌<◌, ◌≤◌, List, [], ◌∷◌, ◌++◌, length, drop, map, filter, All, Contains, Option, Some, None, IfSome, option_and_then, Bool, false, ◌==◌, ◌&&◌, nat_eq, if◌then◌else◌, slice_index_or}
-use Rattle.std.specs.List.{list_any}
+use Rattle.std.specs.Prelude.{◌≡◌, ◌⊎◌, ℕ, ◌+◌, ◌^◌, ◌<◌, ◌≤◌, List, [], ◌∷◌, ◌++◌, length, drop, map, filter, Contains, Option, Some, None, IfSome, option_and_then, Bool, false, ◌==◌, ◌&&◌, nat_eq, if◌then◌else◌, slice_index_or}
 use Rattle.std.specs.Io.KnownBytes.{Consumes}
 use Rattle.std.specs.Cmp.Lexicographic.{pointwise}
 use Rattle.std.specs.Ordering.{nat_cmp}
 use Rattle.std.specs.BTreeMap.{get}
 use Rattle.rq_standard.specs.declared.row.TableRow.{TableRow}
+use Rattle.rq_standard.specs.Headline.{IsOnlyObject}
 use Rattle.rq_standard.specs.TableRows.{greatest_size}
 use Rattle.rq_cells.specs.declared.head.Head.{Head}
 use Rattle.rq_cells.specs.declared.cell.Cell.{Cell}
@@ -14,13 +14,14 @@ use Rattle.rq_cells.specs.Found.{Source, cells_in}
 use Rattle.rq_cast.specs.declared.part_receiver.PartReceiver.{PartReceiver}
 use Rattle.rq_cast.specs.Taken.{part_index, IsTakenHead, received_packets, IsNamedIn, IsOneSender, IsAnswered}
 use Rattle.rq_cast.specs.PartReceiving.{IsSound}
-use Rattle.rq_cast.specs.Windows.{IsOpen, HasAll}
+use Rattle.rq_cast.specs.Votes.{LeadsFrom, IsHonestHead}
+use Rattle.rq_cast.specs.Windows.{IsOpen, HasVoted, HasAll}
 use Rattle.rq_cast.specs.Parts.{greatest_count}
 use Rattle.rq_guard.specs.declared.list.DigestList.{DigestList}
 use Rattle.rq_guard.specs.declared.reading.CellPass.{CellPass}
 use Rattle.rq_guard.specs.declared.reading_lists.ListReceivers.{ListReceivers}
 use Rattle.rq_guard.specs.Lists.{Listed, listed_of, list_at}
-use Rattle.rq_guard.specs.Damage.{IsList, is_last_part}
+use Rattle.rq_guard.specs.Damage.{is_last_part}
 use Rattle.rq_guard.specs.Reading.{HasPassed, IsRead}
 
 -- the index of the cells of the list of part 0: those of part i's have one that is i more
@@ -36,9 +37,10 @@ list_cells i cells = filter (is_list_cell i) cells
 
 -- ---- what is received of a list
 
--- of these cells those with the head in use since it began, and of one sender's all
+-- of these cells those with the head in use since it began, of one sender's all, and of each head what the votes for it say
 pub record HasListCells (table : List TableRow) (cells : List Cell) (o : Option PartReceiver) : Type 0 where
   pub are_open : IfSome o (IsOpen table cells)
+  pub voted : HasVoted table None cells o
   pub one_sender : (h : Head) → IsTakenHead table h → IsOneSender table h cells → HasAll table h cells o
 
 abbrev pub receiver_of : ListReceivers → ℕ → Option PartReceiver
@@ -72,9 +74,20 @@ pub record IsReceivedExactly (table : List TableRow) (h : Head) (cells : List Ce
   pub answered : IsAnswered table h.configuration (received_packets h cells) answer
   pub named : IsNamedIn h answer object
 
--- What is received by the cells of a list, whoever sent them, and where one sender did.
+-- A head's cells are more than the others from some place on, and those since then determine its object: no other makes their packets.
+pub record IsLedObject (table : List TableRow) (cells : List Cell) (object : List ℕ) : Type 0 where
+  pub head : Head
+  pub honest : IsHonestHead table head object cells
+  pub few : length cells < 2 ^ 64
+  pub from : ℕ
+  pub within : from ≤ length cells
+  pub leads : LeadsFrom head from cells
+  pub only : IsOnlyObject table head.configuration (received_packets head (drop from cells)) object
+
+-- What is received by the cells of a list, whoever sent them, where a head leads, and where one sender did.
 pub record IsListObject (table : List TableRow) (cells : List Cell) (object : Option (List ℕ)) : Type 0 where
   pub whoever : IfSome object (IsReceivedOf table cells)
+  pub led : (x : List ℕ) → IsLedObject table cells x → object ≡ Some x
   pub one_sender : (h : Head) → IsTakenHead table h → IsOneSender table h cells → ((cells ≡ []) × (object ≡ None)) ⊎ IsReceivedExactly table h cells object
 
 -- the list that an object spells, where it is that of the part of an index of a stream
@@ -90,16 +103,32 @@ pub record IsListIn (table : List TableRow) (key : Key) (stream : List ℕ) (cel
   pub received : IsListObject table (list_cells i cells) object
   pub list_is : o ≡ option_and_then (list_of_part key (greatest_size table) stream i) object
 
--- whether the last of some lists is that of the last part
+-- a list is that of the last part
 abbrev pub is_last_of : DigestList → Bool
 is_last_of l = is_last_part l.head
 
--- These are the lists of the first parts, up to the last part's, or the first that isn't there.
-pub record AreLists (table : List TableRow) (key : Key) (stream : List ℕ) (cells : List Cell) (lists : List DigestList) : Type 0 where
+-- Some lists are those of the first parts.
+pub record AreFirstLists (table : List TableRow) (key : Key) (stream : List ℕ) (cells : List Cell) (lists : List DigestList) : Type 0 where
   pub each : (i : ℕ) (d : DigestList) → i < length lists → IsListIn table key stream cells i (Some (listed_of (slice_index_or lists i d)))
-  pub usable : All (λ l. IsList (listed_of l)) lists
   pub few : length lists ≤ greatest_count
-  pub ends : list_any is_last_of lists ≡ false → length lists < greatest_count → IsListIn table key stream cells (length lists) None
+
+-- They are those of all parts: the last one, and it alone, is that of the last part.
+pub record AreAllLists (table : List TableRow) (key : Key) (stream : List ℕ) (cells : List Cell) (lists : List DigestList) : Type 0 where
+  pub are : AreFirstLists table key stream cells lists
+  pub some : 0 < length lists
+  pub last : (i : ℕ) (d : DigestList) → i < length lists → is_last_of (slice_index_or lists i d) ≡ (i + 1 == length lists)
+
+-- A list isn't there: none of the first ones is that of the last part, and behind them there is none, or no number for one.
+pub record LacksList (table : List TableRow) (key : Key) (stream : List ℕ) (cells : List Cell) : Type 0 where
+  pub first : List DigestList
+  pub are : AreFirstLists table key stream cells first
+  pub none_last : (i : ℕ) (d : DigestList) → i < length first → is_last_of (slice_index_or first i d) ≡ false
+  pub lacks : length first < greatest_count → IsListIn table key stream cells (length first) None
+
+-- the lists of all parts, where none is lacking
+abbrev pub AreLists : List TableRow → Key → List ℕ → List Cell → Option (List DigestList) → Type 0
+AreLists table key stream cells (Some lists) = AreAllLists table key stream cells lists
+AreLists table key stream cells None = LacksList table key stream cells
 
 -- ---- what is read
 
@@ -128,8 +157,8 @@ pub record IsReceivingLists (table : List TableRow) (key : Key) (stream : List �
   pub passed : HasPassed (list_source key stream) past came pass
   pub has : HasLists table came r
 
--- These lists stand in what was read.
-pub record ReadsLists (table : List TableRow) (key : Key) (stream : List ℕ) (before after : Option (List ℕ)) (lists : List DigestList) : Type 0 where
+-- The lists of all parts stand in what was read, or one of them doesn't.
+pub record ReadsLists (table : List TableRow) (key : Key) (stream : List ℕ) (before after : Option (List ℕ)) (lists : Option (List DigestList)) : Type 0 where
   pub past : List ℕ
   pub read : Consumes before after past
   pub all : IsRead past after

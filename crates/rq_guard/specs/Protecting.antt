@@ -1,4 +1,4 @@
--- How a guard is written: of each part of a file the cells of its list, and repair packets.
+-- How a guard is written: of each part of a file the cells of its list, and between the halves of these repair packets.
 use Rattle.std.specs.Prelude.{◌≡◌, ◌⊎◌, ⊤, ℕ, zero, suc, ◌+◌, ◌*◌, ◌<◌, ◌≤◌, ◌==◌, Bool, List, [], ◌++◌, length, take, map, Option, Some}
 use Rattle.std.specs.List.{range_with_len, sum_by}
 use Rattle.std.specs.Io.KnownBytes.{Consumes, Appends, IsAtEnd}
@@ -22,10 +22,13 @@ use Rattle.rq_cast.specs.Laws.{SendAllParts, HaveBytes}
 use Rattle.rq_cast.specs.Output.{counting}
 use Rattle.rq_cast.specs.Parts.{greatest_count, object_of, source_digests, name_of_part, part_head}
 use Rattle.rq_cast.specs.Preparing.{IsFitting, RefusesFitting}
+use Rattle.rq_cast.specs.Calls.{Call, lost_in}
 use Rattle.rq_cast.specs.Sent.{Sending, Encodes, IsSendingOf, IsSeries, cell_count, AreSent, StopsBehind}
 use Rattle.rq_cast.specs.SentParts.{bytes_of_part, last_index, IsRead, names_of}
 use Rattle.rq_guard.specs.declared.protecting.GuardOrder.{GuardOrder}
 use Rattle.rq_guard.specs.declared.protecting.Guarded.{Guarded}
+use Rattle.rq_guard.specs.declared.protecting.Half.{Half}
+use Rattle.rq_guard.specs.declared.protecting.Half.TheVariants.{Source, Spare}
 use Rattle.rq_guard.specs.Layout.{IsLayout}
 use Rattle.rq_guard.specs.Lists.{Listed, listed_length, list_symbol_size, list_number, list_bytes, list_at}
 
@@ -41,14 +44,19 @@ list_head h c object =
     let number = list_number h.number in
     record { stream = h.stream; number = number; name = name_of_part number c object; configuration = c }
 
--- It sends a list, in its default configuration: of each block as many repair packets as the largest one has source symbols.
-pub record IsListSending (key : Key) (l : Listed) (s : Sending) : Type 0 where
+-- which packets of blocks of k source symbols at most: their source packets, or repair packets alone, two more than k
+abbrev pub IsListSeries : Half → ℕ → Series → Type 0
+IsListSeries Source k s = IsSeries 0 1 k s
+IsListSeries Spare k s = IsSeries k 1 (2 * k + 2) s
+
+-- It sends a half of a list, in its default configuration.
+pub record IsListSending (key : Key) (l : Listed) (half : Half) (s : Sending) : Type 0 where
   pub table : List TableRow
   pub fitting : IsFitting (length (list_bytes key l)) list_symbol_size table s.encoded.configuration
   pub encodes : Encodes table (list_bytes key l) s.encoded
   pub head : s.head ≡ list_head l.head s.encoded.configuration (list_bytes key l)
   pub keyed : s.key ≡ key
-  pub series : IsSeries 0 1 (2 * largest_block s.encoded.configuration) s.series
+  pub series : IsListSeries half (largest_block s.encoded.configuration) s.series
 
 -- what is refused of a list: its configuration, or its encoder
 abbrev pub RefusesList : Key → Listed → Error → Type 0
@@ -70,15 +78,17 @@ pub record IsRepairSending (repair : Repair) (key : Key) (is_last : Bool) (names
   pub keyed : s.key ≡ key
   pub series : IsRepairSeries repair (largest_block s.encoded.configuration) s.series
 
--- what sends the cells of a part's list, and then the part's
+-- what sends the source cells of a part's list, then the part's, and then the list's repair cells
 pub record Guarding : Type 0 where
   pub list : Sending
   pub part : Sending
+  pub spare : Sending
 
 -- They send what guards bytes, as the part behind parts of these names.
 pub record IsGuarding (order : GuardOrder) (key : Key) (is_last : Bool) (names : List (List ℕ)) (bytes : List ℕ) (g : Guarding) : Type 0 where
   pub part : IsRepairSending order.repair key is_last names (object_of is_last names bytes) g.part
-  pub list : IsListSending key (list_of_part g.part.head (object_of is_last names bytes)) g.list
+  pub list : IsListSending key (list_of_part g.part.head (object_of is_last names bytes)) Source g.list
+  pub spare : IsListSending key (list_of_part g.part.head (object_of is_last names bytes)) Spare g.spare
 
 -- what is refused of a part: memory, its layout, its encoder, or its list
 abbrev pub RefusesGuarding : Key → Bool → List (List ℕ) → List ℕ → Error → Type 0
@@ -89,19 +99,23 @@ RefusesGuarding key is_last names bytes e =
     ⊎ ((c : Configuration) × IsLayout (length object) c
     × (RefusesEncoder full_rows c (length object) e ⊎ RefusesList key (list_of_part (part_head is_last names c object) object) e)))
 
--- how many cells are sent of both
+-- how many cells are sent of all
 abbrev pub guard_cells : Guarding → ℕ
-guard_cells g = cell_count g.list + cell_count g.part
+guard_cells g = cell_count g.list + cell_count g.part + cell_count g.spare
 
 -- ---- what is written
 
 -- all cells, none of which is lost
 abbrev pub AreAllSent : Sending → List ℕ → Type 0
-AreAllSent s written = AreSent s (cell_count s) written 0
+AreAllSent s written = (calls : List Call) × AreSent s (cell_count s) written calls × (lost_in calls ≡ 0)
 
--- those of a list, and then those of its part
+-- all of one sender's, and behind them what has a property
+abbrev pub AllThen : Sending → (List ℕ → Type 0) → List ℕ → Type 0
+AllThen s P written = (front : List ℕ) × (rest : List ℕ) × AreAllSent s front × P rest × (written ≡ front ++ rest)
+
+-- all that guard a part, in their order
 abbrev pub IsGuardOf : Guarding → List ℕ → Type 0
-IsGuardOf g written = (listed : List ℕ) × (repair : List ℕ) × AreAllSent g.list listed × AreAllSent g.part repair × (written ≡ listed ++ repair)
+IsGuardOf g = AllThen g.list (AllThen g.part (AreAllSent g.spare))
 
 -- those of the first n parts, one part behind another
 abbrev pub AreGuarded : (ℕ → Guarding) → ℕ → List ℕ → Type 0
@@ -136,22 +150,24 @@ pub record Protects (order : GuardOrder) (key : Key) (before after there then : 
 
 -- ---- where something stops it
 
--- Some first cells are written but for so many that were lost, and perhaps a beginning of the next one.
+-- Some first cells are written as these calls began them, and perhaps a beginning of the next one by one more.
 pub record StopsCells (s : Sending) (stop : Stop) (written : List ℕ) : Type 0 where
   pub number : ℕ
   pub within : number ≤ cell_count s
   pub cells : List ℕ
-  pub lost : ℕ
-  pub sent : AreSent s number cells lost
+  pub calls : List Call
+  pub sent : AreSent s number cells calls
   pub behind : List ℕ
-  pub stopped : StopsBehind s number behind stop
+  pub more : List Call
+  pub stopped : StopsBehind s number behind more stop
   pub is : written ≡ cells ++ behind
 
--- Some first cells of the list, or all of them and some first ones of the part.
+-- Some first cells of one sender, behind all of those before it.
 abbrev pub StopsIn : Guarding → Stop → List ℕ → Type 0
 StopsIn g stop written =
     StopsCells g.list stop written
-    ⊎ ((listed : List ℕ) × (rest : List ℕ) × AreAllSent g.list listed × StopsCells g.part stop rest × (written ≡ listed ++ rest))
+    ⊎ (AllThen g.list (StopsCells g.part stop) written
+    ⊎ AllThen g.list (AllThen g.part (StopsCells g.spare stop)) written)
 
 -- Nothing of the part of an index is written: a call failed, memory is refused, its object is when it is read, or it has no number.
 abbrev pub StopsUnguarded : GuardOrder → Key → List ℕ → (ℕ → Guarding) → ℕ → Option (List ℕ) → Stop → Type 0
@@ -184,15 +200,26 @@ pub record StopsProtecting (order : GuardOrder) (key : Key) (before after there 
   pub stopped : (StopsUnguarded order key input of index after stop × (next ≡ [])) ⊎ StopsInPart order key input of index after stop next
   pub appended : Appends there then (front ++ next)
 
--- ---- what one sender does
+-- ---- what senders do
 
--- All its cells are written, none of which is lost.
+-- Bytes with a property are written behind what stood there.
+abbrev pub Adds : (List ℕ → Type 0) → Option (List ℕ) → Option (List ℕ) → Type 0
+Adds P there then = (written : List ℕ) × P written × Appends there then written
+
+-- All cells of one are written, none of which is lost.
 abbrev pub SendsAll : Sending → Option (List ℕ) → Option (List ℕ) → Type 0
-SendsAll s there then = (written : List ℕ) × AreAllSent s written × Appends there then written
+SendsAll s = Adds (AreAllSent s)
 
 -- Some first ones are, and then something stops it.
 abbrev pub StopsAll : Sending → Option (List ℕ) → Option (List ℕ) → Stop → Type 0
-StopsAll s there then stop = (written : List ℕ) × StopsCells s stop written × Appends there then written
+StopsAll s there then stop = Adds (StopsCells s stop) there then
+
+-- so it is of all that guard a part
+abbrev pub SendsGuard : Guarding → Option (List ℕ) → Option (List ℕ) → Type 0
+SendsGuard g = Adds (IsGuardOf g)
+
+abbrev pub StopsGuard : Guarding → Option (List ℕ) → Option (List ℕ) → Stop → Type 0
+StopsGuard g there then stop = Adds (StopsIn g stop) there then
 
 -- ---- failed calls
 

@@ -11,7 +11,7 @@ use Rattle.rq_guard.specs.declared.protecting.Senders.{Senders}
 use Rattle.rq_guard.specs.Protecting.{Guarding, IsGuarding, RefusesGuarding, guard_cells, IsGuardOf, StopsIn}
 
 abbrev pub guarding_of : Senders → Guarding
-guarding_of s = record { list = sending_of s.list; part = sending_of s.part }
+guarding_of s = record { list = sending_of s.list; part = sending_of s.part; spare = sending_of s.spare }
 
 -- Bytes are guarded as the part behind parts of these names.
 pub record GuardsPart (is_last : Bool) (names : List (List ℕ)) (bytes : List ℕ) (old new : Protector) (there then : Option (List ℕ)) : Type 0 where

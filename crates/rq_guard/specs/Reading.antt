@@ -1,7 +1,7 @@
 -- What is read of a guard in a pass over it, or in a part of one.
 use Rattle.std.specs.Prelude.{◌≡◌, ◌⊎◌, ℕ, ◌-◌, ◌^◌, ◌<◌, ◌≤◌, List, [], ◌++◌, length, map, filter, All, Bool, false, Option, Some, None, Vec, take, slice_index_or, nat_lt}
 use Rattle.std.specs.Global.{Global}
-use Rattle.std.specs.Io.KnownBytes.{Consumes, Appends, IsAtEnd}
+use Rattle.std.specs.Io.KnownBytes.{Consumes, Keeps, Appends, IsAtEnd}
 use Rattle.rq_standard.specs.declared.row.TableRow.{TableRow}
 use Rattle.rq_cells.specs.declared.head.Head.{Head}
 use Rattle.rq_cells.specs.declared.cell.Cell.{Cell}
@@ -97,12 +97,25 @@ pub record MendsPart (table : List TableRow) (key : Key) (names : List (List ℕ
   pub takes : TakesMore table old (whole_cells l (object_there l.head names there) ++ cells_with key l.head past) bytes new
   pub all : bytes ≡ [] → has_mended_last new ≡ false → IsRead past guard'
 
--- The next part of those that are listed is mended so, and written behind what stood there: where it is mended, and nothing where it isn't determined.
+-- so the next part is mended of those that are listed
+abbrev pub MendsNext : List TableRow → Key → List DigestList → Option (List ℕ) → Option (List ℕ) → Option (List ℕ) → Option (List ℕ) → Mending → List ℕ
+    → Mending → Type 0
+MendsNext table key lists file file' guard guard' old bytes new =
+    let next = mended_parts old in
+    (d : DigestList) → MendsPart table key (names_listed (take next lists)) (listed_of (slice_index_or lists next d)) file file' guard guard' old bytes new
+
+-- It is, and is written behind what stood there: where it is mended, and nothing where it isn't determined.
 pub record RepairsPart (table : List TableRow) (key : Key) (lists : List DigestList) (file file' guard guard' there then : Option (List ℕ)) (old new : Mending)
     (mended : Bool)
     : Type 0 where
   pub bytes : List ℕ
-  pub mends : (d : DigestList)
-      → MendsPart table key (names_listed (take (mended_parts old) lists)) (listed_of (slice_index_or lists (mended_parts old) d)) file file' guard guard' old bytes new
+  pub mends : MendsNext table key lists file file' guard guard' old bytes new
   pub written : Appends there then bytes
   pub mended_is : mended ≡ nat_lt (mended_parts old) (mended_parts new)
+
+-- Something stops it: nothing is written, or a beginning of the part, which is mended so.
+abbrev pub StopsRepair : List TableRow → Key → List DigestList → Option (List ℕ) → Option (List ℕ) → Option (List ℕ) → Option (List ℕ) → Option (List ℕ)
+    → Option (List ℕ) → Mending → Mending → Type 0
+StopsRepair table key lists file file' guard guard' there then old new =
+    Keeps there then
+    ⊎ ((bytes : List ℕ) × (count : ℕ) × MendsNext table key lists file file' guard guard' old bytes new × Appends there then (take count bytes))

@@ -9,7 +9,7 @@ use crate::list::DigestList;
 use raptorq::{BlockLayout, block_symbols};
 use rq_base::base::{EncodingPacket, PayloadId};
 use rq_bytes::error::Error;
-use rq_cast::{SEAL_LENGTH, bytes_of_block, source_digests};
+use rq_cast::{SEAL_LENGTH, bytes_of_block, first_bytes, source_digests};
 use rq_cells::{Cell, DIGEST_LENGTH, FoundCell, Head, LAST_PART};
 use sha2::{Digest, Sha512};
 use std::alloc::{AllocError, Global};
@@ -24,15 +24,6 @@ pub fn part_length(head: &Head) -> u64
     } else {
         length
     }
-}
-
-// The first bytes of a hash.
-fn first_bytes(hash: &[u8; 64]) -> [u8; SEAL_LENGTH]
-    ensures { result ≡ take 32 hash.now }
-{
-    let mut first = [0; SEAL_LENGTH];
-    first.copy_from_slice(&hash[..SEAL_LENGTH]);
-    first
 }
 
 // What ends the last part, behind those that are listed.

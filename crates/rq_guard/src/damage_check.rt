@@ -101,9 +101,9 @@ fn is_at_end<F: Read>(file: &mut Counted<F>) -> Result<bool, Stop>
     Ok(n == 0)
 }
 
-/// What is damaged of a file, by the lists of all its parts: each part is read where it stands, and it is whole exactly
-/// where each symbol has its digest, and the file ends where its parts do. A failed call ends it with
-/// [`Stop::Fault`]. Refuses [`Error::OutOfMemory`](rq_bytes::error::Error::OutOfMemory) alone.
+/// What is damaged of a file, by the lists of all its parts ([`lists_in`](crate::lists_in)): each part is read where it
+/// stands, and it is whole exactly where each symbol has its digest, and the file ends where its parts do. A failed
+/// call ends it with [`Stop::Fault`]. Refuses [`Error::OutOfMemory`](rq_bytes::error::Error::OutOfMemory) alone.
 pub fn check_file<F: Read>(
     alloc: Global,
     lists: &[DigestList],

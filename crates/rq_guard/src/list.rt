@@ -1,8 +1,10 @@
 //! The digests of a part's symbols, by which damage shows.
-ghost use Rattle.std.specs.Prelude.{◌≡◌, ◌↔◌, ◌*◌, ◌/◌, ◌<◌, ◌≤◌, Ok, IfOk, IfErr, map, take, drop, length, option_map, slice_get, Some, true};
+ghost use Rattle.std.specs.Prelude.{◌≡◌, ◌↔◌, ◌*◌, ◌/◌, ◌<◌, ◌≤◌, Ok, IfOk, IfErr, IfSome, map, take, drop, length, option_map, slice_get, Some, true};
 ghost use Rattle.std.specs.List.{range_with_len};
 ghost use Rattle.rq_bytes.specs.Refusals.{IsAnswer};
+ghost use Rattle.rq_standard.specs.Configuration.{largest_block};
 ghost use Rattle.rq_standard.specs.TableRows.{greatest_size};
+ghost use Rattle.rq_guard.specs.Damage.{IsList};
 ghost use Rattle.rq_guard.specs.Lists.{is_listable};
 
 use rq_bytes::error::Error;
@@ -40,13 +42,15 @@ fn first_bytes(digest: &[u8]) -> [u8; LISTED_LENGTH]
 
 // Whether so many bytes are the list of a part with a head.
 fn is_listable(head: &Head, table: &SystematicTable, length: usize) -> bool
-    ensures { result ≡ is_listable (greatest_size table.now) head.now length }
+    ensures value { result ≡ is_listable (greatest_size table.now) head.now length }
+    ensures few { result ≡ true → largest_block head.now.configuration < 65536 }
 {
     let configuration = &head.configuration;
-    if configuration.check(table).is_err() || configuration.source_blocks() != 1 {
+    if configuration.check(table).is_err() {
         return false;
     }
-    length as u64 == HEAD_LENGTH as u64 + LISTED_LENGTH as u64 * configuration.total_symbols()
+    let many = HEAD_LENGTH as u64 + LISTED_LENGTH as u64 * configuration.total_symbols();
+    configuration.source_blocks() == 1 && length as u64 == many
 }
 
 // The digests that stand one behind another.
@@ -105,6 +109,7 @@ impl DigestList {
         bytes: &[u8],
     ) -> Result<Option<DigestList>, Error>
         ensures list { IfOk result (λ l. option_map listed_of l ≡ list_at key.now (greatest_size table.now) bytes.now) }
+        ensures usable { IfOk result (λ o. IfSome o (λ l. IsList (listed_of l))) }
         ensures memory { IfErr result (λ e. e ≡ Error.OutOfMemory) }
     {
         let Some(head) = Head::read(key, bytes) else {

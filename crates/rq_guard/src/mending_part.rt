@@ -1,5 +1,5 @@
 //! A part of a file and of its guard.
-ghost use Rattle.std.specs.Prelude.{◌≡◌, ◌+◌, ◌-◌, ◌^◌, ◌<◌, length, All, OnOk, IfOk, IfErr};
+ghost use Rattle.std.specs.Prelude.{◌≡◌, ◌+◌, ◌-◌, ◌^◌, ◌<◌, length, All, OnOk, OnErr, IfOk, IfErr};
 ghost use Rattle.rq_streams.specs.Counted.{failed_count, inner};
 ghost use Rattle.rq_streams.specs.Ends.{failed_calls};
 ghost use Rattle.rq_cells.specs.Scans.{HasDigest};
@@ -7,7 +7,7 @@ ghost use Rattle.rq_cast.specs.Reading.{IsStopOfReads};
 ghost use Rattle.rq_guard.specs.Lists.{listed_of};
 ghost use Rattle.rq_guard.specs.Damage.{IsList};
 ghost use Rattle.rq_guard.specs.Mending.{IsSoundMending, mended_parts};
-ghost use Rattle.rq_guard.specs.Reading.{names_listed, cells_of, ReadsWhole, MendsPart, RepairsPart};
+ghost use Rattle.rq_guard.specs.Reading.{names_listed, cells_of, ReadsWhole, MendsPart, RepairsPart, StopsRepair};
 
 use crate::damage::{object_there, part_length, whole_cells};
 use crate::list::DigestList;
@@ -73,9 +73,10 @@ pub fn mend_part<F: Read, G: Read>(
     mending.take_from(alloc, by, &list.head, guard)
 }
 
-/// Mends the next part of a file, of those that are listed, as [`mend_part`] does, and writes it. Answers whether it is
-/// mended: nothing is written where it isn't determined. A failed call ends it with [`Stop::Fault`], and a beginning
-/// of the part may be written. Refuses [`Error::OutOfMemory`](rq_bytes::error::Error::OutOfMemory) alone.
+/// Mends the next part of a file as [`mend_part`] does, by the lists of all its parts ([`lists_in`](crate::lists_in)),
+/// and writes it. Answers whether it is mended: nothing is written where it isn't determined. A failed call ends it
+/// with [`Stop::Fault`], and a beginning of the part may be written. Refuses
+/// [`Error::OutOfMemory`](rq_bytes::error::Error::OutOfMemory) alone.
 pub fn repair_part<F: Read, G: Read, W: Write>(
     alloc: Global,
     by: &Decoding<'_>,
@@ -92,6 +93,9 @@ pub fn repair_part<F: Read, G: Read, W: Write>(
     requires guard { failed_count guard.old < 2 ^ 64 - 1 }
     requires writes { failed_count writer.old < 2 ^ 64 - 1 }
     ensures repairs { IfOk result (RepairsPart by.now.table.now by.now.key.now lists.now (F.remaining (inner file.old)) (F.remaining (inner file.new))
+        (G.remaining (inner guard.old)) (G.remaining (inner guard.new)) (W.contents (inner writer.old)) (W.contents (inner writer.new))
+        mending.old mending.new) }
+    ensures stopped { OnErr result (StopsRepair by.now.table.now by.now.key.now lists.now (F.remaining (inner file.old)) (F.remaining (inner file.new))
         (G.remaining (inner guard.old)) (G.remaining (inner guard.new)) (W.contents (inner writer.old)) (W.contents (inner writer.new))
         mending.old mending.new) }
     ensures sound { OnOk result (IsSoundMending by.now.table.now mending.new) }

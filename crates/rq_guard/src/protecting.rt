@@ -38,11 +38,41 @@ pub struct Guarded {
     pub cells: u64,
 }
 
-// The sender of a list's cells: of each block of it the source symbols, and as many repair symbols as the largest
-// one has source symbols.
-fn list_sender<'a>(alloc: Global, key: &'a Key, list: &DigestList) -> Result<Sender<'a>, Error>
+// A half of a list's cells: either is enough for it.
+#[derive(Clone, Copy)]
+enum Half {
+    // Those of the source symbols.
+    Source,
+    // Of each block two more repair cells than the largest one has source symbols: so many don't determine it once in
+    // a million.
+    Spare,
+}
+
+impl Half {
+    ghost use Rattle.rq_guard.specs.Protecting.{IsListSeries};
+
+    // The ids, where the largest block has so many source symbols.
+    fn series(self, largest_block: u64) -> Series
+        requires { largest_block < 65536 }
+        ensures { IsListSeries self largest_block result }
+    {
+        let symbols = largest_block as u32;
+        match self {
+            Half::Source => Series::new(0, 1, symbols),
+            Half::Spare => Series::new(symbols, 1, 2 * symbols + 2),
+        }
+    }
+}
+
+// The sender of the cells of a half of a list.
+fn list_sender<'a>(
+    alloc: Global,
+    key: &'a Key,
+    list: &DigestList,
+    half: Half,
+) -> Result<Sender<'a>, Error>
     requires { list.now.head.number + 2 ^ 30 < 2 ^ 32 }
-    ensures sends { IfOk result (λ s. IsListSending key.now (listed_of list.now) (sending_of s)) }
+    ensures sends { IfOk result (λ s. IsListSending key.now (listed_of list.now) half (sending_of s)) }
     ensures refused { IfErr result (RefusesList key.now (listed_of list.now)) }
 {
     let serialized = list.serialize(alloc, key)?;
@@ -56,7 +86,7 @@ fn list_sender<'a>(alloc: Global, key: &'a Key, list: &DigestList) -> Result<Sen
         name: part_name(number, &configuration, digested.digests()),
         configuration,
     };
-    let series = Series::new(0, 1, 2 * digested.largest_block() as u32);
+    let series = half.series(digested.largest_block());
     Ok(Sender::new(key, digested, head, series))
 }
 
@@ -81,11 +111,56 @@ fn send_all<W: Write, P: Pace>(
     Ok(())
 }
 
-// What sends the cells of a part's list, and then the part's.
+// What sends the guard of a part, in this order: so a hole over one half of the list leaves the other.
 #[derive(Drop)]
 struct Senders<'a> {
+    // The source cells of its list.
     list: Sender<'a>,
+    // Its repair cells.
     part: Sender<'a>,
+    // The repair cells of its list.
+    spare: Sender<'a>,
+}
+
+impl Senders<'_> {
+    ghost use Rattle.rq_guard.specs.Protecting.{guard_cells, SendsGuard, StopsGuard};
+    ghost use Rattle.rq_guard.specs.ProtectingParts.{guarding_of};
+
+    // How many cells they have.
+    fn cells(&self) -> u64
+        ensures value { result ≡ guard_cells (guarding_of self.now) }
+        ensures few { result < 2 ^ 34 }
+    {
+        self.list.cells() + self.part.cells() + self.spare.cells()
+    }
+
+    // Writes all of these. It stops where one is lost.
+    fn send<W: Write, P: Pace>(
+        &self,
+        alloc: Global,
+        output: &mut Output<W>,
+        pace: &mut P,
+    ) -> Result<(), Stop>
+        requires { failed_count (counting output.old) < 2 ^ 63 }
+        ensures sends { OnOk result (SendsGuard (guarding_of self.now) (W.contents (sink output.old)) (W.contents (sink output.new))) }
+        ensures counts { OnOk result (CountsLost output.old output.new 0 0) }
+        ensures flushes { OnOk result (flushed output.new ≡ true) }
+        ensures stops { IfErr result (StopsGuard (guarding_of self.now) (W.contents (sink output.old)) (W.contents (sink output.new))) }
+        ensures failed { IfErr result (CountsFault output.old output.new) }
+    {
+        pace.begin_part(&self.part);
+        send_all(alloc, &self.list, output, pace)?;
+        send_all(alloc, &self.part, output, pace)?;
+        send_all(alloc, &self.spare, output, pace)?;
+        Ok(())
+    }
+}
+
+// The bytes of the next part of a file, and whether it is the last one.
+#[derive(Drop)]
+struct NextPart {
+    bytes: Vec<u8>,
+    is_last: bool,
 }
 
 // A file, as far as it is guarded.
@@ -97,14 +172,14 @@ struct Protector<'a> {
     names: Names,
     // Of these.
     cells: u64,
-    pub ghost few: { cells ≤ names.count * 2 ^ 33 },
+    pub ghost few: { cells ≤ names.count * 2 ^ 34 },
 }
 
 impl<'a> Protector<'a> {
     ghost use Rattle.rq_guard.specs.Protecting.{IsGuarding, RefusesGuarding};
     ghost use Rattle.rq_guard.specs.ProtectingParts.{guarding_of, GuardsPart, StopsPart};
 
-    // Makes the senders of the next part and of its list.
+    // Makes the senders of what guards the next part.
     fn prepare(&self, alloc: Global, bytes: Vec<u8>, is_last: bool) -> Result<Senders<'a>, Error>
         requires { self.now.names.count < 2 ^ 30 }
         ensures prepared { IfOk result (λ s. (before : List (List ℕ)) → AreNames before self.now.names
@@ -125,57 +200,57 @@ impl<'a> Protector<'a> {
         };
         let head = part_head(&part, digested.digests());
         let listed = DigestList::new(alloc, &head, digested.digests())?;
-        let list = list_sender(alloc, self.key, &listed)?;
+        let list = list_sender(alloc, self.key, &listed, Half::Source)?;
+        let spare = list_sender(alloc, self.key, &listed, Half::Spare)?;
         let symbols = digested.largest_block();
         let series = Series::new(symbols as u32, 1, self.order.repair.end(symbols));
         let part = Sender::new(self.key, digested, head, series);
-        Ok(Senders { list, part })
+        Ok(Senders { list, part, spare })
     }
 
     // Guards the next part.
     fn guard_part<W: Write, P: Pace>(
         &mut self,
         alloc: Global,
-        bytes: Vec<u8>,
-        is_last: bool,
+        next: NextPart,
         output: &mut Output<W>,
         pace: &mut P,
     ) -> Result<(), Stop>
         requires few { self.old.names.count < 2 ^ 30 }
         requires room { failed_count (counting output.old) < 2 ^ 63 }
         ensures guards { OnOk result ((before : List (List ℕ)) → AreNames before self.old.names
-            → GuardsPart is_last before bytes.items self.old self.new (W.contents (sink output.old)) (W.contents (sink output.new))) }
+            → GuardsPart next.is_last before next.bytes.items self.old self.new (W.contents (sink output.old)) (W.contents (sink output.new))) }
         ensures counts { OnOk result (CountsLost output.old output.new 0 0) }
         ensures flushes { OnOk result (flushed output.new ≡ true) }
         ensures stops { IfErr result (λ stop. (before : List (List ℕ)) → AreNames before self.old.names
-            → StopsPart is_last before bytes.items self.old (W.contents (sink output.old)) (W.contents (sink output.new)) stop) }
+            → StopsPart next.is_last before next.bytes.items self.old (W.contents (sink output.old)) (W.contents (sink output.new)) stop) }
         ensures failed { IfErr result (CountsFault output.old output.new) }
         ensures order { self.new.order ≡ self.old.order }
         ensures key { self.new.key.now ≡ self.old.key.now }
     {
+        let NextPart { bytes, is_last } = next;
         let senders = self.prepare(alloc, bytes, is_last)?;
-        pace.begin_part(&senders.part);
-        send_all(alloc, &senders.list, output, pace)?;
-        send_all(alloc, &senders.part, output, pace)?;
-        self.cells += senders.list.cells() + senders.part.cells();
+        senders.send(alloc, output, pace)?;
+        self.cells += senders.cells();
         self.names.push(&senders.part.head().name);
         Ok(())
     }
 }
 
-/// Writes the guard of what is read: of each of its parts first the cells of the list of its digests, and then its
-/// repair packets. It is cut into parts of so many bytes as are ordered, each of which is guarded as soon as it is
-/// read: the last one has fewer, perhaps none, and then 32 bytes that seal it, as
+/// Writes the guard of what is read: of each of its parts the source cells of the list of its digests, then its repair
+/// cells, and then the list's. It is cut into parts of so many bytes as are ordered, each of which is guarded as soon
+/// as it is read: the last one has fewer, perhaps none, and then 32 bytes that seal it, as
 /// [`send_stream`](rq_cast::send_stream) cuts a stream. The cells are those of that stream, whose parts are cut as
 /// [`layout_of`] says; their source symbols stay in the file.
 ///
 /// A [`DigestList`] is sent as a part whose number has [`LIST_PART`] too, in its default configuration (RFC 6330,
-/// 4.3) for symbols of at most [`LIST_SYMBOL_SIZE`] bytes, with as many repair packets again. Of a part the packets
-/// behind its source symbols are sent, as many as are ordered.
+/// 4.3) for symbols of at most [`LIST_SYMBOL_SIZE`] bytes. Of each of its blocks two more repair cells are sent than
+/// the largest one has source symbols. Of a part the packets behind its source symbols are sent, as many as are
+/// ordered.
 ///
 /// A part is begun before the cells of its list, and it waits before each cell ([`Pace`]). The first failed call ends
 /// it with [`Stop::Fault`], but for those by which a socket of datagrams loses a cell: they end it once the other cells
-/// of the list or of the part are written.
+/// of the part, or of that half of its list, are written.
 ///
 /// Refuses, of each part in this order, [`Error::TransferTooLong`] where 2^30 are guarded already, what [`layout_of`]
 /// refuses, and what [`Encoder::new`](raptorq::Encoder::new) refuses. [`Error::OutOfMemory`] may come before any of
@@ -213,7 +288,7 @@ pub fn protect<R: Read, W: Write, P: Pace>(
     'parts: while file.names.count < MOST_PARTS {
         let bytes = read_part(alloc, reader, order.part)?;
         let is_last = (bytes.len() as u64) < order.part;
-        file.guard_part(alloc, bytes, is_last, output, pace)?;
+        file.guard_part(alloc, NextPart { bytes, is_last }, output, pace)?;
         if is_last {
             return Ok(Guarded {
                 parts: file.names.count,

@@ -1,5 +1,5 @@
 //! The lists of a guard.
-ghost use Rattle.std.specs.Prelude.{◌≡◌, ◌≢◌, ◌+◌, ◌-◌, ◌<◌, ◌^◌, All, IsOk, List, ℕ, [], None, option_map, OnOk, IfOk, IfErr, IfSome};
+ghost use Rattle.std.specs.Prelude.{◌≡◌, ◌≢◌, ◌+◌, ◌-◌, ◌<◌, ◌^◌, All, IsOk, List, ℕ, [], None, option_map, vec_items, OnOk, IfOk, IfErr, IfSome};
 ghost use Rattle.std.specs.Ordering.{nat_cmp};
 ghost use Rattle.std.specs.BTreeMap.{get};
 ghost use Rattle.rq_standard.specs.declared.row.TableRow.{TableRow};
@@ -56,9 +56,6 @@ fn list_of_part(
     let Some(list) = DigestList::read(alloc, by.key, by.table, bytes)? else {
         return Ok(None);
     };
-    if list.head.configuration.check(by.table).is_err() {
-        return Ok(None);
-    }
     if !is_of_part(&list.head, stream, index) {
         return Ok(None);
     }
@@ -166,31 +163,31 @@ impl ListReceivers {
         Ok(())
     }
 
-    // The lists of the first parts of a stream, as far as they are received.
+    // The lists of all parts of a stream, if all of them are received.
     fn lists(
         &self,
         alloc: Global,
         by: &Decoding<'_>,
         stream: &[u8; STREAM_LENGTH],
-    ) -> Result<Vec<DigestList>, Error>
+    ) -> Result<Option<Vec<DigestList>>, Error>
         requires { AreSound by.now.table.now self.now }
-        ensures lists { IfOk result (λ v. (came : List Cell) → HasLists by.now.table.now came self.now
-            → AreLists by.now.table.now by.now.key.now stream.now came v.items) }
-        ensures usable { IfOk result (λ v. All (λ l. IsList (listed_of l)) v.items) }
+        ensures lists { IfOk result (λ o. (came : List Cell) → HasLists by.now.table.now came self.now
+            → AreLists by.now.table.now by.now.key.now stream.now came (option_map vec_items o)) }
+        ensures usable { IfOk result (λ o. IfSome o (λ v. All (λ l. IsList (listed_of l)) v.items)) }
         ensures memory { IfErr result (λ e. e ≡ Error.OutOfMemory) }
     {
         let mut lists = Vec::new(alloc);
         for index in 0..LIST_PART {
             let Some(list) = self.list(alloc, by, stream, index)? else {
-                return Ok(lists);
+                return Ok(None);
             };
             let is_last = list.head.number >= LAST_PART;
             lists.push(list)?;
             if is_last {
-                return Ok(lists);
+                return Ok(Some(lists));
             }
         }
-        Ok(lists)
+        Ok(None)
     }
 }
 
@@ -232,18 +229,19 @@ fn receive_lists<R: Read>(
     Ok(lists)
 }
 
-/// The lists in a guard of the first parts of a stream, up to that of the last part or to the first that isn't
-/// there: they are among the cells of the stream with symbols of 1024 bytes, at all places of what a reader brings.
-/// A failed call ends it with [`Stop::Fault`]. Refuses [`Error::OutOfMemory`] alone.
+/// The lists in a guard of all parts of a stream, the last of which is that of the last part: none where one of them
+/// isn't there. They are among the cells of the stream with symbols of 1024 bytes, at all places of what a reader
+/// brings. A failed call ends it with [`Stop::Fault`]. Refuses [`Error::OutOfMemory`] alone.
 pub fn lists_in<R: Read>(
     alloc: Global,
     by: &Decoding<'_>,
     stream: &[u8; STREAM_LENGTH],
     reader: &mut Counted<R>,
-) -> Result<Vec<DigestList>, Stop>
+) -> Result<Option<Vec<DigestList>>, Stop>
     requires { failed_count reader.old < 2 ^ 64 - 1 }
-    ensures lists { IfOk result (λ v. ReadsLists by.now.table.now by.now.key.now stream.now (R.remaining (inner reader.old)) (R.remaining (inner reader.new)) v.items) }
-    ensures usable { IfOk result (λ v. All (λ l. IsList (listed_of l)) v.items) }
+    ensures lists { IfOk result (λ o. ReadsLists by.now.table.now by.now.key.now stream.now (R.remaining (inner reader.old)) (R.remaining (inner reader.new))
+        (option_map vec_items o)) }
+    ensures usable { IfOk result (λ o. IfSome o (λ v. All (λ l. IsList (listed_of l)) v.items)) }
     ensures counts { failed_count reader.new ≡ failed_count reader.old + failed_calls result }
     ensures stops { IfErr result IsStopOfReads }
 {

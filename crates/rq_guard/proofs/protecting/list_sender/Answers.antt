@@ -1,10 +1,9 @@
-use Rattle.std.proofs.Common.{◌≡◌, ◌*◌, sym, ap, subst, ◌∙◌, refl, inl}
+use Rattle.std.proofs.Common.{◌≡◌, sym, ap, subst, ◌∙◌, refl, inl}
 use Rattle.std.proofs.lemmas.Result.{err_from_is_err_and}
 use Rattle.rq_base.proofs.Accepted.{same_ok}
 use Rattle.rq_cells.specs.Cells.{part_name}
-use Rattle.rq_cast.specs.Sent.{IsSeries}
 use Rattle.rq_guard.specs.Lists.{listed_of, list_bytes, list_number}
-use Rattle.rq_guard.specs.Protecting.{IsListSending}
+use Rattle.rq_guard.specs.Protecting.{IsListSeries, IsListSending}
 use Rattle.rq_guard.proofs.Guardings.{list_sending, list_unfit, list_unencoded}
 use Rattle.rq_guard.proofs.protecting.list_sender.Goals as goal
 use Rattle.rq_guard.proofs.protecting.list_sender.Goals.{After-as_slice-bytes}
@@ -39,8 +38,9 @@ returns-clause-sends c =
     let conf = c.in_ok-table.configuration in
     let made = c.in_ok-digested.ensures in
     let named = c.part_name.ensures ∙ ap (part_name (list_number h.number) conf) (c.digests.ensures ∙ made.digests) in
-    subst (IsListSending key (listed_of c.args.list.now)) (sym c.new-2.ensures)
-    (list_sending key (listed_of c.args.list.now) c.as_slice-bytes.result.now (are moved) _ conf _ c.in_ok-table.ensures.fits made.encodes made.configuration
+    subst (IsListSending key (listed_of c.args.list.now) c.args.half) (sym c.new-2.ensures)
+    (list_sending key (listed_of c.args.list.now) c.as_slice-bytes.result.now (are moved) c.args.half _ conf _ c.in_ok-table.ensures.fits made.encodes
+    made.configuration
     (λ j. record { stream = h.stream; number = list_number h.number; name = named j; configuration = conf })
     refl
-    (subst (λ k. IsSeries 0 1 (2 * k) c.new-series.result) c.largest_block.ensures.value c.new-series.ensures))
+    (subst (λ k. IsListSeries c.args.half k c.series-series.result) c.largest_block.ensures.value c.series-series.ensures))

@@ -1,5 +1,6 @@
 use Rattle.std.proofs.Common.{◌≡◌, ◌^◌, ◌<◌, List, ℕ, map, take, refl, sym, ap, subst, ◌∙◌, inl, arith}
 use Rattle.std.proofs.lemmas.Result.{err_from_is_err_and}
+use Rattle.rq_bytes.specs.declared.error.Error.{Error}
 use Rattle.rq_standard.specs.Configuration.{largest_block}
 use Rattle.rq_cells.specs.declared.head.Head.{Head}
 use Rattle.rq_cast.specs.Ids.{IsIdEnd}
@@ -7,8 +8,9 @@ use Rattle.rq_cast.specs.Names.{AreNames}
 use Rattle.rq_cast.specs.Parts.{object_of, part_head}
 use Rattle.rq_cast.specs.Sent.{Sending, IsSeries, encoded_by, sending_of}
 use Rattle.rq_guard.specs.declared.list.DigestList.{DigestList}
+use Rattle.rq_guard.specs.declared.protecting.Half.TheVariants.{Source, Spare}
 use Rattle.rq_guard.specs.Lists.{listed_of, list_number}
-use Rattle.rq_guard.specs.Protecting.{list_of_part, IsListSending, RefusesList, IsRepairSeries, IsRepairSending}
+use Rattle.rq_guard.specs.Protecting.{list_of_part, IsListSending, RefusesList, IsRepairSeries, IsRepairSending, RefusesGuarding}
 use Rattle.rq_guard.specs.ProtectingParts.{guarding_of}
 use Rattle.rq_guard.proofs.Guardings.{guarding_by, repair_sending, no_layout, no_encoder, no_list, list_is, list_number_fits, table_memory, table_full}
 use Rattle.rq_guard.proofs.protecting.Protector.prepare.Goals as goal
@@ -65,6 +67,14 @@ module _ (c : After-new-2) (before : List (List ℕ)) (are : AreNames before c.a
       list_is (listed_of l) c.part_head-head.result head c.in_ok-configuration.configuration c.as_slice-object.result.now c.digests-2.result.now headed digests
       (c.digests-2.ensures ∙ c.in_ok-digested.ensures.digests) is_head refl
 
+  -- a half of the list is refused
+  unlisted : (l : DigestList) (e : Error) → l.head ≡ c.part_head-head.result → l.digests.items ≡ map (take 16) c.digests-2.result.now
+      → c.as_slice-object.result.now ≡ object_of c.args.is_last before c.args.bytes.items → RefusesList c.args.self.now.key.now (listed_of l) e
+      → RefusesGuarding c.args.self.now.key.now c.args.is_last before c.args.bytes.items e
+  unlisted l e headed digests object refuses =
+      no_list c.args.self.now.key.now c.args.is_last before c.args.bytes.items c.as_slice-object.result.now object c.in_ok-configuration.configuration e
+      c.in_ok-configuration.ensures.layout (subst (λ k. RefusesList c.args.self.now.key.now k e) (is_listed l headed digests) refuses)
+
 pub list_sender-requires : goal.list_sender-requires
 list_sender-requires c =
     let number = ap (λ (h : Head). h.number) c.in_ok-listed.ensures.head ∙ c.part_head-head.ensures.number in
@@ -76,10 +86,17 @@ returns-in_err-list-clause-refused c =
     let p = err_from_is_err_and c.from_residual-in_err-list.result c.from_residual-in_err-list.ensures.1 in
     let made = c.in_ok-listed.ensures in
     rw (p.1, p.2) (λ before are.
-    no_list c.args.self.now.key.now c.args.is_last before c.args.bytes.items c.as_slice-object.result.now (is_object at.After-as_slice-object before are)
-    c.in_ok-configuration.configuration c.in_err-list.field-0.0 c.in_ok-configuration.ensures.layout
-    (subst (λ l. RefusesList c.args.self.now.key.now l c.in_err-list.field-0.0) (is_listed at.After-new-2 before are c.in_ok-listed.listed made.head made.digests)
-    c.in_err-list.ensures.refused))
+    unlisted at.After-new-2 before are c.in_ok-listed.listed c.in_err-list.field-0.0 made.head made.digests (is_object at.After-as_slice-object before are)
+    c.in_err-list.ensures.refused)
+
+pub returns-in_err-spare-clause-refused : goal.returns-in_err-spare-clause-refused
+returns-in_err-spare-clause-refused c =
+    let at = goal.at.returns-in_err-spare-clause-refused c in
+    let p = err_from_is_err_and c.from_residual-in_err-spare.result c.from_residual-in_err-spare.ensures.1 in
+    let made = c.in_ok-listed.ensures in
+    rw (p.1, p.2) (λ before are.
+    unlisted at.After-new-2 before are c.in_ok-listed.listed c.in_err-spare.field-0.0 made.head made.digests (is_object at.After-as_slice-object before are)
+    c.in_err-spare.ensures.refused)
 
 pub returns-clause-prepared : goal.returns-clause-prepared
 returns-clause-prepared c before are =
@@ -99,9 +116,9 @@ returns-clause-prepared c before are =
     subst (IsRepairSending s.order.repair key c.args.is_last before object) (sym c.new-part.ensures)
     (repair_sending s.order.repair key c.args.is_last before object _ c.in_ok-configuration.configuration _ (table_full _ c.in_ok-table.ensures)
     (omega (arith, c.requires, are.count)) c.in_ok-configuration.ensures.layout digested.encodes digested.configuration headed refl series) in
+    let listed = is_listed at.After-new-2 before are c.in_ok-listed.listed made.head made.digests
+    ∙ ap (λ h. list_of_part h object) (sym (ap (λ (k : Sending). k.head) c.new-part.ensures ∙ headed)) in
     guarding_by key c.args.is_last before c.args.bytes.items object (is_object at.After-as_slice-object before are) s.order
-    (guarding_of (record { list = c.in_ok-list.list; part = c.new-part.result })) sends
-    (subst (λ l. IsListSending key l (sending_of c.in_ok-list.list))
-    (is_listed at.After-new-2 before are c.in_ok-listed.listed made.head made.digests
-    ∙ ap (λ h. list_of_part h object) (sym (ap (λ (k : Sending). k.head) c.new-part.ensures ∙ headed)))
-    c.in_ok-list.ensures.sends)
+    (guarding_of (record { list = c.in_ok-list.list; part = c.new-part.result; spare = c.in_ok-spare.spare })) sends
+    (subst (λ l. IsListSending key l Source (sending_of c.in_ok-list.list)) listed c.in_ok-list.ensures.sends)
+    (subst (λ l. IsListSending key l Spare (sending_of c.in_ok-spare.spare)) listed c.in_ok-spare.ensures.sends)

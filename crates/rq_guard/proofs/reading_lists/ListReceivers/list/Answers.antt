@@ -22,3 +22,8 @@ pub returns-in-None-clause-list : goal.returns-in-None-clause-list
 returns-in-None-clause-list c =
     let is = c.in-None.ensures ∙ ap (option_and_then (λ (p : PartReceiver). option_map vec_items p.attempt.object)) c.in-Some.ensures.value in
     list_said c.args.by.now.table.now c.args.by.now.key.now c.args.stream.now c.args.self.now c.args.index None None c.requires.sound is refl
+
+pub returns-in_default-clause-list : goal.returns-in_default-clause-list
+returns-in_default-clause-list c =
+    let is = ap (option_and_then (λ (p : PartReceiver). option_map vec_items p.attempt.object)) c.in_default.ensures.value in
+    list_said c.args.by.now.table.now c.args.by.now.key.now c.args.stream.now c.args.self.now c.args.index None None c.requires.sound is refl

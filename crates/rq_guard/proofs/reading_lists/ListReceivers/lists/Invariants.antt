@@ -1,6 +1,5 @@
 use Rattle.std.proofs.Common.{◌≡◌, ◌<◌, ℕ, List, length, All, false, Some}
 use Rattle.std.specs.Prelude.{slice_index_or}
-use Rattle.std.specs.List.{list_any}
 use Rattle.rq_cells.specs.declared.cell.Cell.{Cell}
 use Rattle.rq_guard.specs.declared.list.DigestList.{DigestList}
 use Rattle.rq_guard.specs.Lists.{listed_of}
@@ -15,5 +14,5 @@ invariant-loop-index l = record {
   each : (came : List Cell) → HasLists l.by.table.now came l.self → (i : ℕ) (d : DigestList) → i < length l.lists.items
       → IsListIn l.by.table.now l.by.key.now l.stream came i (Some (listed_of (slice_index_or l.lists.items i d)));
   usable : All (λ m. IsList (listed_of m)) l.lists.items;
-  open_still : list_any is_last_of l.lists.items ≡ false;
+  none_last : (i : ℕ) (d : DigestList) → i < length l.lists.items → is_last_of (slice_index_or l.lists.items i d) ≡ false;
 }

@@ -1,0 +1,7 @@
+//! Tests of guards.
+#![tactic(auto)]
+
+#[cfg(test)]
+mod compare;
+#[cfg(test)]
+mod tests;
