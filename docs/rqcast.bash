@@ -5,7 +5,7 @@ _rqcast() {
     local words="-k --key -q --quiet --progress --json -h --help -V --version"
     COMPREPLY=()
     if [ "$COMP_CWORD" -eq 1 ]; then
-        mapfile -t COMPREPLY < <(compgen -W "send receive info -h --help -V --version" -- "$word")
+        mapfile -t COMPREPLY < <(compgen -W "send receive info protect check repair -h --help -V --version" -- "$word")
         return
     fi
     case $before in
@@ -15,7 +15,9 @@ _rqcast() {
     esac
     case ${COMP_WORDS[1]} in
         send) words+=" --part -c --cell -l --loss -r --repair --rate --share --from --rounds" ;;
-        receive) words+=" -o --output --follow --timeout --name --not --window" ;;
+        receive) words+=" -o --output --follow --timeout --state --name --not --window" ;;
+        protect) words+=" --part -r --repair -o --output" ;;
+        repair) words+=" -o --output" ;;
     esac
     if [[ $word == -* ]]; then
         mapfile -t COMPREPLY < <(compgen -W "$words" -- "$word")

@@ -13,22 +13,26 @@ use Rattle.rq_streams.specs.declared.run.Stop.{Stop}
 use Rattle.rq_streams.specs.declared.run.Stop.TheVariants.{Refused}
 use Rattle.rq_words.specs.declared.values.TheConstants.{WIDEST_WINDOW}
 use Rattle.rq_words.specs.declared.jobs.Job.{Job}
-use Rattle.rq_words.specs.declared.jobs.Job.TheVariants.{Send, Receive, Follow, Info}
+use Rattle.rq_words.specs.declared.jobs.Job.TheVariants.{Send, Receive, Follow, Info, Protect, Check, Repair}
 use Rattle.rq_command.specs.declared.ending.End.{End}
-use Rattle.rq_command.specs.declared.ending.End.TheVariants.{Unasked, AtTerminal, EmptyKey, Sent, Changed, Received, Followed, Surveyed, Stopped}
+use Rattle.rq_command.specs.declared.ending.End.TheVariants.{Unasked, AtTerminal, EmptyKey, Sent, Changed, Received, Followed, Surveyed, Protected, Checked, Repaired, Stopped}
 use Rattle.rq_words.specs.Asked.{AsksFor}
 use Rattle.rq_command.specs.Following.{Folder}
 use Rattle.rq_command.specs.Keyed.{IsKeyOf}
+use Rattle.rq_command.specs.Outside.{KnownCalls, Outside}
 use Rattle.rq_command.specs.Placed.{Contents}
 use Rattle.rq_command.specs.Program.{Does, EndsJob, MindsTerminal, is_at_terminal, Lists, RefusesLength, StopsUnsent, end_of}
 
-module _ (words : List (List ℕ)) (terminal : Option Bool) (stands : List (List ℕ) → Contents) (blank : Contents) where
-  pub does : (ended : End) (old new : Contents) (held held' : Folder) (job : Job) → AsksFor words job → EndsJob job terminal stands blank ended old new held held'
-      → Does words terminal stands blank ended old new held held'
+module _ (words : List (List ℕ)) (outside : Outside) (stands : List (List ℕ) → Contents) (blank : Contents) where
+  pub does : (ended : End) (old new : Contents) (held held' : Folder) (job : Job) → AsksFor words job → EndsJob job outside stands blank ended old new held held'
+      → Does words outside stands blank ended old new held held'
   does (Unasked e) old new held held' (Send job) asks ends = absurd ends.1
-  does (Unasked e) old new held held' (Receive job) asks ends = absurd ends
-  does (Unasked e) old new held held' (Follow job) asks ends = absurd ends
-  does (Unasked e) old new held held' (Info job) asks ends = absurd ends
+  does (Unasked e) old new held held' (Receive job) asks ends = absurd ends.0
+  does (Unasked e) old new held held' (Follow job) asks ends = absurd ends.0
+  does (Unasked e) old new held held' (Info job) asks ends = absurd ends.0
+  does (Unasked e) old new held held' (Protect job) asks ends = absurd ends.0
+  does (Unasked e) old new held held' (Check job) asks ends = absurd ends.0
+  does (Unasked e) old new held held' (Repair job) asks ends = absurd ends.0
   does AtTerminal old new held held' job asks ends = (job, asks, ends)
   does EmptyKey old new held held' job asks ends = (job, asks, ends)
   does (Sent sent) old new held held' job asks ends = (job, asks, ends)
@@ -36,13 +40,16 @@ module _ (words : List (List ℕ)) (terminal : Option Bool) (stands : List (List
   does (Received r seen) old new held held' job asks ends = (job, asks, ends)
   does (Followed streams last seen) old new held held' job asks ends = (job, asks, ends)
   does (Surveyed standings) old new held held' job asks ends = (job, asks, ends)
+  does (Protected made) old new held held' job asks ends = (job, asks, ends)
+  does (Checked found) old new held held' job asks ends = (job, asks, ends)
+  does (Repaired found) old new held held' job asks ends = (job, asks, ends)
   does (Stopped stop) old new held held' job asks ends = (job, asks, ends)
 
   -- the same, of how a run ends that something may stop
   pub done : (r : Result End Stop) (ended : End) (old new : Contents) (held held' : Folder) (job : Job) → ended ≡ end_of r → AsksFor words job
-      → EndsJob job terminal stands blank (end_of r) old new held held' → Does words terminal stands blank ended old new held held'
+      → EndsJob job outside stands blank (end_of r) old new held held' → Does words outside stands blank ended old new held held'
   done r ended old new held held' job is asks ends =
-      subst (λ (e : End). Does words terminal stands blank e old new held held') (sym is) (does (end_of r) old new held held' job asks ends)
+      subst (λ (e : End). Does words outside stands blank e old new held held') (sym is) (does (end_of r) old new held held' job asks ends)
 
 -- where cells would go to a terminal, by what the devices say of it
 pub minds : (terminal : Option Bool) (shows : Bool) (ended : End) → IfSome terminal (λ is. shows ≡ is) → shows ≡ is_at_terminal ended → MindsTerminal terminal ended
@@ -64,16 +71,18 @@ refused_early {X} order file input read key known e r is keyed there refused lon
     let all = subst (λ (s : Contents). IfSome s (λ o. length o ≡ known)) there long in
     subst (λ (x : Result X Stop). IfErr x (StopsUnsent order file input)) (sym is) (inr ((key, keyed), known_parts order input known e refused all))
 
--- what is so of what was sent is so of what was asked for, and of what stands in its place
-pub as_asked : (P : Order → Key → ℕ → Contents → Contents → Contents → Type 0) {o o' : Order} {k k' : Key} {n n' : ℕ} {input input' there there' then then' : Contents}
-    → o ≡ o' → k ≡ k' → n ≡ n' → input ≡ input' → there ≡ there' → then ≡ then' → P o k n input there then → P o' k' n' input' there' then'
-as_asked P {o} {o'} {k} {k'} {n} {n'} {input} {input'} {there} {there'} {then} {then'} order key rounds read begun ended holds =
-    subst (P o' k' n' input' there') ended
-    (subst (λ t. P o' k' n' input' t then) begun
-    (subst (λ i. P o' k' n' i there then) read
-    (subst (λ m. P o' k' m input there then) rounds
-    (subst (λ l. P o' l n input there then) key
-    (subst (λ p. P p k n input there then) order holds)))))
+-- what is so of what was sent is so of what was asked for, of the calls told before, and of what stands in its place
+pub as_asked : (P : Order → Key → ℕ → Contents → KnownCalls → Contents → Contents → Type 0) {o o' : Order} {k k' : Key} {n n' : ℕ} {input input' : Contents}
+    {told told' : KnownCalls} {there there' then then' : Contents} → o ≡ o' → k ≡ k' → n ≡ n' → input ≡ input' → told ≡ told' → there ≡ there' → then ≡ then'
+    → P o k n input told there then → P o' k' n' input' told' there' then'
+as_asked P {o} {o'} {k} {k'} {n} {n'} {input} {input'} {told} {told'} {there} {there'} {then} {then'} order key rounds read heard begun ended holds =
+    subst (P o' k' n' input' told' there') ended
+    (subst (λ t. P o' k' n' input' told' t then) begun
+    (subst (λ t. P o' k' n' input' t there then) heard
+    (subst (λ i. P o' k' n' i told there then) read
+    (subst (λ m. P o' k' m input told there then) rounds
+    (subst (λ l. P o' l n input told there then) key
+    (subst (λ p. P p k n input told there then) order holds))))))
 
 -- ---- listing
 

@@ -16,6 +16,11 @@ use Rattle.rq_command.specs.Program.{Failures, FailsReceiving, end_of}
 
 -- ---- counts
 
+-- none failed
+pub none_fails : (a : Option ℕ) → Fails a a 0
+none_fails None = tt
+none_fails (Some n) = let same : n ≡ n + 0 = omega arith in ap (λ k. Some k) same
+
 -- some, and then others
 pub failed_then : (a b c : Option ℕ) (m n all : ℕ) → Fails a b m → Fails b c n → m + n ≡ all → Fails a c all
 failed_then None b c m n all first then is = tt
@@ -27,6 +32,10 @@ failed_then (Some x) b c m n all first then is =
 pub failed_through : (a b c d e : Option ℕ) (m n all : ℕ) → Fails a b 0 → Fails b c 0 → Fails c d m → Fails d e n → m + n ≡ all → Fails a e all
 failed_through a b c d e m n all first then on last is =
     failed_then a b e 0 all all first (failed_then b c e 0 all all then (failed_then c d e m n all on last is) (omega arith)) (omega arith)
+
+-- none, and then some
+pub failed_behind : (a b c : Option ℕ) (n : ℕ) → Fails a b 0 → Fails b c n → Fails a c n
+failed_behind a b c n none fails = failed_then a b c 0 n n none fails (omega arith)
 
 -- what stopped a run that failed so often
 stopped : (r : Result End Stop) (stop : Stop) (a b : Option ℕ) → r ≡ Err stop → Fails a b (failed_calls {X = ℕ} (Err stop)) → Failures (end_of r) a b
@@ -100,6 +109,21 @@ pub fails_nowhere : (ended : Result Ending Stop) (a b : Option ℕ) → is_whole
     → (n : ℕ) × Fails a b n × FailsReceiving ended (failed_calls ended + n)
 fails_nowhere ended a b is fails =
     let w = whole ended is in (0, fails, subst (λ (e : Result Ending Stop). FailsReceiving e (failed_calls e + 0)) (sym w.1) refl)
+
+-- nothing more fails as it isn't taken away what was kept, or is
+pub fails_no_more : (r : Result Ending Stop) (a b : Option ℕ) → Fails a b 0 → (n : ℕ) × Fails a b n × ((m : ℕ) → FailsReceiving r m → FailsReceiving r (m + n))
+fails_no_more r a b none = (0, none, λ m fails. let same : m ≡ m + 0 = omega arith in subst (FailsReceiving r) same fails)
+
+-- or that can't be
+pub fails_behind : (put r : Result Ending Stop) (stop : Stop) (a b : Option ℕ) → stop ≡ Fault → r ≡ Err stop → Fails a b (failed_calls {X = ℕ} (Err stop))
+    → (n : ℕ) × Fails a b n × ((m : ℕ) → FailsReceiving put m → FailsReceiving r (m + n))
+fails_behind put r stop a b fault ends fails =
+    let once : Fails a b 1 = subst (λ (s : Stop). Fails a b (failed_calls {X = ℕ} (Err s))) fault fails in (
+      1,
+      once,
+      λ m before. let some : FailsReceiving (Err Fault) (m + 1) = omega arith in
+          subst (λ (e : Result Ending Stop). FailsReceiving e (m + 1)) (sym (ends ∙ ap (λ s. Err s) fault)) some,
+    )
 
 -- where another stream may begin, none failed
 pub over_without_fault : (ending : Ending) → over (Ok ending) ≡ Some (ending, name_of ending) → (n : ℕ) → FailsReceiving (Ok ending) n → n ≡ 0

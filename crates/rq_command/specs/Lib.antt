@@ -1,7 +1,10 @@
 pub mod Endings
 pub mod Failed
 pub mod Following
+pub mod Guards
 pub mod Keyed
+pub mod Outside
+pub mod Pairs
 pub mod Placed
 pub mod Program
 pub mod Rounds

@@ -1,5 +1,6 @@
 -- What the program does, from its words to its end.
-use Rattle.std.specs.Prelude.{◌≡◌, ◌⊎◌, ⊤, Bool, true, false, ℕ, ◌<◌, ◌≤◌, List, length, Option, Result, Ok, Err, map, option_map, IfSome}
+use Rattle.std.specs.Prelude.{◌≡◌, ◌⊎◌, ⊤, Bool, true, false, ℕ, ◌+◌, ◌<◌, ◌≤◌, List, [], ◌∷◌, length, Option, Some, None, Result, Ok, Err, map, option_map, IfSome}
+use Rattle.std.specs.Fmt.{option_append}
 use Rattle.clap.specs.Values.{kind_of}
 use Rattle.rq_bytes.specs.declared.error.Error.TheVariants.{OutOfMemory}
 use Rattle.rq_standard.specs.declared.row.TableRow.{TableRow}
@@ -12,26 +13,31 @@ use Rattle.rq_cast.specs.declared.halt.Halt.TheVariants.{By, Changed as Differs}
 use Rattle.rq_cast.specs.declared.order.Order.{Order}
 use Rattle.rq_cast.specs.declared.seen.Seen.{Seen}
 use Rattle.rq_cast.specs.declared.run.Ending.{Ending}
-use Rattle.rq_cast.specs.declared.run.Ending.TheVariants.{Incomplete}
+use Rattle.rq_cast.specs.declared.run.Ending.TheVariants.{Incomplete, Written}
 use Rattle.rq_cast.specs.declared.survey.Standing.{Standing}
 use Rattle.rq_cast.specs.declared.stream_sending.Sent.{Sent as SentParts}
 use Rattle.rq_cast.specs.Preparing.{RefusesParts}
 use Rattle.rq_cast.specs.Received.{EndsReceiving, is_given_up, wish_over}
 use Rattle.rq_cells.specs.Cells.{Key}
 use Rattle.rq_cast.specs.Searching.{counted}
+use Rattle.rq_cast.specs.SentParts.{halted_calls}
 use Rattle.rq_cast.specs.Surveyed.{IsSurvey}
 use Rattle.rq_words.specs.declared.values.TheConstants.{WIDEST_WINDOW}
 use Rattle.rq_words.specs.declared.jobs.Job.{Job}
-use Rattle.rq_words.specs.declared.jobs.Job.TheVariants.{Send, Receive, Follow, Info}
+use Rattle.rq_words.specs.declared.jobs.Job.TheVariants.{Send, Receive, Follow, Info, Protect, Check, Repair}
 use Rattle.rq_words.specs.declared.jobs.SendJob.{SendJob}
+use Rattle.rq_words.specs.declared.jobs.CheckJob.{CheckJob}
+use Rattle.rq_words.specs.declared.jobs.RepairJob.{RepairJob}
 use Rattle.rq_command.specs.declared.ending.End.{End}
-use Rattle.rq_command.specs.declared.ending.End.TheVariants.{Unasked, AtTerminal, EmptyKey, Sent, Changed, Received, Followed, Surveyed, Stopped}
+use Rattle.rq_command.specs.declared.ending.End.TheVariants.{Unasked, AtTerminal, EmptyKey, Sent, Changed, Received, Followed, Surveyed, Checked, Repaired, Stopped}
+use Rattle.rq_command.specs.Guards.{EndsProtecting, ByKey, Checks, Repairs, FailsRepaired, guard_name}
 use Rattle.rq_words.specs.Asked.{AsksFor, IsRefused}
 use Rattle.rq_words.specs.Values.{times_of}
 use Rattle.rq_command.specs.Failed.{Fails, StopsReading}
-use Rattle.rq_command.specs.Following.{FollowsAll, Folder}
+use Rattle.rq_command.specs.Following.{FollowsAll, Folder, IsFiled}
 use Rattle.rq_command.specs.Keyed.{HasKey, IsEmptyKey, IsKeyOf, key_file}
-use Rattle.rq_command.specs.Placed.{Contents, IsPlaced, is_whole}
+use Rattle.rq_command.specs.Outside.{Outside}
+use Rattle.rq_command.specs.Placed.{Contents, Files, IsPlaced, is_whole}
 use Rattle.rq_command.specs.Rounds.{SendsRounds, StopsRounds}
 
 -- ---- sending
@@ -45,23 +51,37 @@ RefusesLength order length_of_input (Refused e) = RefusesParts order length_of_i
 abbrev pub StopsUnsent : Order → Option Contents → Contents → Stop → Type 0
 StopsUnsent order file input stop = StopsReading stop ⊎ (HasKey file × IfSome input (λ bytes. RefusesLength order (length bytes) stop))
 
--- All that is read is sent by the key of a file in so many rounds, but for cells that were lost.
-pub record SendsAll (order : Order) (rounds : ℕ) (file : Option Contents) (input blank new : Contents) (sent : SentParts) : Type 0 where
+-- All that is read is sent by the key of a file in so many rounds, but for cells whose calls lost them.
+pub record SendsAll (order : Order) (rounds : ℕ) (file : Option Contents) (input : Contents) (outside : Outside) (blank new : Contents) (sent : SentParts) : Type 0 where
   pub key : Key
   pub keyed : IsKeyOf file key
-  pub sends : SendsRounds order key rounds input blank new sent
+  pub sends : SendsRounds order key rounds input outside.told outside.told_behind blank new sent
 
--- Some first rounds are, some first parts of the next one, and of the next part what could be.
-pub record SendsSome (order : Order) (rounds : ℕ) (file : Option Contents) (input blank new : Contents) (halt : Halt) : Type 0 where
+-- Some first rounds are, some first parts of the next one, and of the next part what could be. The calls that failed are those that lost a cell, the one that
+-- stopped it, and perhaps one at its end.
+pub record SendsSome (order : Order) (rounds : ℕ) (file : Option Contents) (input : Contents) (outside : Outside) (blank new : Contents) (halt : Halt) : Type 0 where
   pub key : Key
   pub keyed : IsKeyOf file key
-  pub stops : StopsRounds order key rounds input blank new halt
+  pub lost : ℕ
+  pub stops : StopsRounds order key rounds input outside.told outside.told_behind blank new halt lost
+  pub at_end : ℕ
+  pub once : at_end ≤ 1
+  pub failed : Fails outside.failed outside.failed_behind (lost + halted_calls halt + at_end)
+
+-- All are sent, and a call failed at the end, beside those that lost a cell.
+pub record StopsAtEnd (order : Order) (rounds : ℕ) (file : Option Contents) (input : Contents) (outside : Outside) (blank new : Contents) (stop : Stop) : Type 0 where
+  pub fault : stop ≡ Fault
+  pub sent : SentParts
+  pub all : SendsAll order rounds file input outside blank new sent
+  pub lost : ℕ
+  pub lost_are : sent.lost ≡ counted lost
+  pub failed : Fails outside.failed outside.failed_behind (lost + 1)
 
 -- Nothing is sent, or some first parts are; or all are, and a call failed at the end.
-abbrev pub StopsSending : Order → ℕ → Option Contents → Contents → Contents → Stop → Contents → Contents → Type 0
-StopsSending order rounds file input blank stop old new =
+abbrev pub StopsSending : Order → ℕ → Option Contents → Contents → Outside → Contents → Stop → Contents → Contents → Type 0
+StopsSending order rounds file input outside blank stop old new =
     ((new ≡ old) × StopsUnsent order file input stop)
-    ⊎ (SendsSome order rounds file input blank new (By stop) ⊎ ((stop ≡ Fault) × (sent : SentParts) × SendsAll order rounds file input blank new sent))
+    ⊎ (SendsSome order rounds file input outside blank new (By stop) ⊎ StopsAtEnd order rounds file input outside blank new stop)
 
 -- a run ended since its cells would have gone to a terminal
 abbrev pub is_at_terminal : End → Bool
@@ -74,19 +94,35 @@ MindsTerminal terminal ended = IfSome terminal (λ is. is ≡ is_at_terminal end
 
 -- How a run ends that sends what is read by the key of a file, in so many rounds. Nothing is read where its cells would go to a terminal, and nothing but the key
 -- where that is empty.
-abbrev pub EndsSend : Order → ℕ → Option Contents → Contents → Contents → End → Contents → Contents → Type 0
-EndsSend order rounds file input blank AtTerminal old new = new ≡ old
-EndsSend order rounds file input blank EmptyKey old new = IsEmptyKey file × (new ≡ old)
-EndsSend order rounds file input blank (Sent sent) old new = SendsAll order rounds file input blank new sent
-EndsSend order rounds file input blank (Changed part) old new = SendsSome order rounds file input blank new (Differs part)
-EndsSend order rounds file input blank (Stopped stop) old new = StopsSending order rounds file input blank stop old new
-EndsSend order rounds file input blank _ old new = ⊥
+abbrev pub EndsSend : Order → ℕ → Option Contents → Contents → Outside → Contents → End → Contents → Contents → Type 0
+EndsSend order rounds file input outside blank AtTerminal old new = new ≡ old
+EndsSend order rounds file input outside blank EmptyKey old new = IsEmptyKey file × (new ≡ old)
+EndsSend order rounds file input outside blank (Sent sent) old new = SendsAll order rounds file input outside blank new sent
+EndsSend order rounds file input outside blank (Changed part) old new = SendsSome order rounds file input outside blank new (Differs part)
+EndsSend order rounds file input outside blank (Stopped stop) old new = StopsSending order rounds file input outside blank stop old new
+EndsSend order rounds file input outside blank _ old new = ⊥
 
 -- ---- receiving
 
--- A run over all rows ends so that takes the cells made by the key, and this is what it wrote. A fault may come when all is written, as it is put in its place.
-pub record Receives {X : Type 0} (name : List ℕ) (passed : List (List ℕ)) (window : ℕ) (file : Option Contents) (output : Option X) (result : Result Ending Stop) (seen : Seen)
-    (input blank old new : Contents) : Type 0 where
+-- what is read: what earlier runs kept, where there is a file for that, and then the rest
+abbrev pub read_behind : Option (List ℕ) → Folder → Contents → Contents
+read_behind None earlier rest = rest
+read_behind (Some state) earlier rest = option_append (earlier state) rest
+
+-- What is kept of a stream is taken away where that is whole and in its place, and only then: as much is kept there as a new writer holds.
+abbrev pub Forgets : Contents → Option (List ℕ) → Result Ending Stop → Folder → Folder → Type 0
+Forgets blank (Some state) (Ok (Written stream)) old new = IsFiled state blank old new
+Forgets blank _ result old new = new ≡ old
+
+-- A fault may come as it is.
+abbrev pub EndsForgetting : Option (List ℕ) → Result Ending Stop → Result Ending Stop → Type 0
+EndsForgetting None put result = put ≡ result
+EndsForgetting (Some state) put result = (put ≡ result) ⊎ ((is_whole put ≡ true) × (result ≡ Err Fault))
+
+-- A run over all rows ends so that takes the cells made by the key, and this is what it wrote. A fault may come when all is written, as it is put in its place,
+-- and then as what was kept of it is taken away.
+pub record Receives {X : Type 0} (name : List ℕ) (passed : List (List ℕ)) (window : ℕ) (file : Option Contents) (output : Option X) (state : Option (List ℕ))
+    (result : Result Ending Stop) (seen : Seen) (input : Contents) (outside : Outside) (blank old new : Contents) : Type 0 where
   pub key : Key
   pub keyed : IsKeyOf file key
   pub table : List TableRow
@@ -95,21 +131,28 @@ pub record Receives {X : Type 0} (name : List ℕ) (passed : List (List ℕ)) (w
   pub last : List ℕ
   pub written : Contents
   pub ended : Result Ending Stop
-  pub ends : EndsReceiving table (wish_over table key name passed) window ended seen input after last blank written
+  pub ends : EndsReceiving table (wish_over table key name passed) window ended seen (read_behind state outside.earlier input) after last blank written
   pub patient : is_given_up ended ≡ false
-  pub same : (ended ≡ result) ⊎ ((is_whole ended ≡ true) × (result ≡ Err Fault))
-  pub placed : IsPlaced output result written old new
+  pub put : Result Ending Stop
+  pub same : (ended ≡ put) ⊎ ((is_whole ended ≡ true) × (put ≡ Err Fault))
+  pub placed : IsPlaced output put written old new
+  pub behind : EndsForgetting state put result
+  pub forgets : Forgets blank state result outside.earlier outside.earlier_behind
 
 -- a call failed, memory is refused, or there is no table of all rows
 abbrev pub StopsBefore : Stop → Type 0
 StopsBefore Fault = ⊤
 StopsBefore (Refused e) = (e ≡ OutOfMemory) ⊎ (wanted_table FURTHER_ROWS ≡ Err e)
 
-abbrev pub EndsReceive : {X : Type 0} → List ℕ → List (List ℕ) → ℕ → Option Contents → Option X → Contents → Contents → End → Contents → Contents → Type 0
-EndsReceive name passed window file output input blank EmptyKey old new = IsEmptyKey file × (new ≡ old)
-EndsReceive name passed window file output input blank (Received result seen) old new = Receives name passed window file output result seen input blank old new
-EndsReceive name passed window file output input blank (Stopped stop) old new = StopsBefore stop × (new ≡ old)
-EndsReceive name passed window file output input blank _ old new = ⊥
+abbrev pub EndsReceive : {X : Type 0} → List ℕ → List (List ℕ) → ℕ → Option Contents → Option X → Option (List ℕ) → Contents → Outside → Contents → End
+    → Contents → Contents → Type 0
+EndsReceive name passed window file output state input outside blank EmptyKey old new =
+    IsEmptyKey file × (new ≡ old) × (outside.earlier_behind ≡ outside.earlier)
+EndsReceive name passed window file output state input outside blank (Received result seen) old new =
+    Receives name passed window file output state result seen input outside blank old new
+EndsReceive name passed window file output state input outside blank (Stopped stop) old new =
+    StopsBefore stop × (new ≡ old) × (outside.earlier_behind ≡ outside.earlier)
+EndsReceive name passed window file output state input outside blank _ old new = ⊥
 
 -- Where the key is empty, or the run is stopped before the first read, the folder is as it was.
 abbrev pub EndsFollow : List (List ℕ) → ℕ → Option ℕ → Option Contents → Contents → Contents → End → Folder → Folder → Type 0
@@ -134,6 +177,23 @@ EndsInfo file input (Surveyed standings) old new = (new ≡ old) × IfSome input
 EndsInfo file input (Stopped stop) old new = StopsBefore stop × (new ≡ old)
 EndsInfo file input _ old new = ⊥
 
+-- ---- a file beside its guard
+
+-- What is found of a file by its guard. Nothing is put anywhere.
+abbrev pub EndsCheck : Option Contents → Contents → Contents → End → Contents → Contents → Type 0
+EndsCheck key file guard EmptyKey old new = IsEmptyKey key × (new ≡ old)
+EndsCheck key file guard (Checked found) old new = ByKey key (λ table k. Checks table k file guard found) × (new ≡ old)
+EndsCheck key file guard (Stopped stop) old new = StopsBefore stop × (new ≡ old)
+EndsCheck key file guard _ old new = ⊥
+
+-- What is found of it, and that it is mended, in its place or another one. Where that isn't done whole, its place is as it was.
+abbrev pub EndsRepair : Option Contents → List ℕ → List ℕ → Option (List ℕ) → Files → Contents → End → Contents → Contents → Type 0
+EndsRepair key file guard said stands blank EmptyKey old new = IsEmptyKey key × (new ≡ old)
+EndsRepair key file guard said stands blank (Repaired found) old new =
+    ByKey key (λ table k. Repairs table k (λ s. s (file ∷ [])) (λ s. s (guard ∷ [])) file said stands blank found old new)
+EndsRepair key file guard said stands blank (Stopped stop) old new = StopsBefore stop × (new ≡ old)
+EndsRepair key file guard said stands blank _ old new = ⊥
+
 -- ---- jobs
 
 -- This stops a job before anything is sent, by what stands in files.
@@ -145,25 +205,41 @@ abbrev pub end_of : Result End Stop → End
 end_of (Ok ended) = ended
 end_of (Err stop) = Stopped stop
 
--- What stands in files, by their names, what a new writer holds, and what stands where is written before and after.
-abbrev pub EndsSending : SendJob → (List (List ℕ) → Contents) → Contents → End → Contents → Contents → Type 0
-EndsSending job stands blank ended old new =
-    EndsSend job.order (times_of job.rounds) (key_file stands (option_map (λ s. s.now) job.key)) (stands (map (λ s. s.now) job.files.items)) blank ended old new
+-- What is known beside it, what stands in files, by their names, what a new writer holds, and what stands where is written before and after.
+abbrev pub EndsSending : SendJob → Outside → (List (List ℕ) → Contents) → Contents → End → Contents → Contents → Type 0
+EndsSending job outside stands blank ended old new =
+    EndsSend job.order (times_of job.rounds) (key_file stands (option_map (λ s. s.now) job.key)) (stands (map (λ s. s.now) job.files.items)) outside blank ended old new
 
--- The same, whether cells would go to a terminal, and what a folder holds before and after.
-abbrev pub EndsJob : Job → Option Bool → (List (List ℕ) → Contents) → Contents → End → Contents → Contents → Folder → Folder → Type 0
-EndsJob (Send job) terminal stands blank ended old new held held' = MindsTerminal terminal ended × EndsSending job stands blank ended old new
-EndsJob (Receive job) terminal stands blank ended old new held held' =
-    EndsReceive job.name.items (map (λ v. v.items) job.passed.items) job.window (key_file stands (option_map (λ s. s.now) job.key)) job.output (stands (map (λ s. s.now) job.files.items)) blank ended old new
-EndsJob (Follow job) terminal stands blank ended old new held held' =
+abbrev pub EndsChecking : CheckJob → Files → End → Contents → Contents → Type 0
+EndsChecking job stands ended old new =
+    let guard = guard_name job.file.now (option_map (λ s. s.now) job.guard) in
+    EndsCheck (key_file stands (option_map (λ s. s.now) job.key)) (stands (job.file.now ∷ [])) (stands (guard ∷ [])) ended old new
+
+abbrev pub EndsRepairing : RepairJob → Files → Contents → End → Contents → Contents → Type 0
+EndsRepairing job stands blank ended old new =
+    let guard = guard_name job.file.now (option_map (λ s. s.now) job.guard) in
+    EndsRepair (key_file stands (option_map (λ s. s.now) job.key)) job.file.now guard (option_map (λ s. s.now) job.output) stands blank ended old new
+
+-- The same, and what a folder holds before and after.
+abbrev pub EndsJob : Job → Outside → (List (List ℕ) → Contents) → Contents → End → Contents → Contents → Folder → Folder → Type 0
+EndsJob (Send job) outside stands blank ended old new held held' =
+    MindsTerminal outside.terminal ended × EndsSending job outside stands blank ended old new × (held' ≡ held)
+EndsJob (Receive job) outside stands blank ended old new held held' =
+    EndsReceive job.name.items (map (λ v. v.items) job.passed.items) job.window (key_file stands (option_map (λ s. s.now) job.key)) job.output
+    (option_map (λ s. s.now) job.state) (stands (map (λ s. s.now) job.files.items)) outside blank ended old new × (held' ≡ held)
+EndsJob (Follow job) outside stands blank ended old new held held' =
     EndsFollow (map (λ v. v.items) job.passed.items) job.window job.timeout (key_file stands (option_map (λ s. s.now) job.key)) (stands (map (λ s. s.now) job.files.items)) blank ended held held'
-EndsJob (Info job) terminal stands blank ended old new held held' =
-    EndsInfo (key_file stands (option_map (λ s. s.now) job.key)) (stands (map (λ s. s.now) job.files.items)) ended old new
+    × (new ≡ old)
+EndsJob (Info job) outside stands blank ended old new held held' =
+    EndsInfo (key_file stands (option_map (λ s. s.now) job.key)) (stands (map (λ s. s.now) job.files.items)) ended old new × (held' ≡ held)
+EndsJob (Protect job) outside stands blank ended old new held held' = EndsProtecting job stands blank ended old new × (held' ≡ held)
+EndsJob (Check job) outside stands blank ended old new held held' = EndsChecking job stands ended old new × (held' ≡ held)
+EndsJob (Repair job) outside stands blank ended old new held held' = EndsRepairing job stands blank ended old new × (held' ≡ held)
 
 -- What the words ask for is done. Where they are refused, nothing is.
-abbrev pub Does : List (List ℕ) → Option Bool → (List (List ℕ) → Contents) → Contents → End → Contents → Contents → Folder → Folder → Type 0
-Does words terminal stands blank (Unasked e) old new held held' = IsRefused words (kind_of e) × (new ≡ old) × (held' ≡ held)
-Does words terminal stands blank ended old new held held' = (job : Job) × AsksFor words job × EndsJob job terminal stands blank ended old new held held'
+abbrev pub Does : List (List ℕ) → Outside → (List (List ℕ) → Contents) → Contents → End → Contents → Contents → Folder → Folder → Type 0
+Does words outside stands blank (Unasked e) old new held held' = IsRefused words (kind_of e) × (new ≡ old) × (held' ≡ held)
+Does words outside stands blank ended old new held held' = (job : Job) × AsksFor words job × EndsJob job outside stands blank ended old new held held'
 
 -- ---- failed calls
 
@@ -180,6 +256,7 @@ FailsIn (Sent sent) n = sent.lost ≡ counted n
 FailsIn (Changed part) n = ⊤
 FailsIn (Received result seen) n = FailsReceiving result n
 FailsIn (Followed streams last seen) n = FailsReceiving last n
+FailsIn (Repaired found) n = FailsRepaired found n
 FailsIn (Stopped Fault) n = 0 < n
 FailsIn (Stopped (Refused e)) n = ⊤
 FailsIn _ n = n ≡ 0

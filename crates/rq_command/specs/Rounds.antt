@@ -11,6 +11,7 @@ use Rattle.rq_cast.specs.Searching.{counted}
 use Rattle.rq_cast.specs.SentParts.{SendsStream, StopsStream, halted_calls}
 use Rattle.rq_cells.specs.Cells.{Key}
 use Rattle.rq_command.specs.Failed.{Fails, StopsReading}
+use Rattle.rq_command.specs.Outside.{KnownCalls}
 use Rattle.rq_command.specs.Placed.{Contents}
 
 -- before the first round
@@ -18,43 +19,52 @@ abbrev pub none_sent : Sent
 none_sent = record { parts = 0; cells = 0; lost = 0 }
 
 -- so many rounds of what is read are sent one behind another: each is of the same bytes, and of the parts that were known behind the one before
-abbrev pub SendRounds : Order → Key → Known → Contents → ℕ → Contents → Contents → Sent → Known → Type 0
-SendRounds order key first input zero there then sent known = (then ≡ there) × (sent ≡ none_sent) × (known ≡ first)
-SendRounds order key first input (suc n) there then sent known =
-    (mid : Contents) × (before : Sent) × (old : Known) × (more : Sent) × (after : Contents)
-    × SendRounds order key first input n there mid before old
-    × SendsStream (in_round order n) key old input after mid then more known
+abbrev pub SendRounds : Order → Key → Known → Contents → ℕ → KnownCalls → KnownCalls → Contents → Contents → Sent → Known → Type 0
+SendRounds order key first input zero told told' there then sent known = (told' ≡ told) × (then ≡ there) × (sent ≡ none_sent) × (known ≡ first)
+SendRounds order key first input (suc n) told told' there then sent known =
+    (between : KnownCalls) × (mid : Contents) × (before : Sent) × (old : Known) × (more : Sent) × (after : Contents)
+    × SendRounds order key first input n told between there mid before old
+    × SendsStream (in_round order n) key old input after mid then between told' more known
     × (sent ≡ sum_of before more)
 
+-- all that are asked for; or the first one, where it has no cell, since no other has one then
+abbrev pub AreAll : ℕ → ℕ → Sent → Type 0
+AreAll rounds number sent = (number ≡ rounds) ⊎ ((number ≡ 1) × (sent.cells ≡ 0))
+
 -- of so many that are asked for all are sent, where nothing is known before the first
-pub record SendsRounds (order : Order) (key : Key) (rounds : ℕ) (input there then : Contents) (sent : Sent) : Type 0 where
+pub record SendsRounds (order : Order) (key : Key) (rounds : ℕ) (input : Contents) (told told' : KnownCalls) (there then : Contents) (sent : Sent) : Type 0 where
   pub first : Known
   pub fresh : IsFresh (nat_lt 1 rounds) first
   pub known : Known
-  pub sends : SendRounds order key first input rounds there then sent known
+  pub number : ℕ
+  pub all : AreAll rounds number sent
+  pub sends : SendRounds order key first input number told told' there then sent known
 
 -- the next one isn't begun: what is read can't be read again, or memory is refused
 abbrev pub StopsReopening : ℕ → Halt → Type 0
 StopsReopening n halt = (0 < n) × ((stop : Stop) × (halt ≡ By stop) × StopsReading stop)
 
--- fewer are, and of the next one what could be
-pub record StopsRounds (order : Order) (key : Key) (rounds : ℕ) (input there then : Contents) (halt : Halt) : Type 0 where
+-- fewer are, and of the next one what could be; so many cells are lost in all of them
+pub record StopsRounds (order : Order) (key : Key) (rounds : ℕ) (input : Contents) (told told' : KnownCalls) (there then : Contents) (halt : Halt) (lost : ℕ) : Type 0 where
   pub first : Known
   pub fresh : IsFresh (nat_lt 1 rounds) first
   pub number : ℕ
   pub fewer : number < rounds
+  pub between : KnownCalls
   pub mid : Contents
   pub sent : Sent
   pub known : Known
-  pub sends : SendRounds order key first input number there mid sent known
+  pub sends : SendRounds order key first input number told between there mid sent known
+  pub before : ℕ
+  pub lost_before : sent.lost ≡ counted before
   pub next :
-      ((then ≡ mid) × StopsReopening number halt)
-      ⊎ ((after : Contents) × (lost : ℕ) × StopsStream (in_round order number) key known input after mid then halt lost)
+      ((then ≡ mid) × (told' ≡ between) × (lost ≡ before) × StopsReopening number halt)
+      ⊎ ((after : Contents) × (more : ℕ) × StopsStream (in_round order number) key known input after mid then between told' halt more × (lost ≡ before + more))
 
 -- So many calls failed: a lost cell is one.
 abbrev pub CountsSent : Option ℕ → Option ℕ → Sent → Type 0
 CountsSent old new sent = (n : ℕ) × Fails old new n × (sent.lost ≡ counted n)
 
--- and one that stops it is one
-abbrev pub CountsHalt : Option ℕ → Option ℕ → Halt → Type 0
-CountsHalt old new halt = (lost : ℕ) × Fails old new (lost + halted_calls halt)
+-- Each lost cell is one that failed, and a call that stops it is one.
+abbrev pub CountsHalt : Option ℕ → Option ℕ → Halt → ℕ → Type 0
+CountsHalt old new halt lost = Fails old new (lost + halted_calls halt)

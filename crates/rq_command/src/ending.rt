@@ -1,11 +1,13 @@
 //! How the program ends.
 ghost use Rattle.std.specs.Prelude.{◌≡◌};
-ghost use Rattle.rq_command.specs.Endings.{all_lost, ending_status, following_status, stop_status, status_of, word_status};
+ghost use Rattle.rq_command.specs.Endings.{all_lost, checked_status, repaired_status, ending_status, following_status, stop_status, status_of, word_status};
 
+use crate::findings::Findings;
 use clap::Error;
 use clap::error::ErrorKind;
 use raptorq::error::Error as Refusal;
 use rq_cast::{Ending, Seen, Sent, Standing};
+use rq_guard::Guarded;
 use rq_streams::Stop;
 
 /// How many streams were taken one after another.
@@ -36,21 +38,30 @@ pub enum End {
     Followed(Streams, Result<Ending, Stop>, Seen),
     /// It has listed the objects whose cells stand among bytes.
     Surveyed(Vec<Standing>),
+    /// It has made the guard of a file.
+    Protected(Guarded),
+    /// It has looked through a file, as far as its guard has lists of all parts.
+    Checked(Option<Findings>),
+    /// It has mended a file, as far as its guard has lists of all parts and mends it.
+    Repaired(Option<Findings>),
     /// Something stopped it.
     Stopped(Stop),
 }
 
 impl End {
     /// The status that the program ends with: 0 where all is done, 1 after a fault of the system or where what is
-    /// sent has changed, 2 where
-    /// too little came, 3 where what was to be sent is refused, and 64 where the words are wrong, cells would
-    /// go to a terminal, or the key is empty.
+    /// sent has changed, 2 where too little came or a guard doesn't mend its file, 3 where what was to be sent is
+    /// refused or a check found what its guard mends, and 64 where the words are wrong, cells would go to a terminal,
+    /// or the key is empty.
     pub fn status(&self) -> u8
         ensures { result ≡ status_of self.now }
     {
         match self {
             End::Unasked(error) => word_status(error.kind()),
             End::AtTerminal | End::EmptyKey => 64,
+            End::Protected(_) => 0,
+            End::Checked(found) => checked_status(found),
+            End::Repaired(found) => repaired_status(found),
             // There may be no cells: of small parts a share may be empty.
             End::Sent(sent) => u8::from(all_lost(sent.cells, sent.lost)),
             End::Changed(_) => 1,
@@ -103,6 +114,27 @@ fn following_status(streams: Streams, last: Result<Ending, Stop>, seen: &Seen) -
             if streams.whole > 0 && streams.given_up == 0 && seen.cells == 0 => { 0 }
         Ok(ending) => ending_status(ending),
         Err(stop) => stop_status(stop),
+    }
+}
+
+// Of a file that was looked through: whole, damaged and mended in its place by `repair`, or beyond that.
+fn checked_status(found: &Option<Findings>) -> u8
+    ensures { result ≡ checked_status found.now }
+{
+    match found {
+        Some(found) if found.is_whole() => 0,
+        Some(found) if found.is_mended && !found.is_strange() => 3,
+        _ => 2,
+    }
+}
+
+// Of one that was to be mended.
+fn repaired_status(found: &Option<Findings>) -> u8
+    ensures { result ≡ repaired_status found.now }
+{
+    match found {
+        Some(found) if found.is_mended => 0,
+        _ => 2,
     }
 }
 

@@ -23,6 +23,7 @@ const RECENT: u64 = 8;
 /// What streams are taken by, and where they go.
 #[derive(Clone, Copy)]
 pub(crate) struct Following<'a, 'w> {
+    pub alloc: Global,
     pub key: &'a Key,
     pub table: &'a SystematicTable,
     pub window: u32,
@@ -71,6 +72,7 @@ fn file<'w, D: Devices<'w>>(
 ) -> Result<Ending, Stop>
     ensures same { (ended ≡ result) ⊎ (result ≡ Err Stop.Fault) }
     ensures filed { FiledBy result (D.Writer.contents writer) (D.filed devices.old) (D.filed devices.new) }
+    ensures kept { D.placed devices.new ≡ D.placed devices.old }
     ensures failures { (n : ℕ) × Fails (D.failed devices.old) (D.failed devices.new) n × FailsReceiving result (failed_calls ended + n) }
 {
     match ended {
@@ -91,7 +93,6 @@ fn file<'w, D: Devices<'w>>(
 
 // Takes one stream.
 fn follow_one<'w, D: Devices<'w>, T: Teller>(
-    alloc: Global,
     run: &Following<'_, 'w>,
     passed: &[Vec<u8>],
     input: &mut Input<D::Reader>,
@@ -100,11 +101,13 @@ fn follow_one<'w, D: Devices<'w>, T: Teller>(
 ) -> (Result<Ending, Stop>, Seen)
     requires window { 0 < run.now.window }
     requires none { failed_count (counted_of input.old) ≡ 0 }
-    ensures one { EndsOne run.now.table.now (wish_over run.now.table.now run.now.key.now [] (map (λ v. v.items) passed.now)) run.now.window D.blank result.0 result.1
-        (unread D.Reader.remaining input.old) (unread D.Reader.remaining input.new) (last_piece input.new) (D.filed devices.old) (D.filed devices.new) }
+    ensures one { EndsOne run.now.table.now (wish_over run.now.table.now run.now.key.now [] (map (λ v. v.items) passed.now)) run.now.window D.blank
+        result.0 result.1 (unread D.Reader.remaining input.old) (unread D.Reader.remaining input.new) (last_piece input.new) (D.filed devices.old) (D.filed devices.new) }
+    ensures kept { D.placed devices.new ≡ D.placed devices.old }
     ensures once { OnOk result.0 (is_put_back input.new ≡ false) }
     ensures patient { IfNone run.now.timeout (is_given_up result.0 ≡ false) }
-    ensures failures { (n : ℕ) × Fails (D.failed devices.old) (D.failed devices.new) n × FailsReceiving result.0 (failed_count (counted_of input.new) + n) }
+    ensures failures { (n : ℕ) × Fails (D.failed devices.old) (D.failed devices.new) n
+        × FailsReceiving result.0 (failed_count (counted_of input.new) + n) }
 {
     let mut seen = Seen::default();
     let writer = match devices.create_in(run.folder) {
@@ -119,7 +122,7 @@ fn follow_one<'w, D: Devices<'w>, T: Teller>(
     };
     let mut writer = Counted::new(writer);
     let ended = run_receive(
-        alloc,
+        run.alloc,
         &wanted,
         run.window,
         run.timeout,
@@ -153,7 +156,6 @@ fn pass_over(
 /// Takes streams one after another, until the input ends or something stops a run. Answers how many they were, how the
 /// run behind them ended, and what it saw.
 pub(crate) fn follow_all<'w, D: Devices<'w>, T: Teller>(
-    alloc: Global,
     run: &Following<'_, 'w>,
     passed: Vec<Vec<u8>>,
     input: Input<D::Reader>,
@@ -162,15 +164,16 @@ pub(crate) fn follow_all<'w, D: Devices<'w>, T: Teller>(
 ) -> (Streams, Result<Ending, Stop>, Seen)
     requires window { 0 < run.now.window }
     requires none { failed_count (counted_of input) ≡ 0 }
-    ensures all { FollowsUpTo run.now.table.now run.now.key.now (map (λ v. v.items) passed.items) run.now.window run.now.timeout D.blank (unread D.Reader.remaining input)
-        result.0 result.1 result.2 (D.filed devices.old) (D.filed devices.new) }
+    ensures all { FollowsUpTo run.now.table.now run.now.key.now (map (λ v. v.items) passed.items) run.now.window run.now.timeout D.blank
+        (unread D.Reader.remaining input) result.0 result.1 result.2 (D.filed devices.old) (D.filed devices.new) }
+    ensures kept { D.placed devices.new ≡ D.placed devices.old }
     ensures failures { (n : ℕ) × Fails (D.failed devices.old) (D.failed devices.new) n × FailsReceiving result.1 n }
 {
     let (mut input, mut passed) = (input, passed);
     let mut streams = Streams::default();
     let mut last = [0; STREAM_LENGTH];
     'streams: for number in 0..u64::MAX {
-        let (ended, seen) = follow_one(alloc, run, passed.as_slice(), &mut input, devices, teller);
+        let (ended, seen) = follow_one(run, passed.as_slice(), &mut input, devices, teller);
         let Some(found) = over(&ended) else {
             devices.count(&input.into_counted());
             return (streams, ended, seen);
@@ -179,7 +182,7 @@ pub(crate) fn follow_all<'w, D: Devices<'w>, T: Teller>(
         teller.tell_stream(&stream, ending, &seen);
         input.put_back();
         streams = with_one(streams, ending);
-        let Ok(()) = pass_over(alloc, &mut passed, number, &stream) else {
+        let Ok(()) = pass_over(run.alloc, &mut passed, number, &stream) else {
             return (streams, Err(Stop::Refused(Error::OutOfMemory)), seen);
         };
         last = stream;

@@ -1,6 +1,7 @@
 //! What is said of a run.
 
 use crate::ending::{End, all_lost};
+use crate::findings::{write_checked, write_repaired};
 use raptorq::error::Error;
 use rq_cast::{Ending, Seen, Sender, Sent, Standing};
 use rq_cells::{Head, LAST_PART};
@@ -241,7 +242,9 @@ pub fn write_end<W: Write>(end: &End, out: &mut W) -> io::Result<()> {
         End::Surveyed(standings) if standings.is_empty() => {
             writeln!(out, "rqcast: no cell is there")
         }
-        End::Surveyed(_) => Ok(()),
+        End::Surveyed(_) | End::Protected(_) => Ok(()),
+        End::Checked(found) => write_checked(found, out),
+        End::Repaired(found) => write_repaired(found, out),
         End::Stopped(stop) => write_stop(*stop, out),
     }
 }

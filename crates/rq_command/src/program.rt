@@ -5,12 +5,15 @@ ghost use Rattle.rq_cast.specs.Received.{is_given_up};
 ghost use Rattle.rq_command.specs.Failed.{Fails, StopsReading};
 ghost use Rattle.rq_words.specs.Values.{times_of};
 ghost use Rattle.rq_command.specs.Keyed.{key_file, IsKeyRead};
+ghost use Rattle.rq_command.specs.Outside.{outside};
 ghost use Rattle.rq_command.specs.Placed.{is_whole, IsPlaced};
-ghost use Rattle.rq_command.specs.Program.{StopsJob, MindsTerminal, EndsSending, EndsJob, end_of, Does, FailsReceiving, Failures};
+ghost use Rattle.rq_command.specs.Program.{StopsJob, MindsTerminal, EndsSending, EndsForgetting, EndsJob, Forgets, end_of, Does, FailsReceiving, Failures, read_behind};
 
 use crate::devices::{Devices, Teller};
 use crate::ending::End;
 use crate::following::{Following, follow_all};
+use crate::guarded::{check, repair};
+use crate::protecting::protect_file;
 use crate::rounds::{Rounds, open_files, send_rounds};
 use crate::told::Told;
 use rq_cast::{Ending, Halt, Input, Seen, check_length, run_receive, standings_in};
@@ -34,6 +37,7 @@ fn read_whole<'w, D: Devices<'w>, R: Read + Drop>(
     ensures stays { D.stands devices.new ≡ D.stands devices.old }
     ensures kept { D.placed devices.new ≡ D.placed devices.old }
     ensures filed { D.filed devices.new ≡ D.filed devices.old }
+    ensures earlier { D.earlier devices.new ≡ D.earlier devices.old }
 {
     let mut input = Counted::new(reader);
     let read = read_all(alloc, &mut input);
@@ -43,7 +47,7 @@ fn read_whole<'w, D: Devices<'w>, R: Read + Drop>(
 
 // The key that a file has, all of whose bytes it is; none where there are none. Without a file it is that of
 // cells by no key.
-fn key_of<'w, D: Devices<'w>>(
+pub(crate) fn key_of<'w, D: Devices<'w>>(
     alloc: Global,
     file: Option<&'w str>,
     devices: &mut D,
@@ -54,6 +58,7 @@ fn key_of<'w, D: Devices<'w>>(
     ensures stays { D.stands devices.new ≡ D.stands devices.old }
     ensures kept { D.placed devices.new ≡ D.placed devices.old }
     ensures filed { D.filed devices.new ≡ D.filed devices.old }
+    ensures earlier { D.earlier devices.new ≡ D.earlier devices.old }
 {
     let Some(file) = file else {
         return Ok(Some(Key::none()));
@@ -81,6 +86,8 @@ fn prepare<'w, D: Devices<'w>, T: Teller>(
     ensures counts { Fails (D.failed devices.old) (D.failed devices.new) (failed_calls result) }
     ensures stays { IfOk result (λ r. D.stands devices.new ≡ D.stands devices.old) }
     ensures kept { D.placed devices.new ≡ D.placed devices.old }
+    ensures filed { D.filed devices.new ≡ D.filed devices.old }
+    ensures told { T.calls teller.new ≡ T.calls teller.old }
 {
     let Some(key) = key_of(alloc, job.key, devices)? else {
         return Ok(None);
@@ -107,7 +114,10 @@ fn send<'w, D: Devices<'w>, T: Teller>(
     requires step { 0 < job.order.ids.step }
     requires rounds { 0 < times_of job.rounds }
     ensures terminal { MindsTerminal (D.terminal devices.old) (end_of result) }
-    ensures does { EndsSending job.entry (D.stands devices.old) D.blank (end_of result) (D.placed devices.old) (D.placed devices.new) }
+    ensures does { EndsSending job.entry (outside (D.terminal devices.old) (T.calls teller.old) (T.calls teller.new)
+        (D.failed devices.old) (D.failed devices.new) (D.earlier devices.old) (D.earlier devices.new))
+        (D.stands devices.old) D.blank (end_of result) (D.placed devices.old) (D.placed devices.new) }
+    ensures filed { D.filed devices.new ≡ D.filed devices.old }
     ensures failures { Failures (end_of result) (D.failed devices.old) (D.failed devices.new) }
 {
     if devices.shows_output() {
@@ -149,6 +159,8 @@ fn place<'w, D: Devices<'w>>(
     ensures same { (ended ≡ result) ⊎ ((is_whole ended ≡ true) × (result ≡ Err Stop.Fault)) }
     ensures placed { IsPlaced file.entry result (D.Writer.contents writer) (D.placed devices.old) (D.placed devices.new) }
     ensures failures { (n : ℕ) × Fails (D.failed devices.old) (D.failed devices.new) n × FailsReceiving result (failed_calls ended + n) }
+    ensures filed { D.filed devices.new ≡ D.filed devices.old }
+    ensures earlier { D.earlier devices.new ≡ D.earlier devices.old }
 {
     if !is_whole(&ended) {
         let _ = devices.finish(file, writer, false);
@@ -156,6 +168,48 @@ fn place<'w, D: Devices<'w>>(
     }
     devices.finish(file, writer, true)?;
     ended
+}
+
+// Opens what is received, behind what earlier runs kept of it, where there is a file for that.
+fn open_input<'w, D: Devices<'w>>(
+    devices: &mut D,
+    state: Option<&'w str>,
+    files: Vec<&'w str>,
+) -> Result<D::Reader, Stop>
+    ensures bytes { IfOk result (λ r. D.Reader.remaining r
+        ≡ read_behind (option_map (λ s. s.now) state.entry) (D.earlier devices.old) (D.stands devices.old (map (λ s. s.now) files.entry.items))) }
+    ensures fault { IfErr result (λ stop. stop ≡ Stop.Fault) }
+    ensures counts { Fails (D.failed devices.old) (D.failed devices.new) (failed_calls result) }
+    ensures kept { D.placed devices.new ≡ D.placed devices.old }
+    ensures filed { D.filed devices.new ≡ D.filed devices.old }
+    ensures earlier { D.earlier devices.new ≡ D.earlier devices.old }
+{
+    match state {
+        Some(state) => devices.open_keeping(state, files),
+        None => devices.open(files),
+    }
+}
+
+// Takes away what was kept of a stream that is whole, and in its place.
+fn forget<'w, D: Devices<'w>>(
+    devices: &mut D,
+    state: Option<&'w str>,
+    put: Result<Ending, Stop>,
+) -> Result<Ending, Stop>
+    ensures same { EndsForgetting (option_map (λ s. s.now) state.entry) put result }
+    ensures forgets { Forgets D.blank (option_map (λ s. s.now) state.entry) result (D.earlier devices.old) (D.earlier devices.new) }
+    ensures failures { (n : ℕ) × Fails (D.failed devices.old) (D.failed devices.new) n × ((m : ℕ) → FailsReceiving put m → FailsReceiving result (m + n)) }
+    ensures kept { D.placed devices.new ≡ D.placed devices.old }
+    ensures filed { D.filed devices.new ≡ D.filed devices.old }
+{
+    let Some(state) = state else {
+        return put;
+    };
+    if !is_whole(&put) {
+        return put;
+    }
+    devices.forget(state)?;
+    put
 }
 
 // Receives a stream. The file that it becomes is there before the first byte is read.
@@ -166,8 +220,9 @@ fn receive<'w, D: Devices<'w>, T: Teller>(
     teller: &mut T,
 ) -> Result<End, Stop>
     requires { 0 < job.window }
-    ensures does { EndsJob (Job.Receive job.entry) (D.terminal devices.old) (D.stands devices.old) D.blank (end_of result)
-        (D.placed devices.old) (D.placed devices.new) (D.filed devices.old) (D.filed devices.new) }
+    ensures does { EndsJob (Job.Receive job.entry) (outside (D.terminal devices.old) (T.calls teller.old) (T.calls teller.new)
+        (D.failed devices.old) (D.failed devices.new) (D.earlier devices.old) (D.earlier devices.new))
+        (D.stands devices.old) D.blank (end_of result) (D.placed devices.old) (D.placed devices.new) (D.filed devices.old) (D.filed devices.new) }
     ensures failures { Failures (end_of result) (D.failed devices.old) (D.failed devices.new) }
 {
     let ReceiveJob {
@@ -176,6 +231,7 @@ fn receive<'w, D: Devices<'w>, T: Teller>(
         window,
         key,
         output,
+        state,
         files,
         telling,
     } = job;
@@ -189,7 +245,7 @@ fn receive<'w, D: Devices<'w>, T: Teller>(
         name: name.as_slice(),
         passed: passed.as_slice(),
     };
-    let reader = devices.open(files)?;
+    let reader = open_input(devices, state, files)?;
     teller.begin(telling, None, devices.length(&reader));
     let mut writer = Counted::new(devices.create(output)?);
     let mut input = Input::new(Counted::new(reader));
@@ -206,8 +262,8 @@ fn receive<'w, D: Devices<'w>, T: Teller>(
     );
     devices.count(&input.into_counted());
     devices.count(&writer);
-    let ended = place(devices, output, writer.into_inner(), ended);
-    Ok(End::Received(ended, seen))
+    let put = place(devices, output, writer.into_inner(), ended);
+    Ok(End::Received(forget(devices, state, put), seen))
 }
 
 // Receives streams one after another.
@@ -218,8 +274,9 @@ fn follow<'w, D: Devices<'w>, T: Teller>(
     teller: &mut T,
 ) -> Result<End, Stop>
     requires { 0 < job.window }
-    ensures does { EndsJob (Job.Follow job.entry) (D.terminal devices.old) (D.stands devices.old) D.blank (end_of result)
-        (D.placed devices.old) (D.placed devices.new) (D.filed devices.old) (D.filed devices.new) }
+    ensures does { EndsJob (Job.Follow job.entry) (outside (D.terminal devices.old) (T.calls teller.old) (T.calls teller.new)
+        (D.failed devices.old) (D.failed devices.new) (D.earlier devices.old) (D.earlier devices.new))
+        (D.stands devices.old) D.blank (end_of result) (D.placed devices.old) (D.placed devices.new) (D.filed devices.old) (D.filed devices.new) }
     ensures failures { Failures (end_of result) (D.failed devices.old) (D.failed devices.new) }
 {
     let FollowJob {
@@ -239,13 +296,14 @@ fn follow<'w, D: Devices<'w>, T: Teller>(
     teller.begin(telling, None, devices.length(&reader));
     let input = Input::new(Counted::new(reader));
     let run = Following {
+        alloc,
         key: &key,
         table: &table,
         window,
         timeout,
         folder,
     };
-    let (streams, last, seen) = follow_all(alloc, &run, passed, input, devices, teller);
+    let (streams, last, seen) = follow_all(&run, passed, input, devices, teller);
     Ok(End::Followed(streams, last, seen))
 }
 
@@ -256,8 +314,9 @@ fn info<'w, D: Devices<'w>, T: Teller>(
     devices: &mut D,
     teller: &mut T,
 ) -> Result<End, Stop>
-    ensures does { EndsJob (Job.Info job.entry) (D.terminal devices.old) (D.stands devices.old) D.blank (end_of result)
-        (D.placed devices.old) (D.placed devices.new) (D.filed devices.old) (D.filed devices.new) }
+    ensures does { EndsJob (Job.Info job.entry) (outside (D.terminal devices.old) (T.calls teller.old) (T.calls teller.new)
+        (D.failed devices.old) (D.failed devices.new) (D.earlier devices.old) (D.earlier devices.new))
+        (D.stands devices.old) D.blank (end_of result) (D.placed devices.old) (D.placed devices.new) (D.filed devices.old) (D.filed devices.new) }
     ensures failures { Failures (end_of result) (D.failed devices.old) (D.failed devices.new) }
 {
     let InfoJob {
@@ -289,6 +348,7 @@ fn end_of(ended: Result<End, Stop>) -> End
 
 /// The program from the words after its name to its end: [`job`] says what they ask for, and
 /// [`send_stream`](rq_cast::send_stream), [`run_receive`] or [`standings_in`] does it, over all rows.
+/// A run that keeps what it reads reads first what earlier ones kept, and answers as one over all of it.
 ///
 /// Words that ask for no job read and write nothing. Of a job with a key the file of that is read first, and
 /// where it is empty nothing else is done. A file is put in its place only where the run has written all of
@@ -301,8 +361,9 @@ pub fn run<'w, S: AsStr, D: Devices<'w>, T: Teller>(
     teller: &mut T,
 ) -> End
     // What the words ask for is done, and nothing where they are refused.
-    ensures does { Does (map S.text words.entry.now) (D.terminal devices.old) (D.stands devices.old) D.blank result
-        (D.placed devices.old) (D.placed devices.new) (D.filed devices.old) (D.filed devices.new) }
+    ensures does { Does (map S.text words.entry.now) (outside (D.terminal devices.old) (T.calls teller.old) (T.calls teller.new)
+        (D.failed devices.old) (D.failed devices.new) (D.earlier devices.old) (D.earlier devices.new))
+        (D.stands devices.old) D.blank result (D.placed devices.old) (D.placed devices.new) (D.filed devices.old) (D.filed devices.new) }
 
     // A failed call ends the run, and nothing else is a fault.
     ensures failures { Failures result (D.failed devices.old) (D.failed devices.new) }
@@ -312,6 +373,9 @@ pub fn run<'w, S: AsStr, D: Devices<'w>, T: Teller>(
         Ok(Job::Receive(job)) => end_of(receive(alloc, job, devices, teller)),
         Ok(Job::Follow(job)) => end_of(follow(alloc, job, devices, teller)),
         Ok(Job::Info(job)) => end_of(info(alloc, job, devices, teller)),
+        Ok(Job::Protect(job)) => end_of(protect_file(alloc, &job, devices, teller)),
+        Ok(Job::Check(job)) => end_of(check(alloc, &job, devices, teller)),
+        Ok(Job::Repair(job)) => end_of(repair(alloc, &job, devices, teller)),
         Err(error) => End::Unasked(error),
     }
 }

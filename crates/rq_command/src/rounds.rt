@@ -1,5 +1,5 @@
 //! The rounds of a stream.
-ghost use Rattle.std.specs.Prelude.{◌≡◌, ◌<◌, IfOk, IfErr, map};
+ghost use Rattle.std.specs.Prelude.{◌≡◌, ℕ, ◌<◌, IfOk, IfErr, map};
 ghost use Rattle.rq_streams.specs.Ends.{failed_calls};
 ghost use Rattle.rq_command.specs.Failed.{Fails, StopsReading};
 ghost use Rattle.rq_command.specs.Rounds.{SendsRounds, StopsRounds, CountsSent, CountsHalt};
@@ -66,10 +66,13 @@ fn send_round<'w, D: Devices<'w>, T: Teller>(
     requires part { 0 < rounds.order.part }
     requires step { 0 < rounds.order.ids.step }
     requires number { rounds.number < rounds.all }
-    ensures sends { IfOk result (λ r. SendsRound D.Writer.contents (D.Reader.remaining reader) rounds.entry r (D.failed devices.old) (D.failed devices.new)) }
-    ensures stops { IfErr result (λ e. StopsRound D.Writer.contents (D.Reader.remaining reader) rounds.entry e.0 e.1 (D.failed devices.old) (D.failed devices.new)) }
+    ensures sends { IfOk result (λ r. SendsRound D.Writer.contents (D.Reader.remaining reader) rounds.entry r (T.calls teller.old) (T.calls teller.new)
+        (D.failed devices.old) (D.failed devices.new)) }
+    ensures stops { IfErr result (λ e. StopsRound D.Writer.contents (D.Reader.remaining reader) rounds.entry e.0 e.1 (T.calls teller.old) (T.calls teller.new)
+        (D.failed devices.old) (D.failed devices.new)) }
     ensures stays { D.stands devices.new ≡ D.stands devices.old }
     ensures kept { D.placed devices.new ≡ D.placed devices.old }
+    ensures filed { D.filed devices.new ≡ D.filed devices.old }
 {
     let Rounds {
         order,
@@ -115,11 +118,13 @@ pub(crate) fn open_files<'w, D: Devices<'w>>(
     ensures counts { Fails (D.failed devices.old) (D.failed devices.new) (failed_calls result) }
     ensures stays { D.stands devices.new ≡ D.stands devices.old }
     ensures kept { D.placed devices.new ≡ D.placed devices.old }
+    ensures filed { D.filed devices.new ≡ D.filed devices.old }
 {
     devices.open(Vec::from_slice(alloc, files)?)
 }
 
-/// Sends all rounds, of which the first reads this. Gives the writer back.
+/// Sends all rounds, of which the first reads this, and that one alone where it has no cell: no other has one then.
+/// Gives the writer back.
 pub(crate) fn send_rounds<'w, D: Devices<'w>, T: Teller>(
     alloc: Global,
     unsent: Rounds<'w, D::Writer>,
@@ -131,18 +136,23 @@ pub(crate) fn send_rounds<'w, D: Devices<'w>, T: Teller>(
     requires step { 0 < unsent.order.ids.step }
     requires unsent { IsUnsent unsent }
     requires bytes { D.Reader.remaining reader ≡ D.stands devices.old (map (λ s. s.now) unsent.files.items) }
-    ensures sends { IfOk result.1 (SendsRounds unsent.entry.order unsent.entry.key unsent.entry.all (D.stands devices.old (map (λ s. s.now) unsent.entry.files.items))
+    ensures sends { IfOk result.1 (SendsRounds unsent.entry.order unsent.entry.key unsent.entry.all
+        (D.stands devices.old (map (λ s. s.now) unsent.entry.files.items)) (T.calls teller.old) (T.calls teller.new)
         (D.Writer.contents unsent.entry.writer) (D.Writer.contents result.0)) }
     ensures counts { IfOk result.1 (CountsSent (D.failed devices.old) (D.failed devices.new)) }
-    ensures stops { IfErr result.1 (StopsRounds unsent.entry.order unsent.entry.key unsent.entry.all (D.stands devices.old (map (λ s. s.now) unsent.entry.files.items))
-        (D.Writer.contents unsent.entry.writer) (D.Writer.contents result.0)) }
-    ensures failed { IfErr result.1 (CountsHalt (D.failed devices.old) (D.failed devices.new)) }
+    ensures stops { IfErr result.1 (λ halt. (lost : ℕ) × CountsHalt (D.failed devices.old) (D.failed devices.new) halt lost
+        × StopsRounds unsent.entry.order unsent.entry.key unsent.entry.all (D.stands devices.old (map (λ s. s.now) unsent.entry.files.items))
+        (T.calls teller.old) (T.calls teller.new) (D.Writer.contents unsent.entry.writer) (D.Writer.contents result.0) halt lost) }
     ensures kept { D.placed devices.new ≡ D.placed devices.old }
+    ensures filed { D.filed devices.new ≡ D.filed devices.old }
 {
     let mut rounds = match send_round(alloc, unsent, reader, devices, teller) {
         Ok(rounds) => rounds,
         Err((writer, halt)) => return (writer, Err(halt)),
     };
+    if rounds.sent.cells == 0 {
+        return (rounds.writer, Ok(rounds.sent));
+    }
     for _round in 1..rounds.all {
         let reader = match open_files(alloc, rounds.files.as_slice(), devices) {
             Ok(reader) => reader,

@@ -30,6 +30,13 @@ file_rule = record (new_rule (codes "file")) { action = Some Set; value_names = 
 abbrev pub cells_rule : Rule
 cells_rule = record (new_rule (codes "cells")) { action = Some Append; value_names = 1 }
 
+-- a file that has a guard, which has to be named, and its guard
+abbrev pub guarded_rule : Rule
+guarded_rule = record (new_rule (codes "file")) { action = Some Set; value_names = 1; required = true }
+
+abbrev pub guard_rule : Rule
+guard_rule = record (new_rule (codes "guard")) { action = Some Set; value_names = 1 }
+
 -- a subcommand, which says the version too
 abbrev pub subcommand_app : Text → App
 subcommand_app name = on_top (λ s. record s { has_version = true }) (new_app name)
@@ -50,15 +57,20 @@ abbrev pub with_ids : App → App
 with_ids a = with_rule (with_rule (with_rule (with_rule a (value_rule (codes "rate"))) (value_rule (codes "share")))
     (with_default (codes "0") (value_rule (codes "from")))) (value_rule (codes "rounds"))
 
--- the options that say where to is received, whether one stream or all, and how long one may be silent
+-- the options that say where to is received, whether one stream or all, how long one may be silent, and where what is read is kept
 abbrev pub with_places : App → App
-with_places a =
-    with_rule (with_rule (with_rule a (with_letter 111 (value_rule (codes "output")))) (flag_rule (codes "follow"))) (value_rule (codes "timeout"))
+with_places a = with_rule (with_rule (with_rule (with_rule a (with_letter 111 (value_rule (codes "output")))) (flag_rule (codes "follow")))
+    (value_rule (codes "timeout"))) (value_rule (codes "state"))
 
 -- the options that say which stream is received, and by what window
 abbrev pub with_choice : App → App
 with_choice a =
     with_rule (with_rule (with_rule a (value_rule (codes "name"))) (several_rule (codes "not"))) (with_default (codes "2") (value_rule (codes "window")))
+
+-- the options that say how a guard is made, and where to
+abbrev pub with_guard : App → App
+with_guard a = with_rule (with_rule (with_rule a (with_default (codes "250M") (value_rule (codes "part"))))
+    (with_default (codes "10%") (with_letter 114 (value_rule (codes "repair"))))) (with_letter 111 (value_rule (codes "output")))
 
 unfoldable pub send_app : App
 send_app = with_rule (with_common (with_ids (with_repair (subcommand_app (codes "send"))))) file_rule
@@ -69,13 +81,24 @@ receive_app = with_rule (with_common (with_choice (with_places (subcommand_app (
 unfoldable pub info_app : App
 info_app = with_rule (with_common (subcommand_app (codes "info"))) cells_rule
 
+unfoldable pub protect_app : App
+protect_app = with_rule (with_common (with_guard (subcommand_app (codes "protect")))) guarded_rule
+
+unfoldable pub check_app : App
+check_app = with_rule (with_rule (with_common (subcommand_app (codes "check"))) guarded_rule) guard_rule
+
+unfoldable pub repair_app : App
+repair_app = with_rule (with_rule (with_common (with_rule (subcommand_app (codes "repair")) (with_letter 111 (value_rule (codes "output"))))) guarded_rule) guard_rule
+
 -- the program, with no subcommand yet
 abbrev pub top_app : App
 top_app = on_top (λ s. record s { has_version = true; no_binary_name = true; subcommand_required = true; disable_help_subcommand = true }) (new_app (codes "rqcast"))
 
 -- all words behind the program's name
 unfoldable pub program_app : App
-program_app = with_subcommand (with_subcommand (with_subcommand top_app send_app.top) receive_app.top) info_app.top
+program_app =
+    with_subcommand (with_subcommand (with_subcommand (with_subcommand (with_subcommand (with_subcommand top_app send_app.top) receive_app.top) info_app.top)
+    protect_app.top) check_app.top) repair_app.top
 
 -- what the parser finds at fault in words
 unfoldable pub faults_of : List Text → Kinds

@@ -2,7 +2,7 @@
 ghost use Rattle.std.specs.Prelude.{◌≡◌, IfOk, false};
 ghost use Rattle.clap.specs.Words.{app_of, rule_of, with_rule};
 ghost use Rattle.clap.specs.declared.builder.command.Command.TheViews.{out-Command};
-ghost use Rattle.rq_options.specs.Definition.{value_rule, several_rule, flag_rule, file_rule, cells_rule, subcommand_app, top_app, with_common, with_repair, with_ids, with_places, with_choice, send_app, receive_app, info_app, program_app};
+ghost use Rattle.rq_options.specs.Definition.{value_rule, several_rule, flag_rule, file_rule, cells_rule, subcommand_app, top_app, guarded_rule, guard_rule, with_common, with_repair, with_ids, with_places, with_guard, send_app, receive_app, info_app, protect_app, check_app, repair_app, program_app, with_choice};
 
 use crate::version::VERSION;
 use clap::{Arg, ArgAction, Command};
@@ -15,7 +15,7 @@ Examples:
   rqcast info KEPT
 
 It ends with 0 where all is done, 1 after a fault of the system, 2 where too
-little came, 3 where what came is refused or forged, and 64 where the words
+little came, 3 where what was to be sent is refused, and 64 where the words
 are wrong or the key is empty.";
 
 // An option that takes a value.
@@ -69,6 +69,29 @@ fn file<'a>(alloc: Global) -> Arg<'a>
         .value_name("FILE")
         .action(ArgAction::Set)
         .help("The file to send, in place of standard input")
+}
+
+// The file that has a guard.
+fn guarded<'a>(alloc: Global) -> Arg<'a>
+    ensures rule { rule_of result ≡ guarded_rule }
+    ensures local { result.global ≡ false }
+{
+    Arg::new(alloc, "file")
+        .value_name("FILE")
+        .action(ArgAction::Set)
+        .required(true)
+        .help("The file that stays as it is")
+}
+
+// Its guard.
+fn guard<'a>(alloc: Global) -> Arg<'a>
+    ensures rule { rule_of result ≡ guard_rule }
+    ensures local { result.global ≡ false }
+{
+    Arg::new(alloc, "guard")
+        .value_name("GUARD")
+        .action(ArgAction::Set)
+        .help("Its guard [default: FILE.rqc]")
 }
 
 // A subcommand with no options yet. Its version is the program's.
@@ -171,7 +194,7 @@ fn numbered<'a>(alloc: Global, command: Command<'a>) -> Result<Command<'a>, Allo
     added(three, rounds)
 }
 
-// The options of `receive` that say where to.
+// The options of `receive` that say where to, and what is kept meanwhile.
 fn placed<'a>(alloc: Global, command: Command<'a>) -> Result<Command<'a>, AllocError>
     ensures app { IfOk result (λ c. app_of c ≡ with_places (app_of command.entry)) }
     ensures local { IfOk result (λ c. (out-Command c).has_globals ≡ (out-Command command.entry).has_globals) }
@@ -195,7 +218,14 @@ fn placed<'a>(alloc: Global, command: Command<'a>) -> Result<Command<'a>, AllocE
         "SECONDS",
         "How long a stream may be silent while others come, by --follow",
     );
-    added(two, timeout)
+    let three = added(two, timeout)?;
+    let state = value(
+        alloc,
+        "state",
+        "FILE",
+        "Keep in FILE what is read, for the run behind one that is killed",
+    );
+    added(three, state)
 }
 
 // The options of `receive` that say which cells are taken.
@@ -260,6 +290,67 @@ pub(crate) fn info<'a>(alloc: Global) -> Result<Command<'a>, AllocError>
     added(common, cells(alloc))
 }
 
+// The options of `protect` alone.
+fn guarding<'a>(alloc: Global, command: Command<'a>) -> Result<Command<'a>, AllocError>
+    ensures app { IfOk result (λ c. app_of c ≡ with_guard (app_of command.entry)) }
+    ensures local { IfOk result (λ c. (out-Command c).has_globals ≡ (out-Command command.entry).has_globals) }
+{
+    let part = value(
+        alloc,
+        "part",
+        "BYTES",
+        "How many bytes are guarded as a part",
+    );
+    let one = added(command, part.default_value("250M"))?;
+    let repair = value(alloc, "repair", "N|N%|all", "Repair packets a part");
+    let two = added(one, repair.short('r').default_value("10%"))?;
+    let output = value(
+        alloc,
+        "output",
+        "GUARD",
+        "Where the guard is put when it is whole [default: FILE.rqc]",
+    );
+    added(two, output.short('o'))
+}
+
+/// `protect`, with its options.
+pub(crate) fn protect<'a>(alloc: Global) -> Result<Command<'a>, AllocError>
+    ensures app { IfOk result (λ c. app_of c ≡ protect_app) }
+    ensures local { IfOk result (λ c. (out-Command c).has_globals ≡ false) }
+{
+    let about = "Makes a guard of FILE, from which FILE is mended";
+    let guarding = guarding(alloc, subcommand(alloc, "protect", about)?)?;
+    let common = common(alloc, guarding)?;
+    added(common, guarded(alloc))
+}
+
+/// `check`, with its options.
+pub(crate) fn check<'a>(alloc: Global) -> Result<Command<'a>, AllocError>
+    ensures app { IfOk result (λ c. app_of c ≡ check_app) }
+    ensures local { IfOk result (λ c. (out-Command c).has_globals ≡ false) }
+{
+    let about = "Says whether FILE is as its guard says, and else where it isn't";
+    let common = common(alloc, subcommand(alloc, "check", about)?)?;
+    added(added(common, guarded(alloc))?, guard(alloc))
+}
+
+/// `repair`, with its options.
+pub(crate) fn repair<'a>(alloc: Global) -> Result<Command<'a>, AllocError>
+    ensures app { IfOk result (λ c. app_of c ≡ repair_app) }
+    ensures local { IfOk result (λ c. (out-Command c).has_globals ≡ false) }
+{
+    let about = "Mends FILE by its guard";
+    let output = value(
+        alloc,
+        "output",
+        "FILE",
+        "Where it is put when it is whole [default: in its own place]",
+    );
+    let placed = added(subcommand(alloc, "repair", about)?, output.short('o'))?;
+    let common = common(alloc, placed)?;
+    added(added(common, guarded(alloc))?, guard(alloc))
+}
+
 // The program with no subcommand yet. Usage names it before a subcommand.
 fn top<'a>(alloc: Global) -> Result<Command<'a>, AllocError>
     ensures { IfOk result (λ c. app_of c ≡ top_app) }
@@ -280,5 +371,8 @@ pub(crate) fn program<'a>(alloc: Global) -> Result<Command<'a>, AllocError>
 {
     let one = top(alloc)?.subcommand(send(alloc)?)?;
     let two = one.subcommand(receive(alloc)?)?;
-    two.subcommand(info(alloc)?)
+    let three = two.subcommand(info(alloc)?)?;
+    let four = three.subcommand(protect(alloc)?)?;
+    let five = four.subcommand(check(alloc)?)?;
+    five.subcommand(repair(alloc)?)
 }

@@ -18,6 +18,12 @@ pub enum Verb {
     Receive,
     /// `info`.
     Info,
+    /// `protect`.
+    Protect,
+    /// `check`.
+    Check,
+    /// `repair`.
+    Repair,
 }
 
 /// What the parser finds among the words after the program's name. Its errors are those of clap, requests
@@ -49,6 +55,15 @@ fn verb_of(name: &str) -> Option<Verb>
     }
     if name == "info" {
         return Some(Verb::Info);
+    }
+    if name == "protect" {
+        return Some(Verb::Protect);
+    }
+    if name == "check" {
+        return Some(Verb::Check);
+    }
+    if name == "repair" {
+        return Some(Verb::Repair);
     }
     None
 }

@@ -45,6 +45,9 @@ fn command_of<'a>(alloc: Global, verb: Verb) -> Result<Command<'a>, AllocError> 
         Verb::Send => definition::send(alloc)?.bin_name("rqcast send"),
         Verb::Receive => definition::receive(alloc)?.bin_name("rqcast receive"),
         Verb::Info => definition::info(alloc)?.bin_name("rqcast info"),
+        Verb::Protect => definition::protect(alloc)?.bin_name("rqcast protect"),
+        Verb::Check => definition::check(alloc)?.bin_name("rqcast check"),
+        Verb::Repair => definition::repair(alloc)?.bin_name("rqcast repair"),
     }
 }
 

@@ -72,4 +72,6 @@ impl<C: Clock> Pace for Pacer<'_, C> {
         }
         self.due = due.saturating_add(time_of(bytes, rate));
     }
+
+    fn tell_call(&mut self, _cell: &[u8], _is_lost: bool) {}
 }

@@ -9,7 +9,8 @@ use crate::silence::Silence;
 use raptorq::Decoder;
 use rq_cast::{Ending, Pace, Progress, Seen, Sender, Sent, missing_packets};
 use rq_cells::STREAM_LENGTH;
-use rq_command::{End, Teller, Telling, announce};
+use rq_command::{End, Findings, Teller, Telling, announce};
+use rq_guard::Guarded;
 use rq_streams::Stop;
 use std::io;
 use std::io::Write;
@@ -161,6 +162,8 @@ impl<'a, C: Clock, W: Write> Watch<'a, C, W> {
             End::Followed(_, Ok(Ending::Incomplete { parts, missing }), seen) => {
                 self.say_received(seen, Some(u64::from(*parts)), *missing)
             }
+            End::Protected(made) => self.say_protected(made),
+            End::Checked(Some(found)) | End::Repaired(Some(found)) => self.say_found(found),
             _ => Ok(()),
         };
     }
@@ -191,6 +194,31 @@ impl<'a, C: Clock, W: Write> Watch<'a, C, W> {
             0 => writeln!(self.out, "{cells} {noun}, none lost"),
             _ => writeln!(self.out, "{cells} {noun}, {lost} and more lost"),
         }
+    }
+
+    // Writes how many symbols of a file are damaged.
+    fn say_found(&mut self, found: &Findings) -> io::Result<()> {
+        let (damaged, symbols) = (found.damaged(), found.symbols());
+        if self.telling == Telling::Json {
+            return self.write_json(&[("symbols", Some(symbols)), ("damaged", Some(damaged))]);
+        }
+        self.say_passed()?;
+        match damaged {
+            0 => writeln!(self.out, "{symbols} symbols, none damaged"),
+            _ => writeln!(self.out, "{damaged} of {symbols} symbols damaged"),
+        }
+    }
+
+    fn say_protected(&mut self, made: &Guarded) -> io::Result<()> {
+        let Guarded { parts, cells } = *made;
+        if self.telling == Telling::Json {
+            return self.write_json(&[("cells", Some(cells)), ("parts", Some(u64::from(parts)))]);
+        }
+        self.say_passed()?;
+        if parts > 1 {
+            write!(self.out, "{parts} parts, ")?;
+        }
+        writeln!(self.out, "guarded by {cells} {}", noun_of(cells))
     }
 
     // Writes how many parts are written and how many symbols of the next one are missing, where some are, and
@@ -311,6 +339,8 @@ impl<C: Clock, W: Write> Pace for Watch<'_, C, W> {
             };
         }
     }
+
+    fn tell_call(&mut self, _cell: &[u8], _is_lost: bool) {}
 }
 
 impl<C: Clock, W: Write> Progress for Watch<'_, C, W> {

@@ -1,5 +1,5 @@
 -- What the program's words ask for, and how they are refused.
-use Rattle.std.specs.Prelude.{◌≡◌, ◌⊎◌, ⊤, ℕ, ◌+◌, ◌<◌, List, [], ◌∷◌, Option, Some, None, Result, Ok, Err, map, option_map, codes, Bool, true, false, if◌then◌else◌, nat_lt, length}
+use Rattle.std.specs.Prelude.{◌≡◌, ◌⊎◌, ⊤, ℕ, ◌+◌, ◌<◌, List, [], ◌∷◌, Option, Some, None, Result, Ok, Err, map, option_map, codes, Bool, true, false, if◌then◌else◌, nat_lt, length, bytes_eq}
 use Rattle.clap.specs.Words.{IsAmong, Kinds, Row, first_of}
 use Rattle.clap.specs.Kinds.{or_else}
 use Rattle.clap.specs.declared.error.kind.ErrorKind.{ErrorKind}
@@ -22,8 +22,11 @@ use Rattle.rq_words.specs.declared.jobs.ReceiveJob.{ReceiveJob}
 use Rattle.rq_words.specs.declared.jobs.FollowJob.{FollowJob}
 use Rattle.rq_words.specs.declared.jobs.InfoJob.{InfoJob}
 use Rattle.rq_words.specs.declared.jobs.Job.{Job}
-use Rattle.rq_words.specs.declared.jobs.Job.TheVariants.{Send, Receive, Follow, Info}
-use Rattle.rq_words.specs.Values.{part_of, window_of, timeout_of, symbol_size_of, loss_of, repair_of, rounds_of, times_of, rate_of, id_of, share_of, name_of}
+use Rattle.rq_words.specs.declared.jobs.ProtectJob.{ProtectJob}
+use Rattle.rq_words.specs.declared.jobs.CheckJob.{CheckJob}
+use Rattle.rq_words.specs.declared.jobs.RepairJob.{RepairJob}
+use Rattle.rq_words.specs.declared.jobs.Job.TheVariants.{Send, Receive, Follow, Info, Protect, Check, Repair as Mend}
+use Rattle.rq_words.specs.Values.{part_of, guarded_part_of, window_of, symbol_size_of, loss_of, repair_of, rounds_of, times_of, rate_of, id_of, share_of, name_of, timeout_of}
 
 -- What is asked for, or the kind of its refusal: the first one in the order in which the options are read.
 abbrev pub Asked : Type 0 → Type 0
@@ -161,15 +164,16 @@ passed_by texts = if nat_lt 64 (length texts) then Err ValueValidation else each
 unfoldable pub passed_asked : List Row → Asked (List (List ℕ))
 passed_asked rows = passed_by (texts_of rows (codes "not"))
 
--- the folder of streams that are taken one after another, which has a name, where no stream has one
-abbrev pub follow_by : Bool → Option (List ℕ) → Option (List ℕ) → Asked (Option (List ℕ))
-follow_by false output name = Ok None
-follow_by true None name = Err MissingRequiredArgument
-follow_by true (Some folder) None = Ok (Some folder)
-follow_by true (Some folder) (Some name) = Err ArgumentConflict
+-- the folder of streams that are taken one after another, which has a name, where no stream has one, and nothing is kept
+abbrev pub follow_by : Bool → Option (List ℕ) → Option (List ℕ) → Option (List ℕ) → Asked (Option (List ℕ))
+follow_by false output name state = Ok None
+follow_by true None name state = Err MissingRequiredArgument
+follow_by true (Some folder) None None = Ok (Some folder)
+follow_by true (Some folder) None (Some state) = Err ArgumentConflict
+follow_by true (Some folder) (Some name) state = Err ArgumentConflict
 
 unfoldable pub follow_asked : List Row → Asked (Option (List ℕ))
-follow_asked rows = follow_by (is_flagged rows (codes "follow")) (first_of (codes "output") rows) (first_of (codes "name") rows)
+follow_asked rows = follow_by (is_flagged rows (codes "follow")) (first_of (codes "output") rows) (first_of (codes "name") rows) (first_of (codes "state") rows)
 
 -- for how many seconds a stream may be silent, where streams are taken one after another
 abbrev pub with_follow : Bool → ℕ → Asked (Option ℕ)
@@ -213,6 +217,7 @@ pub record IsReceiveOf (rows : List Row) (job : ReceiveJob) : Type 0 where
   pub asked_for : receive_asked rows ≡ Ok ((job.name.items, map (λ v. v.items) job.passed.items), (None, (timeout, (job.window, job.telling))))
   pub key : option_map (λ s. s.now) job.key ≡ first_of (codes "key") rows
   pub output : option_map (λ s. s.now) job.output ≡ first_of (codes "output") rows
+  pub state : option_map (λ s. s.now) job.state ≡ first_of (codes "state") rows
   pub files : map (λ s. s.now) job.files.items ≡ texts_of rows (codes "cells")
 
 -- no name is asked for then
@@ -226,6 +231,61 @@ pub record IsInfoOf (rows : List Row) (job : InfoJob) : Type 0 where
   pub asked_for : telling_asked rows ≡ Ok job.telling
   pub key : option_map (λ s. s.now) job.key ≡ first_of (codes "key") rows
   pub files : map (λ s. s.now) job.files.items ≡ texts_of rows (codes "cells")
+
+-- ---- guards
+
+unfoldable pub guarded_part_asked : List Row → Asked ℕ
+guarded_part_asked rows = valued (guarded_part_of (text_or rows (codes "part") []))
+
+unfoldable pub guard_repair_asked : List Row → Asked Repair
+guard_repair_asked rows = valued (repair_of (text_or rows (codes "repair") []))
+
+-- how many bytes a part has, and how many repair packets
+abbrev pub guarding_asked : List Row → Asked (ℕ × Repair)
+guarding_asked rows = both (guarded_part_asked rows) (guard_repair_asked rows)
+
+-- a file has to be named
+abbrev pub file_by : Option (List ℕ) → Asked (List ℕ)
+file_by None = Err MissingRequiredArgument
+file_by (Some file) = Ok file
+
+unfoldable pub guarded_file_asked : List Row → Asked (List ℕ)
+guarded_file_asked rows = file_by (first_of (codes "file") rows)
+
+-- which file has a guard, and what is told
+abbrev pub guarded_asked : List Row → Asked (List ℕ × Telling)
+guarded_asked rows = both (guarded_file_asked rows) (telling_asked rows)
+
+-- A guard isn't put in the place of its file.
+abbrev pub apart : List ℕ → Option (List ℕ) → Asked (List ℕ)
+apart file None = Ok file
+apart file (Some output) = if bytes_eq output file then Err ValueValidation else Ok file
+
+unfoldable pub protected_file_asked : List Row → Asked (List ℕ)
+protected_file_asked rows = and_then (guarded_file_asked rows) (λ file. apart file (first_of (codes "output") rows))
+
+abbrev pub protected_asked : List Row → Asked (List ℕ × Telling)
+protected_asked rows = both (protected_file_asked rows) (telling_asked rows)
+
+-- how a guard is made, and of which file
+abbrev pub protect_asked : List Row → Asked ((ℕ × Repair) × (List ℕ × Telling))
+protect_asked rows = both (guarding_asked rows) (protected_asked rows)
+
+pub record IsProtectOf (rows : List Row) (job : ProtectJob) : Type 0 where
+  pub asked_for : protect_asked rows ≡ Ok ((job.part, job.repair), (job.file.now, job.telling))
+  pub key : option_map (λ s. s.now) job.key ≡ first_of (codes "key") rows
+  pub output : option_map (λ s. s.now) job.output ≡ first_of (codes "output") rows
+
+pub record IsCheckOf (rows : List Row) (job : CheckJob) : Type 0 where
+  pub asked_for : guarded_asked rows ≡ Ok (job.file.now, job.telling)
+  pub key : option_map (λ s. s.now) job.key ≡ first_of (codes "key") rows
+  pub guard : option_map (λ s. s.now) job.guard ≡ first_of (codes "guard") rows
+
+pub record IsRepairOf (rows : List Row) (job : RepairJob) : Type 0 where
+  pub asked_for : guarded_asked rows ≡ Ok (job.file.now, job.telling)
+  pub key : option_map (λ s. s.now) job.key ≡ first_of (codes "key") rows
+  pub guard : option_map (λ s. s.now) job.guard ≡ first_of (codes "guard") rows
+  pub output : option_map (λ s. s.now) job.output ≡ first_of (codes "output") rows
 
 -- what `receive` asks for
 abbrev pub IsReceivedOf : List Row → Job → Type 0
@@ -244,27 +304,27 @@ AsksFor words (Send job) = (rows : List Row) × Uses words verb.Send rows × IsS
 AsksFor words (Receive job) = (rows : List Row) × Uses words verb.Receive rows × IsReceiveOf rows job
 AsksFor words (Follow job) = (rows : List Row) × Uses words verb.Receive rows × IsFollowOf rows job
 AsksFor words (Info job) = (rows : List Row) × Uses words verb.Info rows × IsInfoOf rows job
+AsksFor words (Protect job) = (rows : List Row) × Uses words verb.Protect rows × IsProtectOf rows job
+AsksFor words (Check job) = (rows : List Row) × Uses words verb.Check rows × IsCheckOf rows job
+AsksFor words (Mend job) = (rows : List Row) × Uses words verb.Repair rows × IsRepairOf rows job
 
 -- the ids of an order go on from one to the next
 abbrev pub StepsOn : Job → Type 0
 StepsOn (Send job) = 0 < job.order.ids.step
-StepsOn (Receive job) = ⊤
-StepsOn (Follow job) = ⊤
-StepsOn (Info job) = ⊤
+StepsOn _ = ⊤
 
 -- a part has bytes, and a window parts
 abbrev pub HasParts : Job → Type 0
 HasParts (Send job) = 0 < job.order.part
 HasParts (Receive job) = 0 < job.window
 HasParts (Follow job) = 0 < job.window
-HasParts (Info job) = ⊤
+HasParts (Protect job) = 0 < job.part
+HasParts _ = ⊤
 
 -- a stream is sent in some rounds
 abbrev pub HasRounds : Job → Type 0
 HasRounds (Send job) = 0 < times_of job.rounds
-HasRounds (Receive job) = ⊤
-HasRounds (Follow job) = ⊤
-HasRounds (Info job) = ⊤
+HasRounds _ = ⊤
 
 -- ---- words that ask for nothing
 
@@ -278,6 +338,9 @@ abbrev pub misuses_behind : Verb → List Row → Kinds
 misuses_behind verb.Send rows = kinds_of (send_asked rows)
 misuses_behind verb.Receive rows = kinds_of (receive_asked rows)
 misuses_behind verb.Info rows = kinds_of (telling_asked rows)
+misuses_behind verb.Protect rows = kinds_of (protect_asked rows)
+misuses_behind verb.Check rows = kinds_of (guarded_asked rows)
+misuses_behind verb.Repair rows = kinds_of (guarded_asked rows)
 
 -- of the subcommand that is used, and that none is
 abbrev pub misuses_of : Option (Verb × List Row) → Kinds

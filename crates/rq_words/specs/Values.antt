@@ -22,6 +22,10 @@ up_to most text = option_and_then (λ n. if nat_lt 0 n && nat_le n most then Som
 unfoldable pub part_of : List ℕ → Option ℕ
 part_of text = up_to (greatest_transfer_length - 32) text
 
+-- those of one that is guarded: with them it is no longer than one block may be
+unfoldable pub guarded_part_of : List ℕ → Option ℕ
+guarded_part_of text = up_to 1006632928 text
+
 -- the parts of a window
 unfoldable pub window_of : List ℕ → Option ℕ
 window_of text = up_to 1024 text

@@ -1,6 +1,6 @@
 //! What the program can be asked to do.
 
-use rq_cast::Order;
+use rq_cast::{Order, Repair};
 
 /// What is told of a run beside what went wrong.
 #[derive(Clone, Copy, Debug, Default, PartialEq, Eq)]
@@ -70,6 +70,9 @@ pub struct ReceiveJob<'a> {
     pub key: Option<&'a str>,
     /// The file that it becomes, or none for standard output.
     pub output: Option<&'a str>,
+    /// The file in which what is read is kept until the stream is whole, and that is read before the rest, where
+    /// there is one.
+    pub state: Option<&'a str>,
     /// The files among whose bytes its cells stand, one behind another, or none for standard input.
     pub files: Vec<&'a str>,
     /// What is told.
@@ -106,6 +109,51 @@ pub struct InfoJob<'a> {
     pub telling: Telling,
 }
 
+/// Of which file a guard is made, and how.
+#[derive(Debug, PartialEq, Eq, Drop)]
+pub struct ProtectJob<'a> {
+    /// How many bytes are guarded as a part: not 0.
+    pub part: u64,
+    /// How many repair packets a part has.
+    pub repair: Repair,
+    /// The file whose bytes are the key that its cells are made by, where there is one.
+    pub key: Option<&'a str>,
+    /// The file that is guarded.
+    pub file: &'a str,
+    /// The file that the guard becomes, or none for that which is named by the guarded one.
+    pub output: Option<&'a str>,
+    /// What is told.
+    pub telling: Telling,
+}
+
+/// Which file is looked through.
+#[derive(Debug, PartialEq, Eq, Drop)]
+pub struct CheckJob<'a> {
+    /// The file whose bytes are the key that cells are made by, where there is one.
+    pub key: Option<&'a str>,
+    /// The file that has a guard.
+    pub file: &'a str,
+    /// Its guard, or none for that which is named by it.
+    pub guard: Option<&'a str>,
+    /// What is told.
+    pub telling: Telling,
+}
+
+/// Which file is mended.
+#[derive(Debug, PartialEq, Eq, Drop)]
+pub struct RepairJob<'a> {
+    /// The file whose bytes are the key that cells are made by, where there is one.
+    pub key: Option<&'a str>,
+    /// The file that has a guard.
+    pub file: &'a str,
+    /// Its guard, or none for that which is named by it.
+    pub guard: Option<&'a str>,
+    /// The file that it becomes, or none for its own place.
+    pub output: Option<&'a str>,
+    /// What is told.
+    pub telling: Telling,
+}
+
 /// What the program is asked to do.
 #[derive(Debug, PartialEq, Eq, Drop)]
 pub enum Job<'a> {
@@ -117,4 +165,10 @@ pub enum Job<'a> {
     Follow(FollowJob<'a>),
     /// Lists the streams whose cells stand among bytes.
     Info(InfoJob<'a>),
+    /// Makes the guard of a file.
+    Protect(ProtectJob<'a>),
+    /// Looks whether a file is as its guard says.
+    Check(CheckJob<'a>),
+    /// Mends a file by its guard.
+    Repair(RepairJob<'a>),
 }

@@ -94,18 +94,22 @@ fn follow_of<'a>(matches: &ArgMatches<'a>) -> Result<Option<&'a str>, Misuse<'a>
     if !is_flagged(matches, "follow") {
         return Ok(None);
     }
-    match (text_of(matches, "output"), text_of(matches, "name")) {
-        (None, _) => Err(Misuse::Alone {
+    let Some(folder) = text_of(matches, "output") else {
+        return Err(Misuse::Alone {
             option: "--follow",
             missing: "'--output <FILE>'",
             reason: "the folder in which each stream becomes a file",
-        }),
-        (Some(folder), None) => Ok(Some(folder)),
-        (Some(_), Some(_)) => Err(Misuse::Together {
-            one: "--follow",
-            other: "--name <HEX>",
-        }),
-    }
+        });
+    };
+    let other = match (text_of(matches, "name"), text_of(matches, "state")) {
+        (None, None) => return Ok(Some(folder)),
+        (Some(_), _) => "--name <HEX>",
+        (None, Some(_)) => "--state <FILE>",
+    };
+    Err(Misuse::Together {
+        one: "--follow",
+        other,
+    })
 }
 
 // For how many seconds a stream may be silent.
@@ -187,6 +191,8 @@ pub(crate) fn receive_job<'a>(alloc: Global, matches: &ArgMatches<'a>) -> Result
     };
     let files = texts_of(alloc, matches, "cells")?;
     let key = text_of(matches, "key");
+    let output = text_of(matches, "output");
+    let state = text_of(matches, "state");
     match folder {
         Some(folder) => Ok(Job::Follow(FollowJob {
             passed,
@@ -202,7 +208,8 @@ pub(crate) fn receive_job<'a>(alloc: Global, matches: &ArgMatches<'a>) -> Result
             passed,
             window,
             key,
-            output: text_of(matches, "output"),
+            output,
+            state,
             files,
             telling,
         })),

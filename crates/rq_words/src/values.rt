@@ -1,6 +1,6 @@
 //! What the values of options say.
 ghost use Rattle.std.specs.Prelude.{◌≡◌, ◌<◌, ◌≤◌, option_map, IfOk, IfSome};
-ghost use Rattle.rq_words.specs.Values.{up_to, part_of, window_of, timeout_of, symbol_size_of, percent_of, packets_of, loss_of, repair_of, rounds_of, times_of, rate_of, id_of, share_of, sized, is_refused, name_of};
+ghost use Rattle.rq_words.specs.Values.{up_to, part_of, guarded_part_of, window_of, symbol_size_of, percent_of, packets_of, loss_of, repair_of, rounds_of, times_of, rate_of, id_of, share_of, sized, is_refused, name_of, timeout_of};
 
 use crate::jobs::Rounds;
 use crate::numbers::{count, scaled};
@@ -11,6 +11,9 @@ use std::alloc::{AllocError, Global};
 
 // How many bytes a part has at most: with the seal of the last one an object has no more.
 const LONGEST_PART: u64 = 942_574_504_243;
+
+// How many bytes a part has at most that is one block, with a seal behind those of the last one.
+const LONGEST_GUARDED_PART: u64 = 1_006_632_928;
 
 /// How many parts a window has at most.
 pub const WIDEST_WINDOW: u32 = 1024;
@@ -52,6 +55,15 @@ pub(crate) fn part(text: &str) -> Option<u64>
     ensures some { IfSome result (λ bytes. 0 < bytes) }
 {
     up_to(LONGEST_PART, text)
+}
+
+/// How many bytes a part has that is guarded: not 0, and at most so many as one block has without a seal.
+#[tactic(auto, unfolding(crate::specs::Values::guarded_part_of))]
+pub(crate) fn guarded_part(text: &str) -> Option<u64>
+    ensures value { result ≡ guarded_part_of text.now }
+    ensures some { IfSome result (λ bytes. 0 < bytes) }
+{
+    up_to(LONGEST_GUARDED_PART, text)
 }
 
 /// How many parts a window has, from 1 to 1024.

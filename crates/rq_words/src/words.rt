@@ -5,6 +5,7 @@ ghost use Rattle.rq_words.specs.Values.{loss_of, repair_of, times_of};
 ghost use Rattle.rq_words.specs.Asked.{asked, kinds_of, valued, part_asked, symbol_size_asked, repair_asked, rate_asked, with_file, rounds_asked, share_asked, from_asked, ids_asked, order_asked, telling_asked, course_asked, send_asked, IsSendOf, IsInfoOf, AsksFor, StepsOn, HasParts, HasRounds, IsRefused};
 ghost use Rattle.rq_options.specs.Options.{misuse_kind};
 
+use crate::guarding::{check_job, protect_job, repair_job};
 use crate::jobs::{InfoJob, Job, Rounds, SendJob, Telling};
 use crate::receiving::receive_job;
 use crate::values;
@@ -295,8 +296,8 @@ fn info_job<'a>(alloc: Global, matches: &ArgMatches<'a>) -> Result<InfoJob<'a>, 
 /// of these: a value that its option doesn't take, of `--part`, `--cell`, `--loss` or `--repair`, `--share`,
 /// `--from`, `--rate`, `--rounds`, `--name`, `--not`, `--follow`, `--timeout` and `--window` in this order, where
 /// `--loss` beside `--repair` stands for theirs, `--rounds` of more than 1 without a file for its, and so do `--follow`
-/// without `--output` or beside `--name`, and `--timeout` without `--follow`; and two of `--quiet`, `--progress` and
-/// `--json`.
+/// without `--output` or beside `--name` or `--state`, and `--timeout` without `--follow`; and two of `--quiet`, `--progress` and
+/// `--json`. Of `protect` it is `--part`, `--repair`, `--output` where it names the guarded file, and two of these flags.
 /// [`ErrorKind::OutOfMemory`](clap::error::ErrorKind) may come before any of them.
 pub fn job<'a, S: AsStr>(alloc: Global, words: &'a [S]) -> Result<Job<'a>, Error>
     ensures job { IfOk result (AsksFor (map S.text words.entry.now)) }
@@ -310,6 +311,9 @@ pub fn job<'a, S: AsStr>(alloc: Global, words: &'a [S]) -> Result<Job<'a>, Error
         Some((Verb::Send, behind)) => Ok(Job::Send(send_job(alloc, behind)?)),
         Some((Verb::Receive, behind)) => receive_job(alloc, behind),
         Some((Verb::Info, behind)) => Ok(Job::Info(info_job(alloc, behind)?)),
+        Some((Verb::Protect, behind)) => Ok(Job::Protect(protect_job(alloc, behind)?)),
+        Some((Verb::Check, behind)) => Ok(Job::Check(check_job(alloc, behind)?)),
+        Some((Verb::Repair, behind)) => Ok(Job::Repair(repair_job(alloc, behind)?)),
         // There are no others, and one is required.
         None => Err(no_subcommand(alloc)),
     }

@@ -1,5 +1,6 @@
 //! A file that is written beside its place.
 
+use crate::keeping::{node_at, node_of};
 use crate::system::System;
 use rq_cells::STREAM_LENGTH;
 use std::fmt::Write;
@@ -70,29 +71,33 @@ fn rights_of(rt: &HostRuntime, path: &PathBuf) -> Option<Permissions> {
     }
 }
 
-// Whether another run writes a file now.
-fn is_taken(rt: &HostRuntime, path: &str) -> bool {
-    match fs::symlink_metadata(rt, path) {
-        Ok(metadata) if metadata.is_file() => match File::open(rt, path) {
-            Ok(file) => matches!(file.try_lock(), Err(TryLockError::WouldBlock)),
-            Err(_) => false,
-        },
-        _ => false,
+// Locks what a run left that was killed, where it can be read, and takes it away meanwhile. Refuses what another run
+// writes now.
+fn remove_left(rt: &HostRuntime, path: &str) -> io::Result<()> {
+    let Ok(metadata) = fs::symlink_metadata(rt, path) else {
+        return Ok(());
+    };
+    if metadata.is_file()
+        && let Ok(left) = File::open(rt, path)
+    {
+        if matches!(left.try_lock(), Err(TryLockError::WouldBlock)) {
+            return Err(io::Error::from(ErrorKind::ResourceBusy));
+        }
+        return fs::remove_file(rt, path);
     }
+    fs::remove_file(rt, path)
 }
 
 // Makes a file, in place of what a run left there that was killed.
 fn create_anew(rt: &HostRuntime, path: &str) -> io::Result<File> {
-    if is_taken(rt, path) {
+    remove_left(rt, path)?;
+    let file = File::create_new(rt, path)?;
+    // Where a file can't be locked, other runs don't see that it is taken. One that was as fast may lock it for a
+    // moment, and take it away.
+    let _ = file.lock();
+    if node_at(rt, path) != Some(node_of(&file.metadata()?)) {
         return Err(io::Error::from(ErrorKind::ResourceBusy));
     }
-    match fs::remove_file(rt, path) {
-        Err(error) if error.kind() != ErrorKind::NotFound => return Err(error),
-        _ => {}
-    }
-    let file = File::create_new(rt, path)?;
-    // Where a file can't be locked, other runs don't see that it is taken.
-    let _ = file.try_lock();
     Ok(file)
 }
 

@@ -4,6 +4,7 @@
 
 mod aside;
 mod failure;
+mod keeping;
 mod source;
 mod system;
 mod target;
@@ -12,7 +13,7 @@ mod words;
 use crate::failure::Failure;
 use crate::system::System;
 use crate::words::{Words, read_words};
-use rq_command::{End, Telling, run, write_end, write_standings};
+use rq_command::{End, Telling, run, write_end, write_findings, write_standings};
 use rq_watch::Watch;
 use std::cell::{Cell, OnceCell};
 use std::io;
@@ -36,23 +37,22 @@ fn main(rt: HostRuntime) -> ExitCode {
             return ExitCode::from(FAULT);
         }
     };
-    let beside = OnceCell::new();
-    let failure = Cell::new(None);
-    ExitCode::from(done(&rt, words.as_slice(), &beside, &failure))
+    let (beside, guard) = (OnceCell::new(), OnceCell::new());
+    let (failure, kept) = (Cell::new(None), Cell::new(None));
+    let system = System {
+        rt: &rt,
+        failure: &failure,
+        beside: &beside,
+        guard: &guard,
+        kept: &kept,
+    };
+    ExitCode::from(done(system, words.as_slice()))
 }
 
 // Does what the words ask for, and says how that ended. Answers the status.
-fn done<'c, 'w>(
-    rt: &'c HostRuntime,
-    words: &'w [String],
-    beside: &'w OnceCell<String>,
-    failure: &'c Cell<Option<Failure<'w>>>,
-) -> u8 {
-    let mut system = System {
-        rt,
-        failure,
-        beside,
-    };
+fn done<'w>(system: System<'_, 'w>, words: &'w [String]) -> u8 {
+    let (rt, failure) = (system.rt, system.failure);
+    let mut system = system;
     let mut watch = Watch::new(rt, rt.stderr(), rt.stderr().is_terminal());
     let ended = run(rt.alloc(), words, &mut system, &mut watch);
     watch.end(&ended);
@@ -85,6 +85,10 @@ fn say(rt: &HostRuntime, ended: &End, telling: Telling) -> io::Result<()> {
         End::Surveyed(standings) => {
             let is_json = telling == Telling::Json;
             write_standings(standings.as_slice(), is_json, &mut rt.stdout())
+        }
+        End::Checked(Some(found)) => {
+            let is_json = telling == Telling::Json;
+            write_findings(found, is_json, &mut rt.stdout())
         }
         _ => Ok(()),
     }

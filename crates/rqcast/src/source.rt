@@ -1,10 +1,11 @@
 //! Standard input, or files that are read one behind another.
 ghost use Rattle.std.specs.Io.{ReadsAtMost};
 
+use crate::keeping::Keeping;
 use crate::system::System;
 use std::fs::File;
-use std::io;
-use std::io::Read;
+use std::io::{ErrorKind, Read};
+use std::{fs, io};
 
 /// What is read.
 #[derive(Drop)]
@@ -14,6 +15,7 @@ pub struct Source<'c, 'w> {
     // How many of them were opened, the last of which is read.
     opened: usize,
     file: Option<File>,
+    keeping: Option<Keeping<'c, 'w>>,
 }
 
 impl<'c, 'w> Source<'c, 'w> {
@@ -24,15 +26,55 @@ impl<'c, 'w> Source<'c, 'w> {
             files,
             opened: 0,
             file: None,
+            keeping: None,
         };
         source.open_next()?;
         Ok(source)
     }
 
+    /// Reads what earlier runs kept in a file, and then the same, which is kept there too.
+    pub fn open_keeping(
+        system: System<'c, 'w>,
+        state: &'w str,
+        files: Vec<&'w str>,
+    ) -> io::Result<Source<'c, 'w>> {
+        let keeping = Keeping::open(system, state)?;
+        if files.is_empty() {
+            keeping.check_input(None)?;
+        }
+        for path in &files {
+            keeping.check_input(Some(*path))?;
+        }
+        let mut source = Source::open(system, files)?;
+        source.keeping = Some(keeping);
+        Ok(source)
+    }
+
+    /// Reads a file, and says whether there is such a file: else it reads nothing.
+    pub fn open_if_there(
+        system: System<'c, 'w>,
+        path: &'w str,
+    ) -> io::Result<(Source<'c, 'w>, bool)> {
+        let files = Vec::from_slice(system.rt.alloc(), &[path])?;
+        match fs::metadata(system.rt, path) {
+            Err(error) if error.kind() == ErrorKind::NotFound => {
+                let nothing = Source {
+                    system,
+                    files,
+                    opened: 1,
+                    file: None,
+                    keeping: None,
+                };
+                Ok((nothing, false))
+            }
+            _ => Ok((Source::open(system, files)?, true)),
+        }
+    }
+
     /// How long the file is, where it is the only one, and has a length: some that are made as they are read
     /// say that they have none.
     pub fn length(&self) -> Option<u64> {
-        if self.files.len() != 1 {
+        if self.files.len() != 1 || self.keeping.is_some() {
             return None;
         }
         match self.file.as_ref()?.metadata() {
@@ -66,10 +108,11 @@ impl<'c, 'w> Source<'c, 'w> {
         let place = self.files.get(number).copied().unwrap_or("standard input");
         self.system.noted("reading", place, result)
     }
-}
 
-impl Read for Source<'_, '_> {
-    fn read(&mut self, buf: &mut [u8]) -> io::Result<usize> {
+    // Reads the files one behind another.
+    fn read_files(&mut self, buf: &mut [u8]) -> io::Result<usize>
+        ensures { ReadsAtMost result buf.new }
+    {
         for _file in 0..self.files.len() {
             let n = self.read_open(buf)?;
             if n > 0 || buf.is_empty() {
@@ -78,5 +121,21 @@ impl Read for Source<'_, '_> {
             self.open_next()?;
         }
         self.read_open(buf)
+    }
+}
+
+impl Read for Source<'_, '_> {
+    fn read(&mut self, buf: &mut [u8]) -> io::Result<usize> {
+        if let Some(keeping) = &mut self.keeping {
+            let n = keeping.read(buf)?;
+            if n > 0 {
+                return Ok(n);
+            }
+        }
+        let n = self.read_files(buf)?;
+        if let Some(keeping) = &mut self.keeping {
+            keeping.keep(&buf[..n])?;
+        }
+        Ok(n)
     }
 }

@@ -2,6 +2,7 @@
 ghost use Rattle.std.specs.Prelude.{◌≡◌};
 
 use crate::failure::Failure;
+use crate::keeping::{Node, forget};
 use crate::source::Source;
 use crate::target::Target;
 use rq_cells::STREAM_LENGTH;
@@ -19,6 +20,10 @@ pub struct System<'c, 'w> {
     pub failure: &'c Cell<Option<Failure<'w>>>,
     /// The file that is written beside its place, or in a folder, where there is one.
     pub beside: &'w OnceCell<String>,
+    /// The file in which what is read is kept, where there is one.
+    pub kept: &'c Cell<Option<Node>>,
+    /// The name of a file's guard, where none is said.
+    pub guard: &'w OnceCell<String>,
 }
 
 impl<'c, 'w> System<'c, 'w> {
@@ -67,6 +72,39 @@ impl<'c, 'w> Devices<'w> for System<'c, 'w> {
 
     fn open(&mut self, files: Vec<&'w str>) -> Result<Source<'c, 'w>, Stop> {
         Source::open(*self, files).map_err(|_| Stop::Fault)
+    }
+
+    fn open_keeping(
+        &mut self,
+        state: &'w str,
+        files: Vec<&'w str>,
+    ) -> Result<Source<'c, 'w>, Stop> {
+        Source::open_keeping(*self, state, files).map_err(|_| Stop::Fault)
+    }
+
+    fn forget(&mut self, state: &'w str) -> Result<(), Stop> {
+        forget(*self, state).map_err(|_| Stop::Fault)
+    }
+
+    fn open_if_there(&mut self, file: &'w str) -> Result<(Source<'c, 'w>, bool), Stop> {
+        Source::open_if_there(*self, file).map_err(|_| Stop::Fault)
+    }
+
+    fn open_guard(&mut self, file: &'w str, said: Option<&'w str>) -> Result<Source<'c, 'w>, Stop> {
+        let guard = match said {
+            Some(guard) => guard,
+            None => self.guard_of(file)?,
+        };
+        let files = Vec::from_slice(self.rt.alloc(), &[guard])?;
+        self.open(files)
+    }
+
+    fn guard_of(&mut self, file: &'w str) -> Result<&'w str, Stop> {
+        let alloc = self.rt.alloc();
+        let guard = self
+            .guard
+            .get_or_try_init(|| format!(in alloc; "{file}.rqc"))?;
+        Ok(guard.as_str())
     }
 
     fn length(&self, reader: &Source<'c, 'w>) -> Option<u64> {

@@ -22,6 +22,8 @@ impl Pace for Announced {
     }
 
     fn wait(&mut self, _bytes: usize) {}
+
+    fn tell_call(&mut self, _cell: &[u8], _is_lost: bool) {}
 }
 
 #[test]
@@ -91,6 +93,16 @@ fn ends_are_said(rt: HostRuntime) {
         (
             End::Followed(streams(1, 1), incomplete(2, Some(7)), one),
             "rqcast: 2 parts are whole, and the next one takes 7 more packets",
+            2,
+        ),
+        (
+            End::Checked(None),
+            "rqcast: the lists of the guard aren't whole",
+            2,
+        ),
+        (
+            End::Repaired(None),
+            "rqcast: the lists of the guard aren't whole",
             2,
         ),
         (

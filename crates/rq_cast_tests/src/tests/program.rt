@@ -83,6 +83,28 @@ impl<'w, 'a> Devices<'w> for Memory<'a> {
         Ok(Bytes { rest })
     }
 
+    fn open_keeping(&mut self, _state: &'w str, files: Vec<&'w str>) -> Result<Bytes<'a>, Stop> {
+        self.open(files)
+    }
+
+    fn forget(&mut self, _state: &'w str) -> Result<(), Stop> {
+        Ok(())
+    }
+
+    fn open_if_there(&mut self, file: &'w str) -> Result<(Bytes<'a>, bool), Stop> {
+        let files = Vec::from_slice(self.alloc, &[file]).map_err(|_| Stop::Fault)?;
+        Ok((self.open(files)?, true))
+    }
+
+    fn open_guard(&mut self, file: &'w str, said: Option<&'w str>) -> Result<Bytes<'a>, Stop> {
+        let files = Vec::from_slice(self.alloc, &[said.unwrap_or(file)])?;
+        self.open(files)
+    }
+
+    fn guard_of(&mut self, file: &'w str) -> Result<&'w str, Stop> {
+        Ok(file)
+    }
+
     fn length(&self, reader: &Bytes<'a>) -> Option<u64> {
         Some(reader.rest.len() as u64)
     }
@@ -138,6 +160,8 @@ impl Pace for Nobody {
     fn begin_part(&mut self, _sender: &Sender<'_>) {}
 
     fn wait(&mut self, _bytes: usize) {}
+
+    fn tell_call(&mut self, _cell: &[u8], _is_lost: bool) {}
 }
 
 impl Progress for Nobody {
@@ -203,7 +227,7 @@ fn both(alloc: Global, row: &Row) -> Result<(Done, Done), Error> {
 
 #[test]
 fn words_are_done(rt: HostRuntime) {
-    let rows: [Row; 19] = [
+    let rows: [Row; 21] = [
         ("send --cell 88 --repair 0 FILE", FILE, 0, CELLS, 1),
         ("send --cell=88 -r0 --share 0/2", FILE, 0, (&FIRST, b""), 0),
         ("send -c88 -r 0 --from 1 -q", FILE, 0, (&SECOND, b""), 0),
@@ -241,6 +265,8 @@ fn words_are_done(rt: HostRuntime) {
         ("receive -o FILE", MISNAMED, 2, OLD, 0),
         ("receive", MISNAMED, 2, NOTHING, 0),
         ("info A", CELLS, 0, OLD, 1),
+        ("check A", FILE, 2, OLD, 1),
+        ("repair A GUARD", FILE, 2, OLD, 1),
     ];
     for row in rows {
         let (found, wanted) = both(rt.alloc(), &row).expect(&rt, "memory");

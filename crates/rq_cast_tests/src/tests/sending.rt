@@ -63,6 +63,8 @@ impl Pace for Waits {
     fn wait(&mut self, bytes: usize) {
         self.bytes = self.bytes.saturating_add(bytes);
     }
+
+    fn tell_call(&mut self, _cell: &[u8], _is_lost: bool) {}
 }
 
 /// An order for source symbols of 24 bytes whose ids these are, in parts of so many bytes.

@@ -161,6 +161,9 @@ fn names_key(alloc: Global, line: &str, key: Option<&str>) -> Result<bool, Alloc
         Ok(Job::Receive(job)) => Ok(job.key == key),
         Ok(Job::Follow(job)) => Ok(job.key == key),
         Ok(Job::Info(job)) => Ok(job.key == key),
+        Ok(Job::Protect(job)) => Ok(job.key == key),
+        Ok(Job::Check(job)) => Ok(job.key == key),
+        Ok(Job::Repair(job)) => Ok(job.key == key),
         Err(_) => Ok(false),
     }
 }
@@ -174,6 +177,9 @@ fn keys_are_named(rt: HostRuntime) {
         ("receive -kFILE A B", Some("FILE")),
         ("receive A B", None),
         ("info A --key FILE", Some("FILE")),
+        ("protect -k FILE A", Some("FILE")),
+        ("check A GUARD", None),
+        ("repair A --key FILE -o B", Some("FILE")),
     ] {
         let is_named = names_key(rt.alloc(), line, key).expect(&rt, "memory");
         assert!(rt; is_named, "{line}");
@@ -242,6 +248,18 @@ fn wrong_words_are_named(rt: HostRuntime) {
             "info --quiet --json",
             "'--quiet' cannot be used with '--json'",
         ),
+        ("protect", "<FILE>"),
+        (
+            "protect --part 1006632929 A",
+            "'1006632929' for '--part <BYTES>'",
+        ),
+        (
+            "protect --repair some A",
+            "'some' for '--repair <N|N%|all>'",
+        ),
+        ("protect -o A A", "'A' for '--output <GUARD>'"),
+        ("check A GUARD B", "'B'"),
+        ("repair -q --json A", "'--quiet' cannot be used"),
     ] {
         let message = refused(alloc, line).expect(&rt, "memory");
         assert!(rt; message.as_str().contains(word), "{line}: {message}");

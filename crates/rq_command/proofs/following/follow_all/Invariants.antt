@@ -13,4 +13,5 @@ invariant-streams g l = record {
       (unread g.D.Reader.Read.remaining l.input) (g.D.Devices.filed l.devices);
   none : failed_count (counted_of l.input) ≡ 0;
   fails : Fails (g.D.Devices.failed l.fn.devices) (g.D.Devices.failed l.devices) 0;
+  kept : g.D.Devices.placed l.devices ≡ g.D.Devices.placed l.fn.devices;
 }

@@ -17,11 +17,13 @@ returns-clause-does g c =
     let file = key_file stands (option_map (λ s. s.now) c.args.job.key) in
     let files = map (λ s. s.now) c.args.job.files.items in
     let read = c.new-input.ensures.unread remaining ∙ ap remaining c.new.ensures.inner ∙ c.in_ok-reader.ensures.bytes
-    ∙ ap (λ there. there files) c.key_of.ensures.stays in
-    follows file (map (λ v. v.items) c.args.job.passed.items) c.args.job.window c.args.job.timeout c.follow_all-last.result.0 c.follow_all-last.result.1 c.follow_all-last.result.2
-    c.in-Some.key c.in_ok-table.table (stands files) (unread remaining c.new-input.result) g.D.Devices.blank (g.D.Devices.filed c.args.devices.now)
-    (g.D.Devices.filed c.open.new.self) (g.D.Devices.filed c.follow_all-last.new.devices) (subst (IsKeyRead file) c.in-Some.is c.in_ok-key.ensures.key)
-    c.in_ok-table.ensures read (c.open.ensures.filed ∙ c.key_of.ensures.filed) c.follow_all-last.ensures.all
+    ∙ ap (λ there. there files) c.key_of.ensures.stays in (
+      follows file (map (λ v. v.items) c.args.job.passed.items) c.args.job.window c.args.job.timeout c.follow_all-last.result.0 c.follow_all-last.result.1 c.follow_all-last.result.2
+          c.in-Some.key c.in_ok-table.table (stands files) (unread remaining c.new-input.result) g.D.Devices.blank (g.D.Devices.filed c.args.devices.now)
+          (g.D.Devices.filed c.open.new.self) (g.D.Devices.filed c.follow_all-last.new.devices) (subst (IsKeyRead file) c.in-Some.is c.in_ok-key.ensures.key)
+          c.in_ok-table.ensures read (c.open.ensures.filed ∙ c.key_of.ensures.filed) c.follow_all-last.ensures.all,
+      c.follow_all-last.ensures.kept ∙ c.open.ensures.kept ∙ c.key_of.ensures.kept,
+    )
 
 pub returns-clause-failures : goal.returns-clause-failures
 returns-clause-failures g c =

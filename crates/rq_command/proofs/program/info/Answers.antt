@@ -27,8 +27,11 @@ returns-clause-does g c =
     let file = key_file stands (option_map (λ s. s.now) c.args.job.key) in
     let files = map (λ s. s.now) c.args.job.files.items in
     let there = ap remaining c.new.ensures ∙ c.in_ok-reader.ensures.bytes ∙ ap (λ there. there files) c.key_of.ensures.stays in (
-      c.read_whole.ensures.kept ∙ c.open.ensures.kept ∙ c.key_of.ensures.kept,
-      lists file (stands files) (remaining (told c.new.result)) c.in-Some.key c.in_ok-table.table c.in_ok-bytes.bytes.items
-          c.in_ok-standings.standings.items (subst (IsKeyRead file) c.in-Some.is c.in_ok-key.ensures.key) c.in_ok-table.ensures there c.in_ok-bytes.ensures.bytes
-          (rw c.as_slice-bytes.ensures.value at c.in_ok-standings.ensures.survey),
+      (
+        c.read_whole.ensures.kept ∙ c.open.ensures.kept ∙ c.key_of.ensures.kept,
+        lists file (stands files) (remaining (told c.new.result)) c.in-Some.key c.in_ok-table.table c.in_ok-bytes.bytes.items
+            c.in_ok-standings.standings.items (subst (IsKeyRead file) c.in-Some.is c.in_ok-key.ensures.key) c.in_ok-table.ensures there c.in_ok-bytes.ensures.bytes
+            (rw c.as_slice-bytes.ensures.value at c.in_ok-standings.ensures.survey),
+      ),
+      c.read_whole.ensures.filed ∙ c.open.ensures.filed ∙ c.key_of.ensures.filed,
     )

@@ -53,7 +53,8 @@ returns-in-None-clause-job c =
       timeout = following.1.0;
       asked_for = both_asked (which_asked rows) (following_asked rows) which asked is c.in-Ok-following_of.ensures.value ∙ ap (λ folder. Ok (which, (folder, following.1))) none;
       key = c.text_of-key.ensures;
-      output = c.text_of.ensures;
+      output = c.text_of-output.ensures;
+      state = c.text_of-state.ensures;
       files = c.in_ok-files.ensures;
     }
 

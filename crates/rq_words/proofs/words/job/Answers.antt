@@ -40,6 +40,30 @@ returns-in_err-info_job-in-Some-Info-default-clause-refused g c =
     (Some (verb.Info, rows_of (found_of c.in-Some-Info-default.behind.now))) c.in_ok-matches.ensures.fails
     ((rw c.in-Some-Info-default.field-0-0-is at c.in-Some-Info-default.ensures) ∙ c.in_ok-matches.ensures.used) c.in_err-info_job-in-Some-Info-default.ensures.fails)
 
+pub returns-in_err-protect_job-in-Some-Protect-default-clause-refused : goal.returns-in_err-protect_job-in-Some-Protect-default-clause-refused
+returns-in_err-protect_job-in-Some-Protect-default-clause-refused g c =
+    let p = err_from_is_err_and c.from_residual-in_err-protect_job-in-Some-Protect-default.result c.from_residual-in_err-protect_job-in-Some-Protect-default.ensures.1 in
+    rw (p.1, p.2)
+    (refused_then (map g.S.AsStr.text c.args.words.now) (kind_of c.in_err-protect_job-in-Some-Protect-default.field-0.0)
+    (Some (verb.Protect, rows_of (found_of c.in-Some-Protect-default.behind.now))) c.in_ok-matches.ensures.fails
+    ((rw c.in-Some-Protect-default.field-0-0-is at c.in-Some-Protect-default.ensures) ∙ c.in_ok-matches.ensures.used) c.in_err-protect_job-in-Some-Protect-default.ensures.fails)
+
+pub returns-in_err-check_job-in-Some-Check-default-clause-refused : goal.returns-in_err-check_job-in-Some-Check-default-clause-refused
+returns-in_err-check_job-in-Some-Check-default-clause-refused g c =
+    let p = err_from_is_err_and c.from_residual-in_err-check_job-in-Some-Check-default.result c.from_residual-in_err-check_job-in-Some-Check-default.ensures.1 in
+    rw (p.1, p.2)
+    (refused_then (map g.S.AsStr.text c.args.words.now) (kind_of c.in_err-check_job-in-Some-Check-default.field-0.0)
+    (Some (verb.Check, rows_of (found_of c.in-Some-Check-default.behind.now))) c.in_ok-matches.ensures.fails
+    ((rw c.in-Some-Check-default.field-0-0-is at c.in-Some-Check-default.ensures) ∙ c.in_ok-matches.ensures.used) c.in_err-check_job-in-Some-Check-default.ensures.fails)
+
+pub returns-in_err-repair_job-in-Some-Repair-default-clause-refused : goal.returns-in_err-repair_job-in-Some-Repair-default-clause-refused
+returns-in_err-repair_job-in-Some-Repair-default-clause-refused g c =
+    let p = err_from_is_err_and c.from_residual-in_err-repair_job-in-Some-Repair-default.result c.from_residual-in_err-repair_job-in-Some-Repair-default.ensures.1 in
+    rw (p.1, p.2)
+    (refused_then (map g.S.AsStr.text c.args.words.now) (kind_of c.in_err-repair_job-in-Some-Repair-default.field-0.0)
+    (Some (verb.Repair, rows_of (found_of c.in-Some-Repair-default.behind.now))) c.in_ok-matches.ensures.fails
+    ((rw c.in-Some-Repair-default.field-0-0-is at c.in-Some-Repair-default.ensures) ∙ c.in_ok-matches.ensures.used) c.in_err-repair_job-in-Some-Repair-default.ensures.fails)
+
 pub returns-clause-refused : goal.returns-clause-refused
 returns-clause-refused g c =
     refused_then (map g.S.AsStr.text c.args.words.now) (kind_of c.no_subcommand.result) None c.in_ok-matches.ensures.fails

@@ -1,0 +1,76 @@
+-- What is put in a file's place, or taken away.
+use Rattle.std.proofs.Common.{◌≡◌, ◌⊎◌, ℕ, ◌+◌, ◌≤◌, Bool, true, false, Some, Result, Ok, Err, IsOk, inl, inr, sym, subst, ap, ◌∙◌, arith}
+use Rattle.rq_streams.specs.declared.run.Stop.{Stop}
+use Rattle.rq_streams.specs.declared.run.Stop.TheVariants.{Fault, Refused}
+use Rattle.rq_streams.specs.Ends.{failed_calls}
+use Rattle.rq_command.specs.Guards.{FailsMending, FailsPutting, is_mended}
+use Rattle.rq_command.specs.Placed.{Contents, IsFinished}
+
+-- ---- what is placed
+
+module _ {X F : Type 0} (place : F) (is_whole : Bool) (written old new : Contents) where
+  -- it isn't whole, and is taken away
+  pub put_away : (D : Type 0) (ended : Result X Stop) (finished : Result D Stop) → is_whole ≡ false
+      → IsFinished {X = F} {D = D} (Some place) false finished written old new → IsFinished (Some place) is_whole ended written old new
+  put_away D ended finished is h = subst (λ (b : Bool). IsFinished {X = F} {D = X} (Some place) b ended written old new) (sym is) h
+
+  -- it is whole, and put there
+  pub put_there : (D : Type 0) (ended : Result X Stop) (d : D) → is_whole ≡ true → IsOk ended
+      → IsFinished {X = F} {D = D} (Some place) true (Ok d) written old new → IsFinished (Some place) is_whole ended written old new
+  put_there D (Ok x) d is ok h = subst (λ (b : Bool). IsFinished {X = F} {D = X} (Some place) b (Ok x) written old new) (sym is) h
+  put_there D (Err stop) d is ok h = absurd (cc ok)
+
+  -- it is whole, and can't be put there
+  pub not_put : (D : Type 0) (result : Result X Stop) (stop : Stop) → is_whole ≡ true → result ≡ Err stop
+      → IsFinished {X = F} {D = D} (Some place) true (Err stop) written old new → IsFinished (Some place) is_whole result written old new
+  not_put D result stop is ended h =
+      subst (λ (r : Result X Stop). IsFinished (Some place) is_whole r written old new) (sym ended)
+      (subst (λ (b : Bool). IsFinished {X = F} {D = X} (Some place) b (Err stop) written old new) (sym is) h)
+
+-- what is stopped changes nothing
+pub stopped_kept : {X F : Type 0} (place : F) (is_whole : Bool) (written old new : Contents) (result : Result X Stop) (stop : Stop) → result ≡ Err stop
+    → IsFinished (Some place) is_whole result written old new → new ≡ old
+stopped_kept {X} place true written old new result stop is h = subst (λ (r : Result X Stop). IsFinished (Some place) true r written old new) is h
+stopped_kept {X} place false written old new result stop is h = h
+
+-- what is whole is there
+pub whole_put : {X F : Type 0} (place : F) (is_whole : Bool) (written old new : Contents) (result : Result X Stop) (x : X) → is_whole ≡ true → result ≡ Ok x
+    → IsFinished (Some place) is_whole result written old new → new ≡ written
+whole_put {X} place is_whole written old new result x whole is h =
+    subst (λ (r : Result X Stop). IsFinished (Some place) true r written old new) is
+    (subst (λ (b : Bool). IsFinished (Some place) b result written old new) whole h)
+
+-- ---- failed calls
+
+pub fails_away : {X : Type 0} (is_whole : Bool) (result : Result X Stop) (n : ℕ) → is_whole ≡ false → n ≤ 1 → FailsPutting is_whole result n
+fails_away is_whole result n is few = subst (λ (b : Bool). FailsPutting b result n) (sym is) few
+
+pub fails_there : {X : Type 0} (is_whole : Bool) (result : Result X Stop) (n : ℕ) → is_whole ≡ true → IsOk result → n ≡ 0 → FailsPutting is_whole result n
+fails_there {X} is_whole (Ok x) n is ok none = subst (λ (b : Bool). FailsPutting {X = X} b (Ok x) n) (sym is) none
+fails_there {X} is_whole (Err stop) n is ok none = absurd (cc ok)
+
+pub fails_putting : {X : Type 0} (is_whole : Bool) (result : Result X Stop) (stop : Stop) (n : ℕ) → is_whole ≡ true → result ≡ Err stop → stop ≡ Fault
+    → n ≡ failed_calls {X = ℕ} (Err stop) → FailsPutting is_whole result n
+fails_putting {X} is_whole result stop n is ended fault count =
+    let once : n ≡ 1 = count ∙ ap (λ s. failed_calls {X = ℕ} (Err s)) fault in
+    subst (λ (r : Result X Stop). FailsPutting is_whole r n) (sym ended)
+    (subst (λ (b : Bool). FailsPutting {X = X} b (Err stop) n) (sym is) (fault, once))
+
+-- ---- what is mended
+
+pub fails_mending : (ended result : Result Bool Stop) (n more : ℕ) → n ≡ failed_calls ended
+    → (ended ≡ result) ⊎ ((is_mended ended ≡ true) × (result ≡ Err Fault)) → FailsPutting (is_mended ended) result more → FailsMending result (n + more)
+fails_mending ended (Ok true) n more count (inl same) fails =
+    let none : more ≡ 0 = subst (λ (r : Result Bool Stop). FailsPutting {X = Bool} (is_mended r) (Ok true) more) same fails in
+    let before : n ≡ 0 = count ∙ ap failed_calls same in omega (arith, none, before)
+fails_mending ended (Ok false) n more count (inl same) fails =
+    let few : more ≤ 1 = subst (λ (r : Result Bool Stop). FailsPutting {X = Bool} (is_mended r) (Ok false) more) same fails in
+    let before : n ≡ 0 = count ∙ ap failed_calls same in omega (arith, few, before)
+fails_mending ended (Err Fault) n more count (inl same) fails =
+    let before : n ≡ 1 = count ∙ ap failed_calls same in omega (arith, before)
+fails_mending ended (Err (Refused e)) n more count (inl same) fails = tt
+fails_mending ended (Ok mended) n more count (inr stopped) fails = absurd (cc stopped.1)
+fails_mending ended (Err Fault) n more count (inr stopped) fails =
+    let put : FailsPutting {X = Bool} true (Err Fault) more = subst (λ (b : Bool). FailsPutting {X = Bool} b (Err Fault) more) stopped.0 fails in
+    omega (arith, put.1)
+fails_mending ended (Err (Refused e)) n more count (inr stopped) fails = tt

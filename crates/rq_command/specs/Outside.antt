@@ -1,0 +1,29 @@
+-- What is known of a run beside the bytes that it reads and writes.
+use Rattle.std.specs.Prelude.{ℕ, Bool, List, Option}
+use Rattle.rq_cast.specs.Calls.{Call}
+use Rattle.rq_command.specs.Following.{Folder}
+
+-- which calls that begin cells were told, where that is known
+abbrev pub KnownCalls : Type 0
+KnownCalls = Option (List Call)
+
+-- Whether its cells would go to a terminal; and which calls were told, how many failed, and what runs kept of their input, before it and behind it.
+pub record Outside : Type 0 where
+  pub terminal : Option Bool
+  pub told : KnownCalls
+  pub told_behind : KnownCalls
+  pub failed : Option ℕ
+  pub failed_behind : Option ℕ
+  pub earlier : Folder
+  pub earlier_behind : Folder
+
+abbrev pub outside : Option Bool → KnownCalls → KnownCalls → Option ℕ → Option ℕ → Folder → Folder → Outside
+outside terminal told told_behind failed failed_behind earlier earlier_behind = record {
+  terminal = terminal;
+  told = told;
+  told_behind = told_behind;
+  failed = failed;
+  failed_behind = failed_behind;
+  earlier = earlier;
+  earlier_behind = earlier_behind;
+}
