@@ -17,10 +17,10 @@ use Rattle.rq_words.specs.declared.jobs.Job.TheVariants.{Send, Receive, Follow, 
 use Rattle.rq_command.specs.declared.ending.End.{End}
 use Rattle.rq_command.specs.declared.ending.End.TheVariants.{Unasked, AtTerminal, EmptyKey, Sent, Changed, Received, Followed, Surveyed, Protected, Checked, Repaired, Stopped}
 use Rattle.rq_words.specs.Asked.{AsksFor}
-use Rattle.rq_command.specs.Following.{Folder}
-use Rattle.rq_command.specs.Keyed.{IsKeyOf}
+use Rattle.rq_devices.specs.Folder.{Folder}
+use Rattle.rq_devices.specs.Keyed.{IsKeyOf}
 use Rattle.rq_command.specs.Outside.{KnownCalls, Outside}
-use Rattle.rq_command.specs.Placed.{Contents}
+use Rattle.rq_devices.specs.Placed.{Contents}
 use Rattle.rq_command.specs.Program.{Does, EndsJob, MindsTerminal, is_at_terminal, Lists, RefusesLength, StopsUnsent, end_of}
 
 module _ (words : List (List ℕ)) (outside : Outside) (stands : List (List ℕ) → Contents) (blank : Contents) where

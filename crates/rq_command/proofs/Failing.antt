@@ -9,33 +9,13 @@ use Rattle.rq_cast.specs.declared.run.Ending.{Ending}
 use Rattle.rq_cast.specs.declared.run.Ending.TheVariants.{Written, Incomplete, GivenUp}
 use Rattle.rq_cast.specs.Received.{is_given_up}
 use Rattle.rq_command.specs.declared.ending.End.{End}
-use Rattle.rq_command.specs.Failed.{Fails}
+use Rattle.rq_devices.specs.Failed.{Fails}
 use Rattle.rq_command.specs.Following.{name_of, over}
-use Rattle.rq_command.specs.Placed.{Contents, IsFinished, IsPlaced, is_whole}
+use Rattle.rq_command.specs.Placed.{IsPlaced, is_whole}
+use Rattle.rq_devices.specs.Placed.{Contents, IsFinished}
 use Rattle.rq_command.specs.Program.{Failures, FailsReceiving, end_of}
 
 -- ---- counts
-
--- none failed
-pub none_fails : (a : Option ℕ) → Fails a a 0
-none_fails None = tt
-none_fails (Some n) = let same : n ≡ n + 0 = omega arith in ap (λ k. Some k) same
-
--- some, and then others
-pub failed_then : (a b c : Option ℕ) (m n all : ℕ) → Fails a b m → Fails b c n → m + n ≡ all → Fails a c all
-failed_then None b c m n all first then is = tt
-failed_then (Some x) b c m n all first then is =
-    let behind : c ≡ Some (x + m + n) = subst (λ (o : Option ℕ). Fails o c n) first then in
-    let same : x + m + n ≡ x + all = omega (arith, is) in behind ∙ ap (λ k. Some k) same
-
--- none as a run begins, some as it goes on, and others at its end
-pub failed_through : (a b c d e : Option ℕ) (m n all : ℕ) → Fails a b 0 → Fails b c 0 → Fails c d m → Fails d e n → m + n ≡ all → Fails a e all
-failed_through a b c d e m n all first then on last is =
-    failed_then a b e 0 all all first (failed_then b c e 0 all all then (failed_then c d e m n all on last is) (omega arith)) (omega arith)
-
--- none, and then some
-pub failed_behind : (a b c : Option ℕ) (n : ℕ) → Fails a b 0 → Fails b c n → Fails a c n
-failed_behind a b c n none fails = failed_then a b c 0 n n none fails (omega arith)
 
 -- what stopped a run that failed so often
 stopped : (r : Result End Stop) (stop : Stop) (a b : Option ℕ) → r ≡ Err stop → Fails a b (failed_calls {X = ℕ} (Err stop)) → Failures (end_of r) a b
@@ -69,12 +49,6 @@ whole (Ok (Written stream)) is = (stream, refl)
 whole (Ok (Incomplete parts missing)) is = absurd (cc is)
 whole (Ok (GivenUp stream parts missing)) is = absurd (cc is)
 whole (Err stop) is = absurd (cc is)
-
--- one call at most fails
-pub once : {X : Type 0} (r : Result X Stop) → failed_calls r ≤ 1
-once (Ok x) = omega arith
-once (Err Fault) = omega arith
-once (Err (Refused e)) = omega arith
 
 -- what isn't whole is taken away
 pub taken_away : {X D : Type 0} (file : Option X) (ended : Result Ending Stop) (finished : Result D Stop) (written old new : Contents) → is_whole ended ≡ false

@@ -15,10 +15,11 @@ use Rattle.rq_cast.specs.declared.run.Ending.{Ending}
 use Rattle.rq_cast.specs.declared.run.Ending.TheVariants.{Written, Incomplete, GivenUp}
 use Rattle.rq_cast.specs.Received.{EndsReceiving, is_given_up, wish_over}
 use Rattle.rq_command.specs.declared.ending.Streams.{Streams}
-use Rattle.rq_command.specs.Failed.{StopsReading}
-use Rattle.rq_command.specs.Keyed.{IsKeyOf}
-use Rattle.rq_command.specs.Placed.{Contents}
-use Rattle.rq_command.specs.Following.{EndsOne, FiledBy, FollowsAll, FollowsUpTo, Follows, Folder, PassesOver, counts, name_of, over, with_one}
+use Rattle.rq_devices.specs.Failed.{StopsReading}
+use Rattle.rq_devices.specs.Keyed.{IsKeyOf}
+use Rattle.rq_devices.specs.Placed.{Contents}
+use Rattle.rq_command.specs.Following.{EndsOne, FiledBy, FollowsAll, FollowsUpTo, Follows, PassesOver, counts, name_of, over, with_one}
+use Rattle.rq_devices.specs.Folder.{Folder}
 
 -- ---- one stream
 

@@ -11,10 +11,11 @@ use Rattle.rq_guard.specs.declared.protecting.GuardOrder.{GuardOrder}
 use Rattle.rq_guard.specs.declared.protecting.Guarded.{Guarded}
 use Rattle.rq_guard.specs.Protecting.{CountsStop, Protects, StopsProtecting}
 use Rattle.rq_command.specs.declared.ending.End.{End}
-use Rattle.rq_command.specs.Failed.{Fails, StopsReading}
-use Rattle.rq_command.specs.Guards.{FailsPutting, Guards, StopsGuard}
-use Rattle.rq_command.specs.Keyed.{IsKeyOf}
-use Rattle.rq_command.specs.Placed.{Contents}
+use Rattle.rq_devices.specs.Failed.{Fails, StopsReading}
+use Rattle.rq_command.specs.Guarding.{Guards, StopsGuard}
+use Rattle.rq_devices.specs.Failed.{FailsPutting}
+use Rattle.rq_devices.specs.Keyed.{IsKeyOf}
+use Rattle.rq_devices.specs.Placed.{Contents}
 use Rattle.rq_command.specs.Program.{Failures, end_of}
 
 -- so many failed in a run that something stopped

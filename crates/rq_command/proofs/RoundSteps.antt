@@ -11,12 +11,12 @@ use Rattle.rq_cast.specs.Searching.{counted}
 use Rattle.rq_cast.specs.SentParts.{SendsStream, StopsStream, halted_calls}
 use Rattle.rq_cells.specs.Cells.{Key}
 use Rattle.rq_command.specs.declared.rounds.Rounds.{Rounds}
-use Rattle.rq_command.specs.Failed.{Fails, StopsReading}
+use Rattle.rq_devices.specs.Failed.{Fails, StopsReading}
 use Rattle.rq_command.specs.Outside.{KnownCalls}
-use Rattle.rq_command.specs.Placed.{Contents}
+use Rattle.rq_devices.specs.Placed.{Contents}
 use Rattle.rq_command.specs.Rounds.{AreAll, SendRounds, SendsRounds, StopsRounds, CountsSent, CountsHalt}
 use Rattle.rq_command.specs.RoundsSent.{IsUnsent, SameStream, SendsRound, StopsRound}
-use Rattle.rq_command.proofs.Failing.{failed_then, none_fails}
+use Rattle.rq_devices.proofs.Counting.{failed_then, none_fails}
 
 -- a sum of which some was cut is cut so too
 pub most_sum : (n m : ℕ) → counted (counted n + m) ≡ counted (n + m)

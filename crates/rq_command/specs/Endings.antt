@@ -1,5 +1,5 @@
 -- The status that the program ends with.
-use Rattle.std.specs.Prelude.{ℕ, ◌*◌, ◌/◌, ◌==◌, ◌&&◌, not, Bool, true, false, Option, Some, None, List, [], ◌∷◌, Result, Ok, Err, nat_le, nat_lt, if◌then◌else◌, vec_len}
+use Rattle.std.specs.Prelude.{ℕ, ◌/◌, ◌==◌, ◌&&◌, not, Bool, true, false, Option, Some, None, List, [], ◌∷◌, Result, Ok, Err, nat_le, nat_lt, if◌then◌else◌}
 use Rattle.clap.specs.Values.{kind_of}
 use Rattle.clap.specs.declared.error.kind.ErrorKind.{ErrorKind}
 use Rattle.clap.specs.declared.error.kind.ErrorKind.TheVariants as kind
@@ -11,11 +11,7 @@ use Rattle.rq_cast.specs.declared.run.Ending.{Ending}
 use Rattle.rq_cast.specs.declared.run.Ending.TheVariants.{Written, Incomplete, GivenUp}
 use Rattle.rq_cast.specs.declared.seen.Seen.{Seen}
 use Rattle.rq_cast.specs.declared.survey.Standing.{Standing}
-use Rattle.rq_guard.specs.declared.list.DigestList.{DigestList}
-use Rattle.rq_guard.specs.declared.damage_check.PartDamage.{PartDamage}
-use Rattle.rq_guard.specs.Damage.{part_length}
-use Rattle.rq_guard.specs.Checking.{is_whole_file}
-use Rattle.rq_command.specs.declared.findings.Findings.{Findings}
+use Rattle.rq_guard_runs.specs.declared.findings.Findings.{Findings}
 use Rattle.rq_command.specs.declared.ending.End.{End}
 use Rattle.rq_command.specs.declared.ending.End.TheVariants.{Unasked, AtTerminal, EmptyKey, Sent, Changed, Received, Followed, Surveyed, Protected, Checked, Repaired, Stopped}
 use Rattle.rq_command.specs.declared.ending.Streams.{Streams}
@@ -67,23 +63,6 @@ abbrev pub following_status : Streams → Result Ending Stop → Seen → ℕ
 following_status streams (Ok (Incomplete parts missing)) seen = if is_done streams seen then 0 else 2
 following_status streams (Ok ending) seen = ending_status ending
 following_status streams (Err stop) seen = stop_status stop
-
--- a file is there, and nothing of it is damaged
-abbrev pub is_whole_finding : Findings → Bool
-is_whole_finding found = found.is_there && is_whole_file found.damage
-
--- No symbol of a part is whole that has bytes of the file: the damaged ones have room for all of these.
-abbrev pub is_lost : DigestList → PartDamage → Bool
-is_lost l d = nat_le (part_length l.head) (vec_len d.symbols * l.head.configuration.symbol_size)
-
-abbrev pub are_lost : List DigestList → List PartDamage → Bool
-are_lost [] parts = true
-are_lost (l ∷ lists) [] = true
-are_lost (l ∷ lists) (d ∷ parts) = is_lost l d && are_lost lists parts
-
--- a file is there, isn't whole, and has no symbol that is: it may be another one
-abbrev pub is_strange : Findings → Bool
-is_strange found = (found.is_there && not (is_whole_finding found)) && are_lost found.lists.items found.damage.parts.items
 
 -- of a file that was looked through, and of one that was to be mended
 abbrev pub checked_by : Bool → Bool → ℕ

@@ -1,5 +1,5 @@
 -- One stream after another, each in a file that is named by it.
-use Rattle.std.specs.Prelude.{◌≡◌, ◌≢◌, ℕ, ◌-◌, ◌^◌, List, [], ◌∷◌, ◌++◌, length, take, map, ◌+◌, Result, Ok, Err, Option, Some, None, IfNone}
+use Rattle.std.specs.Prelude.{◌≡◌, ℕ, ◌-◌, ◌^◌, List, [], ◌∷◌, ◌++◌, length, take, map, ◌+◌, Result, Ok, Err, Option, Some, None, IfNone}
 use Rattle.std.specs.Io.KnownBytes.{prepend_known}
 use Rattle.rq_standard.specs.declared.row.TableRow.{TableRow}
 use Rattle.rq_tables.specs.SystematicTable.{wanted_table}
@@ -12,25 +12,11 @@ use Rattle.rq_cast.specs.declared.run.Ending.{Ending}
 use Rattle.rq_cast.specs.declared.run.Ending.TheVariants.{Written, Incomplete, GivenUp}
 use Rattle.rq_cast.specs.Received.{EndsReceiving, wish_over}
 use Rattle.rq_command.specs.declared.ending.Streams.{Streams}
-use Rattle.rq_command.specs.Failed.{StopsReading}
-use Rattle.rq_command.specs.Keyed.{IsKeyOf}
-use Rattle.rq_command.specs.Placed.{Contents}
+use Rattle.rq_devices.specs.Failed.{StopsReading}
+use Rattle.rq_devices.specs.Keyed.{IsKeyOf}
+use Rattle.rq_devices.specs.Placed.{Contents}
 
 -- ---- a folder
-
--- what it holds under names, where that is known
-abbrev pub Folder : Type 0
-Folder = List ℕ → Contents
-
--- This stands there under a name, and under all others what stood there.
-pub record IsFiled (name : List ℕ) (written : Contents) (old new : Folder) : Type 0 where
-  pub there : new name ≡ written
-  pub others : (other : List ℕ) → other ≢ name → new other ≡ old other
-
--- What is whole is put there under its name, where it could be, and nothing else is.
-abbrev pub IsKept : {D : Type 0} → Option (List ℕ) → Result D Stop → Contents → Folder → Folder → Type 0
-IsKept (Some name) (Ok done) written old new = IsFiled name written old new
-IsKept _ _ written old new = new ≡ old
 
 -- What is all written is put there under its name, and only then.
 abbrev pub FiledBy : Result Ending Stop → Contents → Folder → Folder → Type 0

@@ -1,12 +1,8 @@
 pub mod Endings
-pub mod Failed
 pub mod Following
-pub mod Guards
-pub mod Keyed
+pub mod Guarding
 pub mod Outside
-pub mod Pairs
 pub mod Placed
 pub mod Program
 pub mod Rounds
 pub mod RoundsSent
-pub mod Told

@@ -1,7 +1,7 @@
 -- What is known of a run beside the bytes that it reads and writes.
 use Rattle.std.specs.Prelude.{ℕ, Bool, List, Option}
 use Rattle.rq_cast.specs.Calls.{Call}
-use Rattle.rq_command.specs.Following.{Folder}
+use Rattle.rq_devices.specs.Folder.{Folder}
 
 -- which calls that begin cells were told, where that is known
 abbrev pub KnownCalls : Type 0

@@ -30,14 +30,18 @@ use Rattle.rq_words.specs.declared.jobs.CheckJob.{CheckJob}
 use Rattle.rq_words.specs.declared.jobs.RepairJob.{RepairJob}
 use Rattle.rq_command.specs.declared.ending.End.{End}
 use Rattle.rq_command.specs.declared.ending.End.TheVariants.{Unasked, AtTerminal, EmptyKey, Sent, Changed, Received, Followed, Surveyed, Checked, Repaired, Stopped}
-use Rattle.rq_command.specs.Guards.{EndsProtecting, ByKey, Checks, Repairs, FailsRepaired, guard_name}
+use Rattle.rq_command.specs.Guarding.{EndsProtecting, ByKey}
+use Rattle.rq_devices.specs.Placed.{guard_name}
+use Rattle.rq_guard_runs.specs.Guards.{Checks, Repairs, FailsRepaired}
 use Rattle.rq_words.specs.Asked.{AsksFor, IsRefused}
 use Rattle.rq_words.specs.Values.{times_of}
-use Rattle.rq_command.specs.Failed.{Fails, StopsReading}
-use Rattle.rq_command.specs.Following.{FollowsAll, Folder, IsFiled}
-use Rattle.rq_command.specs.Keyed.{HasKey, IsEmptyKey, IsKeyOf, key_file}
+use Rattle.rq_devices.specs.Failed.{Fails, StopsReading}
+use Rattle.rq_command.specs.Following.{FollowsAll}
+use Rattle.rq_devices.specs.Folder.{Folder, IsFiled}
+use Rattle.rq_devices.specs.Keyed.{HasKey, IsEmptyKey, IsKeyOf, key_file}
 use Rattle.rq_command.specs.Outside.{Outside}
-use Rattle.rq_command.specs.Placed.{Contents, Files, IsPlaced, is_whole}
+use Rattle.rq_command.specs.Placed.{IsPlaced, is_whole}
+use Rattle.rq_devices.specs.Placed.{Contents, Files}
 use Rattle.rq_command.specs.Rounds.{SendsRounds, StopsRounds}
 
 -- ---- sending

@@ -10,9 +10,9 @@ use Rattle.rq_cast.specs.Rounds.{IsFresh, in_round, sum_of}
 use Rattle.rq_cast.specs.Searching.{counted}
 use Rattle.rq_cast.specs.SentParts.{SendsStream, StopsStream, halted_calls}
 use Rattle.rq_cells.specs.Cells.{Key}
-use Rattle.rq_command.specs.Failed.{Fails, StopsReading}
+use Rattle.rq_devices.specs.Failed.{Fails, StopsReading}
 use Rattle.rq_command.specs.Outside.{KnownCalls}
-use Rattle.rq_command.specs.Placed.{Contents}
+use Rattle.rq_devices.specs.Placed.{Contents}
 
 -- before the first round
 abbrev pub none_sent : Sent

@@ -5,9 +5,9 @@ use Rattle.rq_cast.specs.declared.stream_sending.Sent.{Sent}
 use Rattle.rq_cast.specs.Rounds.{IsFresh, in_round, sum_of}
 use Rattle.rq_cast.specs.SentParts.{SendsStream, StopsStream, halted_calls}
 use Rattle.rq_command.specs.declared.rounds.Rounds.{Rounds}
-use Rattle.rq_command.specs.Failed.{Fails}
+use Rattle.rq_devices.specs.Failed.{Fails}
 use Rattle.rq_command.specs.Outside.{KnownCalls}
-use Rattle.rq_command.specs.Placed.{Contents}
+use Rattle.rq_devices.specs.Placed.{Contents}
 use Rattle.rq_command.specs.Rounds.{none_sent}
 
 -- none of them is sent yet

@@ -2,12 +2,12 @@
 ghost use Rattle.std.specs.Prelude.{◌≡◌};
 ghost use Rattle.rq_command.specs.Endings.{all_lost, checked_status, repaired_status, ending_status, following_status, stop_status, status_of, word_status};
 
-use crate::findings::Findings;
 use clap::Error;
 use clap::error::ErrorKind;
 use raptorq::error::Error as Refusal;
 use rq_cast::{Ending, Seen, Sent, Standing};
 use rq_guard::Guarded;
+use rq_guard_runs::Findings;
 use rq_streams::Stop;
 
 /// How many streams were taken one after another.

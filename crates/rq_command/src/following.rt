@@ -4,16 +4,16 @@ ghost use Rattle.rq_streams.specs.Counted.{failed_count};
 ghost use Rattle.rq_streams.specs.Ends.{failed_calls};
 ghost use Rattle.rq_cast.specs.Received.{is_given_up, wish_over};
 ghost use Rattle.rq_cast.specs.Input.{counted_of, is_put_back, last_piece, unread};
-ghost use Rattle.rq_command.specs.Failed.{Fails};
+ghost use Rattle.rq_devices.specs.Failed.{Fails};
 ghost use Rattle.rq_command.specs.Following.{EndsOne, FiledBy, PassesOver, FollowsUpTo, over, with_one};
 ghost use Rattle.rq_command.specs.Program.{FailsReceiving};
 
-use crate::devices::{Devices, Teller};
 use crate::ending::Streams;
 use raptorq::error::Error;
 use raptorq::systematic_constants::SystematicTable;
 use rq_cast::{Ending, Input, Seen, run_receive};
 use rq_cells::{Key, STREAM_LENGTH, Wanted};
+use rq_devices::{Devices, Teller};
 use rq_streams::{Counted, Stop};
 use std::alloc::{AllocError, Global};
 

@@ -2,23 +2,17 @@
 //! what is said of it.
 #![tactic(auto)]
 
-mod devices;
 mod ending;
-mod findings;
 mod following;
 mod guarded;
-mod mending;
 mod messages;
-mod pair;
-mod placing;
 mod program;
 mod protecting;
 mod rounds;
-mod told;
 
-pub use devices::{Devices, Teller};
 pub use ending::{End, Streams};
-pub use findings::{Findings, write_findings};
 pub use messages::{announce, write_end, write_standings};
 pub use program::run;
+pub use rq_devices::{Devices, Teller};
+pub use rq_guard_runs::{Findings, write_findings};
 pub use rq_words::{InfoJob, Job, ReceiveJob, Rounds, SendJob, Telling, job};

@@ -1,10 +1,10 @@
 //! What is said of a run.
 
 use crate::ending::{End, all_lost};
-use crate::findings::{write_checked, write_repaired};
 use raptorq::error::Error;
 use rq_cast::{Ending, Seen, Sender, Sent, Standing};
 use rq_cells::{Head, LAST_PART};
+use rq_guard_runs::{write_checked, write_repaired};
 use rq_streams::Stop;
 use std::io;
 use std::io::Write;

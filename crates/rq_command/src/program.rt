@@ -2,74 +2,26 @@
 ghost use Rattle.std.specs.Prelude.{◌≡◌, ◌⊎◌, ℕ, ◌+◌, ◌<◌, map, option_map, Ok, Err, IfOk, IfErr, IfSome, true, false};
 ghost use Rattle.rq_streams.specs.Ends.{failed_calls};
 ghost use Rattle.rq_cast.specs.Received.{is_given_up};
-ghost use Rattle.rq_command.specs.Failed.{Fails, StopsReading};
+ghost use Rattle.rq_devices.specs.Failed.{Fails};
 ghost use Rattle.rq_words.specs.Values.{times_of};
-ghost use Rattle.rq_command.specs.Keyed.{key_file, IsKeyRead};
+ghost use Rattle.rq_devices.specs.Keyed.{key_file, IsKeyRead};
 ghost use Rattle.rq_command.specs.Outside.{outside};
 ghost use Rattle.rq_command.specs.Placed.{is_whole, IsPlaced};
 ghost use Rattle.rq_command.specs.Program.{StopsJob, MindsTerminal, EndsSending, EndsForgetting, EndsJob, Forgets, end_of, Does, FailsReceiving, Failures, read_behind};
 
-use crate::devices::{Devices, Teller};
 use crate::ending::End;
 use crate::following::{Following, follow_all};
 use crate::guarded::{check, repair};
 use crate::protecting::protect_file;
 use crate::rounds::{Rounds, open_files, send_rounds};
-use crate::told::Told;
 use rq_cast::{Ending, Halt, Input, Seen, check_length, run_receive, standings_in};
 use rq_cells::{Key, Wanted};
+use rq_devices::{Devices, Teller, Told, key_of, read_whole};
 use rq_rows::full_table;
-use rq_streams::{Counted, Stop, read_all};
+use rq_streams::{Counted, Stop};
 use rq_words::{FollowJob, InfoJob, Job, ReceiveJob, SendJob, WIDEST_WINDOW, job};
 use std::alloc::Global;
 use std::convert::AsStr;
-use std::io::Read;
-
-// All bytes of a reader, whose failed calls are counted.
-fn read_whole<'w, D: Devices<'w>, R: Read + Drop>(
-    alloc: Global,
-    devices: &mut D,
-    reader: R,
-) -> Result<Vec<u8>, Stop>
-    ensures bytes { IfOk result (λ v. IfSome (R.remaining reader) (λ input. v.items ≡ input)) }
-    ensures stops { IfErr result StopsReading }
-    ensures counts { Fails (D.failed devices.old) (D.failed devices.new) (failed_calls result) }
-    ensures stays { D.stands devices.new ≡ D.stands devices.old }
-    ensures kept { D.placed devices.new ≡ D.placed devices.old }
-    ensures filed { D.filed devices.new ≡ D.filed devices.old }
-    ensures earlier { D.earlier devices.new ≡ D.earlier devices.old }
-{
-    let mut input = Counted::new(reader);
-    let read = read_all(alloc, &mut input);
-    devices.count(&input);
-    read
-}
-
-// The key that a file has, all of whose bytes it is; none where there are none. Without a file it is that of
-// cells by no key.
-pub(crate) fn key_of<'w, D: Devices<'w>>(
-    alloc: Global,
-    file: Option<&'w str>,
-    devices: &mut D,
-) -> Result<Option<Key>, Stop>
-    ensures key { IfOk result (IsKeyRead (key_file (D.stands devices.old) (option_map (λ s. s.now) file.entry))) }
-    ensures stops { IfErr result StopsReading }
-    ensures counts { Fails (D.failed devices.old) (D.failed devices.new) (failed_calls result) }
-    ensures stays { D.stands devices.new ≡ D.stands devices.old }
-    ensures kept { D.placed devices.new ≡ D.placed devices.old }
-    ensures filed { D.filed devices.new ≡ D.filed devices.old }
-    ensures earlier { D.earlier devices.new ≡ D.earlier devices.old }
-{
-    let Some(file) = file else {
-        return Ok(Some(Key::none()));
-    };
-    let reader = devices.open(Vec::from_slice(alloc, &[file])?)?;
-    let bytes = read_whole(alloc, devices, reader)?;
-    if bytes.is_empty() {
-        return Ok(None);
-    }
-    Ok(Some(Key::new(bytes)))
-}
 
 // Reads the key, and opens what is sent; none where the key is empty. A length that is known is checked before
 // a byte of that is read.

@@ -1,17 +1,14 @@
 //! The guard of a file, made.
 ghost use Rattle.std.specs.Prelude.{◌≡◌, ◌<◌, IfErr};
 ghost use Rattle.rq_streams.specs.Ends.{failed_calls};
-ghost use Rattle.rq_command.specs.Failed.{Fails, StopsReading};
-ghost use Rattle.rq_command.specs.Guards.{EndsProtecting};
+ghost use Rattle.rq_devices.specs.Failed.{Fails, StopsReading};
+ghost use Rattle.rq_command.specs.Guarding.{EndsProtecting};
 ghost use Rattle.rq_command.specs.Program.{end_of, Failures};
 
-use crate::devices::{Devices, Teller};
 use crate::ending::End;
-use crate::placing::put;
-use crate::program::key_of;
 use crate::rounds::open_files;
-use crate::told::Told;
 use rq_cast::{Output, Pace, Sender};
+use rq_devices::{Devices, Teller, Told, key_of, put};
 use rq_guard::{GuardOrder, protect};
 use rq_streams::{Counted, Stop};
 use rq_words::ProtectJob;

@@ -1,13 +1,13 @@
 //! The rounds of a stream.
 ghost use Rattle.std.specs.Prelude.{◌≡◌, ℕ, ◌<◌, IfOk, IfErr, map};
 ghost use Rattle.rq_streams.specs.Ends.{failed_calls};
-ghost use Rattle.rq_command.specs.Failed.{Fails, StopsReading};
+ghost use Rattle.rq_devices.specs.Failed.{Fails, StopsReading};
 ghost use Rattle.rq_command.specs.Rounds.{SendsRounds, StopsRounds, CountsSent, CountsHalt};
 ghost use Rattle.rq_command.specs.RoundsSent.{IsUnsent, SendsRound, StopsRound};
 
-use crate::devices::{Devices, Teller};
 use rq_cast::{Halt, Known, Order, Output, Sent, send_stream};
 use rq_cells::Key;
+use rq_devices::{Devices, Teller};
 use rq_streams::{Counted, Stop};
 use rq_words::SendJob;
 use std::alloc::Global;

@@ -5,7 +5,8 @@ use Rattle.rq_cast.specs.Input.{counted_of, is_put_back, last_piece, unread}
 use Rattle.rq_cast.specs.Received.{is_given_up, wish_over}
 use Rattle.rq_command.specs.Following.{EndsOne, FollowsUpTo, PassesOver}
 use Rattle.rq_command.specs.Program.{FailsReceiving}
-use Rattle.rq_command.proofs.Failing.{failed_then, over_without_fault}
+use Rattle.rq_command.proofs.Failing.{over_without_fault}
+use Rattle.rq_devices.proofs.Counting.{failed_then}
 use Rattle.rq_command.proofs.Followed.{follows_on, follows_no_more, follows_up_to, not_over, over_is}
 use Rattle.rq_command.proofs.following.follow_all.Goals as goal
 

@@ -1,7 +1,7 @@
 use Rattle.std.proofs.Common.{◌≡◌, map}
 use Rattle.rq_streams.specs.Counted.{failed_count}
 use Rattle.rq_cast.specs.Input.{counted_of, unread}
-use Rattle.rq_command.specs.Failed.{Fails}
+use Rattle.rq_devices.specs.Failed.{Fails}
 use Rattle.rq_command.proofs.Followed.{IsFollowing}
 use Rattle.rq_command.proofs.following.follow_all.Given as goal
 

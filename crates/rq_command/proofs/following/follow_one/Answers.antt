@@ -3,7 +3,7 @@ use Rattle.rq_streams.specs.Counted.{failed_count}
 use Rattle.rq_streams.specs.Ends.{failed_calls}
 use Rattle.rq_cast.specs.Input.{counted_of}
 use Rattle.rq_command.specs.Program.{FailsReceiving}
-use Rattle.rq_command.proofs.Failing.{failed_then}
+use Rattle.rq_devices.proofs.Counting.{failed_then}
 use Rattle.rq_command.proofs.Followed.{patient_still, stopped_patient}
 use Rattle.rq_command.proofs.following.follow_one.Goals as goal
 

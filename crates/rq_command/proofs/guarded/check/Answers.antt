@@ -1,8 +1,10 @@
 use Rattle.std.proofs.Common.{◌∷◌, [], option_map, refl, subst, ◌∙◌}
-use Rattle.rq_command.specs.Guards.{Checks, guard_name}
-use Rattle.rq_command.specs.Keyed.{IsKeyRead, key_file}
-use Rattle.rq_command.specs.Placed.{Files}
-use Rattle.rq_command.proofs.Failing.{failed_behind, passed_on}
+use Rattle.rq_devices.specs.Placed.{guard_name}
+use Rattle.rq_guard_runs.specs.Guards.{Checks}
+use Rattle.rq_devices.specs.Keyed.{IsKeyRead, key_file}
+use Rattle.rq_devices.specs.Placed.{Files}
+use Rattle.rq_command.proofs.Failing.{passed_on}
+use Rattle.rq_devices.proofs.Counting.{failed_behind}
 use Rattle.rq_command.proofs.guarded.check.Goals as goal
 
 pub returns-in_err-check-clause-failures : goal.returns-in_err-check-clause-failures

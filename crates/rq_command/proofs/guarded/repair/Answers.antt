@@ -1,8 +1,9 @@
 use Rattle.std.proofs.Common.{◌∷◌, [], option_map, subst}
-use Rattle.rq_command.specs.Guards.{Repairs, guard_name}
-use Rattle.rq_command.specs.Keyed.{IsKeyRead, key_file}
-use Rattle.rq_command.specs.Placed.{Contents, Files}
-use Rattle.rq_command.proofs.Failing.{failed_behind}
+use Rattle.rq_devices.specs.Placed.{guard_name}
+use Rattle.rq_guard_runs.specs.Guards.{Repairs}
+use Rattle.rq_devices.specs.Keyed.{IsKeyRead, key_file}
+use Rattle.rq_devices.specs.Placed.{Contents, Files}
+use Rattle.rq_devices.proofs.Counting.{failed_behind}
 use Rattle.rq_command.proofs.guarded.repair.Goals as goal
 
 pub returns-clause-does : goal.returns-clause-does

@@ -1,7 +1,8 @@
 use Rattle.std.proofs.Common.{map, option_map, ap, subst, ◌∙◌, arith}
 use Rattle.rq_cast.specs.Input.{unread}
-use Rattle.rq_command.specs.Keyed.{IsKeyRead, key_file}
-use Rattle.rq_command.proofs.Failing.{failed_then, passed_on}
+use Rattle.rq_devices.specs.Keyed.{IsKeyRead, key_file}
+use Rattle.rq_command.proofs.Failing.{passed_on}
+use Rattle.rq_devices.proofs.Counting.{failed_then}
 use Rattle.rq_command.proofs.Followed.{follows}
 use Rattle.rq_command.proofs.program.follow.Goals as goal
 

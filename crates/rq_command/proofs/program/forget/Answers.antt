@@ -1,6 +1,7 @@
 use Rattle.std.proofs.Common.{Err, ap, ◌∙◌}
 use Rattle.std.proofs.lemmas.Result.{err_from_is_err_and}
-use Rattle.rq_command.proofs.Failing.{fails_behind, fails_no_more, none_fails}
+use Rattle.rq_command.proofs.Failing.{fails_behind, fails_no_more}
+use Rattle.rq_devices.proofs.Counting.{none_fails}
 use Rattle.rq_command.proofs.program.forget.Goals as goal
 
 pub returns-in_default-clause-failures : goal.returns-in_default-clause-failures

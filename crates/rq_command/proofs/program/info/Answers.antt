@@ -1,9 +1,10 @@
 use Rattle.std.proofs.Common.{ℕ, Err, map, option_map, ap, subst, ◌∙◌, arith}
 use Rattle.rq_streams.specs.Ends.{failed_calls}
-use Rattle.rq_command.specs.Keyed.{IsKeyRead, key_file}
-use Rattle.rq_command.specs.Told.{told}
+use Rattle.rq_devices.specs.Keyed.{IsKeyRead, key_file}
+use Rattle.rq_devices.specs.Told.{told}
 use Rattle.rq_command.proofs.Doing.{lists}
-use Rattle.rq_command.proofs.Failing.{failed_then, passed_on}
+use Rattle.rq_command.proofs.Failing.{passed_on}
+use Rattle.rq_devices.proofs.Counting.{failed_then}
 use Rattle.rq_command.proofs.program.info.Goals as goal
 
 pub returns-in_err-reader-clause-failures : goal.returns-in_err-reader-clause-failures

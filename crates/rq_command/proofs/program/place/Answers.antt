@@ -1,7 +1,8 @@
 use Rattle.std.proofs.Common.{Err, inr, sym, ap, ◌∙◌}
 use Rattle.std.proofs.lemmas.Result.{err_from_is_err_and}
 use Rattle.rq_streams.specs.Ends.{failed_calls}
-use Rattle.rq_command.proofs.Failing.{fails_at_end, fails_nowhere, not_placed, not_whole, once, put, taken_away}
+use Rattle.rq_command.proofs.Failing.{fails_at_end, fails_nowhere, not_placed, not_whole, put, taken_away}
+use Rattle.rq_devices.proofs.Counting.{once}
 use Rattle.rq_command.proofs.program.place.Goals as goal
 
 pub returns-then-not-is_whole-clause-placed : goal.returns-then-not-is_whole-clause-placed

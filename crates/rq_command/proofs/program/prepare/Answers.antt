@@ -1,6 +1,6 @@
 use Rattle.std.proofs.Common.{Err, map, option_map, ap, subst, ◌∙◌}
 use Rattle.std.proofs.lemmas.Result.{err_from_is_err_and}
-use Rattle.rq_command.specs.Keyed.{IsKeyRead, key_file}
+use Rattle.rq_devices.specs.Keyed.{IsKeyRead, key_file}
 use Rattle.rq_command.proofs.Doing.{refused_early}
 use Rattle.rq_command.proofs.program.prepare.Goals as goal
 

@@ -2,8 +2,9 @@ use Rattle.std.proofs.Common.{◌≡◌, ◌+◌, ℕ, Err, ap, refl, ◌∙◌,
 use Rattle.rq_streams.specs.Counted.{failed_count}
 use Rattle.rq_streams.specs.Ends.{failed_calls}
 use Rattle.rq_cast.specs.Input.{counted_of}
-use Rattle.rq_command.specs.Failed.{Fails}
-use Rattle.rq_command.proofs.Failing.{failed_then, passed_on}
+use Rattle.rq_devices.specs.Failed.{Fails}
+use Rattle.rq_command.proofs.Failing.{passed_on}
+use Rattle.rq_devices.proofs.Counting.{failed_then}
 use Rattle.rq_command.proofs.program.receive.Goals as goal
 
 pub returns-in_err-reader-clause-failures : goal.returns-in_err-reader-clause-failures

@@ -9,14 +9,15 @@ use Rattle.rq_streams.specs.declared.run.Stop.TheVariants.{Fault}
 use Rattle.rq_cast.specs.declared.order.Order.{Order}
 use Rattle.rq_cells.specs.Cells.{Key}
 use Rattle.rq_words.specs.Values.{times_of}
-use Rattle.rq_command.specs.Failed.{Fails}
-use Rattle.rq_command.specs.Keyed.{IsKeyOf, IsKeyRead, key_file}
+use Rattle.rq_devices.specs.Failed.{Fails}
+use Rattle.rq_devices.specs.Keyed.{IsKeyOf, IsKeyRead, key_file}
 use Rattle.rq_command.specs.Outside.{KnownCalls, Outside, outside}
-use Rattle.rq_command.specs.Placed.{Contents}
+use Rattle.rq_devices.specs.Placed.{Contents}
 use Rattle.rq_command.specs.Program.{SendsAll, SendsSome}
 use Rattle.rq_command.specs.Rounds.{CountsSent, CountsHalt, SendsRounds, StopsRounds}
 use Rattle.rq_command.proofs.Doing.{as_asked}
-use Rattle.rq_command.proofs.Failing.{failed_through, once, passed_on, stopped_later}
+use Rattle.rq_command.proofs.Failing.{passed_on, stopped_later}
+use Rattle.rq_devices.proofs.Counting.{failed_through, once}
 use Rattle.rq_command.proofs.program.send.Goals as goal
 use Rattle.rq_command.proofs.program.send.Goals.{After-finish-finished}
 use Rattle.rq_command.proofs.program.send.Given.{Over}

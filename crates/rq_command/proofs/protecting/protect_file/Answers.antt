@@ -4,14 +4,15 @@ use Rattle.rq_streams.specs.declared.run.Stop.{Stop}
 use Rattle.rq_streams.specs.Counted.{failed_count, inner}
 use Rattle.rq_cast.specs.Output.{counting, sink}
 use Rattle.rq_command.specs.declared.ending.End.{End}
-use Rattle.rq_command.specs.Failed.{Fails}
-use Rattle.rq_command.specs.Guards.{EndsProtecting, order_of}
-use Rattle.rq_command.specs.Keyed.{IsKeyRead, key_file}
+use Rattle.rq_devices.specs.Failed.{Fails}
+use Rattle.rq_command.specs.Guarding.{EndsProtecting, order_of}
+use Rattle.rq_devices.specs.Keyed.{IsKeyRead, key_file}
 use Rattle.rq_command.specs.Program.{end_of}
-use Rattle.rq_command.specs.Told.{told}
-use Rattle.rq_command.proofs.Failing.{failed_behind, failed_then, passed_on}
+use Rattle.rq_devices.specs.Told.{told}
+use Rattle.rq_command.proofs.Failing.{passed_on}
+use Rattle.rq_devices.proofs.Counting.{failed_behind, failed_then}
 use Rattle.rq_command.proofs.Guarding.{stopped_by, guards, stops_guard, whole_from, fault_counted, none_counted}
-use Rattle.rq_command.proofs.Putting.{stopped_kept, whole_put}
+use Rattle.rq_devices.proofs.Putting.{stopped_kept, whole_put}
 use Rattle.rq_command.proofs.protecting.protect_file.Goals as goal
 use Rattle.rq_command.proofs.protecting.protect_file.Given.{Over}
 use Rattle.rq_command.proofs.protecting.protect_file.Goals.{After-put}

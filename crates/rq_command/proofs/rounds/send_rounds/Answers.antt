@@ -1,6 +1,6 @@
 use Rattle.std.proofs.Common.{◌≡◌, ◌<◌, ℕ, List, Bor, map, inl, inr, refl, sym, subst, ap, ◌∙◌, arith}
 use Rattle.rq_cast.specs.declared.order.Order.{Order}
-use Rattle.rq_command.specs.Placed.{Contents}
+use Rattle.rq_devices.specs.Placed.{Contents}
 use Rattle.rq_command.specs.RoundsSent.{SendsRound, StopsRound}
 use Rattle.rq_command.proofs.RoundSteps.{HasSentRounds, none_so_far, one_more, still, stops_in, stops_before, all_sent}
 use Rattle.rq_command.proofs.rounds.send_rounds.Goals as goal

@@ -1,0 +1,5 @@
+pub mod Failed
+pub mod Folder
+pub mod Keyed
+pub mod Placed
+pub mod Told

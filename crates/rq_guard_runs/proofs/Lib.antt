@@ -1,0 +1,3 @@
+pub mod FailedCalls
+pub mod MendedParts
+pub mod Repairing
