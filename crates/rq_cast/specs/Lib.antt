@@ -22,6 +22,7 @@ pub mod Searching
 pub mod Sent
 pub mod SentParts
 pub mod Settling
+pub mod Shares
 pub mod Streams
 pub mod Surveyed
 pub mod Taken

@@ -3,6 +3,7 @@ ghost use Rattle.std.specs.Prelude.{◌≡◌, ◌/◌, ◌^◌, ◌<◌, ◌≤
 ghost use Rattle.rq_cast.specs.Ids.{AreIds};
 
 use crate::loss::Loss;
+use crate::shares::Shares;
 use raptorq::base::ENCODING_SYMBOL_IDS;
 
 /// How many repair packets a block has.
@@ -16,6 +17,8 @@ pub enum Repair {
     Against(Loss),
     /// All that there are ids for.
     All,
+    /// As many as it takes that some shares are enough: what [`Shares::repair`] answers.
+    Shares(Shares),
 }
 
 impl Repair {
@@ -42,6 +45,7 @@ impl Repair {
             Repair::Share(parts) => (largest_block * u64::from(parts)).div_ceil(100_000),
             Repair::Against(loss) => loss.repair(largest_block),
             Repair::All => u64::from(ENCODING_SYMBOL_IDS),
+            Repair::Shares(shares) => shares.repair(largest_block),
         }
     }
 }

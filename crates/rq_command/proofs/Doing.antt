@@ -13,7 +13,7 @@ use Rattle.rq_streams.specs.declared.run.Stop.{Stop}
 use Rattle.rq_streams.specs.declared.run.Stop.TheVariants.{Refused}
 use Rattle.rq_words.specs.declared.values.TheConstants.{WIDEST_WINDOW}
 use Rattle.rq_words.specs.declared.jobs.Job.{Job}
-use Rattle.rq_words.specs.declared.jobs.Job.TheVariants.{Send, Receive, Follow, Info, Protect, Check, Repair}
+use Rattle.rq_words.specs.declared.jobs.Job.TheVariants.{Send, Receive, Follow, Info, Protect, Check, Repair, Split, Join}
 use Rattle.rq_command.specs.declared.ending.End.{End}
 use Rattle.rq_command.specs.declared.ending.End.TheVariants.{Unasked, AtTerminal, EmptyKey, Sent, Changed, Received, Followed, Surveyed, Protected, Checked, Repaired, Stopped}
 use Rattle.rq_words.specs.Asked.{AsksFor}
@@ -33,6 +33,8 @@ module _ (words : List (List ℕ)) (outside : Outside) (stands : List (List ℕ)
   does (Unasked e) old new held held' (Protect job) asks ends = absurd ends.0
   does (Unasked e) old new held held' (Check job) asks ends = absurd ends.0
   does (Unasked e) old new held held' (Repair job) asks ends = absurd ends.0
+  does (Unasked e) old new held held' (Split job) asks ends = absurd ends.0
+  does (Unasked e) old new held held' (Join job) asks ends = absurd ends.0
   does AtTerminal old new held held' job asks ends = (job, asks, ends)
   does EmptyKey old new held held' job asks ends = (job, asks, ends)
   does (Sent sent) old new held held' job asks ends = (job, asks, ends)

@@ -10,6 +10,7 @@ use Rattle.rq_cast.specs.declared.run.Ending.TheVariants.{Written, Incomplete, G
 use Rattle.rq_cast.specs.Received.{is_given_up}
 use Rattle.rq_command.specs.declared.ending.End.{End}
 use Rattle.rq_devices.specs.Failed.{Fails}
+use Rattle.rq_devices.proofs.Counting.{failed_then}
 use Rattle.rq_command.specs.Following.{name_of, over}
 use Rattle.rq_command.specs.Placed.{IsPlaced, is_whole}
 use Rattle.rq_devices.specs.Placed.{Contents, IsFinished}

@@ -3,3 +3,4 @@ pub mod Failing
 pub mod Followed
 pub mod Guarding
 pub mod RoundSteps
+pub mod Sharded

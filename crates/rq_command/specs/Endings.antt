@@ -12,6 +12,7 @@ use Rattle.rq_cast.specs.declared.run.Ending.TheVariants.{Written, Incomplete, G
 use Rattle.rq_cast.specs.declared.seen.Seen.{Seen}
 use Rattle.rq_cast.specs.declared.survey.Standing.{Standing}
 use Rattle.rq_guard_runs.specs.declared.findings.Findings.{Findings}
+use Rattle.rq_guard_runs.specs.Found.{is_strange, is_whole_finding}
 use Rattle.rq_command.specs.declared.ending.End.{End}
 use Rattle.rq_command.specs.declared.ending.End.TheVariants.{Unasked, AtTerminal, EmptyKey, Sent, Changed, Received, Followed, Surveyed, Protected, Checked, Repaired, Stopped}
 use Rattle.rq_command.specs.declared.ending.Streams.{Streams}

@@ -13,6 +13,7 @@ use Rattle.rq_cast.specs.declared.run.Ending.TheVariants.{Written, Incomplete, G
 use Rattle.rq_cast.specs.Received.{EndsReceiving, wish_over}
 use Rattle.rq_command.specs.declared.ending.Streams.{Streams}
 use Rattle.rq_devices.specs.Failed.{StopsReading}
+use Rattle.rq_devices.specs.Folder.{Folder, IsFiled}
 use Rattle.rq_devices.specs.Keyed.{IsKeyOf}
 use Rattle.rq_devices.specs.Placed.{Contents}
 

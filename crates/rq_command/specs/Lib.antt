@@ -6,3 +6,4 @@ pub mod Placed
 pub mod Program
 pub mod Rounds
 pub mod RoundsSent
+pub mod Splitting

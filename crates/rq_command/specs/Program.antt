@@ -24,7 +24,7 @@ use Rattle.rq_cast.specs.SentParts.{halted_calls}
 use Rattle.rq_cast.specs.Surveyed.{IsSurvey}
 use Rattle.rq_words.specs.declared.values.TheConstants.{WIDEST_WINDOW}
 use Rattle.rq_words.specs.declared.jobs.Job.{Job}
-use Rattle.rq_words.specs.declared.jobs.Job.TheVariants.{Send, Receive, Follow, Info, Protect, Check, Repair}
+use Rattle.rq_words.specs.declared.jobs.Job.TheVariants.{Send, Receive, Follow, Info, Protect, Check, Repair, Split, Join}
 use Rattle.rq_words.specs.declared.jobs.SendJob.{SendJob}
 use Rattle.rq_words.specs.declared.jobs.CheckJob.{CheckJob}
 use Rattle.rq_words.specs.declared.jobs.RepairJob.{RepairJob}
@@ -43,6 +43,7 @@ use Rattle.rq_command.specs.Outside.{Outside}
 use Rattle.rq_command.specs.Placed.{IsPlaced, is_whole}
 use Rattle.rq_devices.specs.Placed.{Contents, Files}
 use Rattle.rq_command.specs.Rounds.{SendsRounds, StopsRounds}
+use Rattle.rq_command.specs.Splitting.{EndsSplitting}
 
 -- ---- sending
 
@@ -81,10 +82,14 @@ pub record StopsAtEnd (order : Order) (rounds : ℕ) (file : Option Contents) (i
   pub lost_are : sent.lost ≡ counted lost
   pub failed : Fails outside.failed outside.failed_behind (lost + 1)
 
+-- Nothing was written, and no call told that begins a cell.
+abbrev pub SendsNothing : Outside → Contents → Contents → Type 0
+SendsNothing outside old new = (new ≡ old) × (outside.told_behind ≡ outside.told)
+
 -- Nothing is sent, or some first parts are; or all are, and a call failed at the end.
 abbrev pub StopsSending : Order → ℕ → Option Contents → Contents → Outside → Contents → Stop → Contents → Contents → Type 0
 StopsSending order rounds file input outside blank stop old new =
-    ((new ≡ old) × StopsUnsent order file input stop)
+    (SendsNothing outside old new × StopsUnsent order file input stop)
     ⊎ (SendsSome order rounds file input outside blank new (By stop) ⊎ StopsAtEnd order rounds file input outside blank new stop)
 
 -- a run ended since its cells would have gone to a terminal
@@ -99,8 +104,8 @@ MindsTerminal terminal ended = IfSome terminal (λ is. is ≡ is_at_terminal end
 -- How a run ends that sends what is read by the key of a file, in so many rounds. Nothing is read where its cells would go to a terminal, and nothing but the key
 -- where that is empty.
 abbrev pub EndsSend : Order → ℕ → Option Contents → Contents → Outside → Contents → End → Contents → Contents → Type 0
-EndsSend order rounds file input outside blank AtTerminal old new = new ≡ old
-EndsSend order rounds file input outside blank EmptyKey old new = IsEmptyKey file × (new ≡ old)
+EndsSend order rounds file input outside blank AtTerminal old new = SendsNothing outside old new
+EndsSend order rounds file input outside blank EmptyKey old new = IsEmptyKey file × SendsNothing outside old new
 EndsSend order rounds file input outside blank (Sent sent) old new = SendsAll order rounds file input outside blank new sent
 EndsSend order rounds file input outside blank (Changed part) old new = SendsSome order rounds file input outside blank new (Differs part)
 EndsSend order rounds file input outside blank (Stopped stop) old new = StopsSending order rounds file input outside blank stop old new
@@ -224,25 +229,39 @@ EndsRepairing job stands blank ended old new =
     let guard = guard_name job.file.now (option_map (λ s. s.now) job.guard) in
     EndsRepair (key_file stands (option_map (λ s. s.now) job.key)) job.file.now guard (option_map (λ s. s.now) job.output) stands blank ended old new
 
--- The same, and what a folder holds before and after.
+-- What earlier runs kept of their input is as it was.
+abbrev pub LeavesEarlier : Outside → Type 0
+LeavesEarlier outside = outside.earlier_behind ≡ outside.earlier
+
+-- The same, and what a folder holds before and after. A run that looks through files leaves them as they are.
 abbrev pub EndsJob : Job → Outside → (List (List ℕ) → Contents) → Contents → End → Contents → Contents → Folder → Folder → Type 0
 EndsJob (Send job) outside stands blank ended old new held held' =
-    MindsTerminal outside.terminal ended × EndsSending job outside stands blank ended old new × (held' ≡ held)
+    MindsTerminal outside.terminal ended × EndsSending job outside stands blank ended old new × (held' ≡ held) × LeavesEarlier outside
 EndsJob (Receive job) outside stands blank ended old new held held' =
     EndsReceive job.name.items (map (λ v. v.items) job.passed.items) job.window (key_file stands (option_map (λ s. s.now) job.key)) job.output
     (option_map (λ s. s.now) job.state) (stands (map (λ s. s.now) job.files.items)) outside blank ended old new × (held' ≡ held)
 EndsJob (Follow job) outside stands blank ended old new held held' =
     EndsFollow (map (λ v. v.items) job.passed.items) job.window job.timeout (key_file stands (option_map (λ s. s.now) job.key)) (stands (map (λ s. s.now) job.files.items)) blank ended held held'
-    × (new ≡ old)
+    × (new ≡ old) × LeavesEarlier outside
 EndsJob (Info job) outside stands blank ended old new held held' =
     EndsInfo (key_file stands (option_map (λ s. s.now) job.key)) (stands (map (λ s. s.now) job.files.items)) ended old new × (held' ≡ held)
-EndsJob (Protect job) outside stands blank ended old new held held' = EndsProtecting job stands blank ended old new × (held' ≡ held)
-EndsJob (Check job) outside stands blank ended old new held held' = EndsChecking job stands ended old new × (held' ≡ held)
-EndsJob (Repair job) outside stands blank ended old new held held' = EndsRepairing job stands blank ended old new × (held' ≡ held)
+    × LeavesEarlier outside × (outside.stands_behind ≡ stands)
+EndsJob (Protect job) outside stands blank ended old new held held' =
+    EndsProtecting job stands blank ended old new × (held' ≡ held) × LeavesEarlier outside
+EndsJob (Check job) outside stands blank ended old new held held' =
+    EndsChecking job stands ended old new × (held' ≡ held) × LeavesEarlier outside × (outside.stands_behind ≡ stands)
+EndsJob (Repair job) outside stands blank ended old new held held' =
+    EndsRepairing job stands blank ended old new × (held' ≡ held) × LeavesEarlier outside
+EndsJob (Split job) outside stands blank ended old new held held' =
+    EndsSplitting job stands blank ended old new × (held' ≡ held) × LeavesEarlier outside
+EndsJob (Join job) outside stands blank ended old new held held' =
+    EndsReceive job.name.items (map (λ v. v.items) job.passed.items) job.window (key_file stands (option_map (λ s. s.now) job.key)) job.output
+    (option_map (λ s. s.now) job.state) (stands (map (λ s. s.now) job.files.items)) outside blank ended old new × (held' ≡ held)
 
 -- What the words ask for is done. Where they are refused, nothing is.
 abbrev pub Does : List (List ℕ) → Outside → (List (List ℕ) → Contents) → Contents → End → Contents → Contents → Folder → Folder → Type 0
-Does words outside stands blank (Unasked e) old new held held' = IsRefused words (kind_of e) × (new ≡ old) × (held' ≡ held)
+Does words outside stands blank (Unasked e) old new held held' =
+    IsRefused words (kind_of e) × (new ≡ old) × (held' ≡ held) × LeavesEarlier outside × (outside.stands_behind ≡ stands)
 Does words outside stands blank ended old new held held' = (job : Job) × AsksFor words job × EndsJob job outside stands blank ended old new held held'
 
 -- ---- failed calls

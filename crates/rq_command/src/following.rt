@@ -73,6 +73,7 @@ fn file<'w, D: Devices<'w>>(
     ensures same { (ended ≡ result) ⊎ (result ≡ Err Stop.Fault) }
     ensures filed { FiledBy result (D.Writer.contents writer) (D.filed devices.old) (D.filed devices.new) }
     ensures kept { D.placed devices.new ≡ D.placed devices.old }
+    ensures earlier { D.earlier devices.new ≡ D.earlier devices.old }
     ensures failures { (n : ℕ) × Fails (D.failed devices.old) (D.failed devices.new) n × FailsReceiving result (failed_calls ended + n) }
 {
     match ended {
@@ -104,6 +105,7 @@ fn follow_one<'w, D: Devices<'w>, T: Teller>(
     ensures one { EndsOne run.now.table.now (wish_over run.now.table.now run.now.key.now [] (map (λ v. v.items) passed.now)) run.now.window D.blank
         result.0 result.1 (unread D.Reader.remaining input.old) (unread D.Reader.remaining input.new) (last_piece input.new) (D.filed devices.old) (D.filed devices.new) }
     ensures kept { D.placed devices.new ≡ D.placed devices.old }
+    ensures earlier { D.earlier devices.new ≡ D.earlier devices.old }
     ensures once { OnOk result.0 (is_put_back input.new ≡ false) }
     ensures patient { IfNone run.now.timeout (is_given_up result.0 ≡ false) }
     ensures failures { (n : ℕ) × Fails (D.failed devices.old) (D.failed devices.new) n
@@ -167,6 +169,7 @@ pub(crate) fn follow_all<'w, D: Devices<'w>, T: Teller>(
     ensures all { FollowsUpTo run.now.table.now run.now.key.now (map (λ v. v.items) passed.items) run.now.window run.now.timeout D.blank
         (unread D.Reader.remaining input) result.0 result.1 result.2 (D.filed devices.old) (D.filed devices.new) }
     ensures kept { D.placed devices.new ≡ D.placed devices.old }
+    ensures earlier { D.earlier devices.new ≡ D.earlier devices.old }
     ensures failures { (n : ℕ) × Fails (D.failed devices.old) (D.failed devices.new) n × FailsReceiving result.1 n }
 {
     let (mut input, mut passed) = (input, passed);

@@ -20,7 +20,9 @@ pub(crate) fn check<'w, D: Devices<'w>, T: Teller>(
     teller: &mut T,
 ) -> Result<End, Stop>
     ensures does { EndsChecking job.entry.now (D.stands devices.old) (end_of result) (D.placed devices.old) (D.placed devices.new) }
+    ensures stays { D.stands devices.new ≡ D.stands devices.old }
     ensures filed { D.filed devices.new ≡ D.filed devices.old }
+    ensures earlier { D.earlier devices.new ≡ D.earlier devices.old }
     ensures failures { Failures (end_of result) (D.failed devices.old) (D.failed devices.new) }
 {
     let Some(key) = key_of(alloc, job.key, devices)? else {
@@ -50,6 +52,7 @@ pub(crate) fn repair<'w, D: Devices<'w>, T: Teller>(
 ) -> Result<End, Stop>
     ensures does { EndsRepairing job.entry.now (D.stands devices.old) D.blank (end_of result) (D.placed devices.old) (D.placed devices.new) }
     ensures filed { D.filed devices.new ≡ D.filed devices.old }
+    ensures earlier { D.earlier devices.new ≡ D.earlier devices.old }
     ensures failures { Failures (end_of result) (D.failed devices.old) (D.failed devices.new) }
 {
     let Some(key) = key_of(alloc, job.key, devices)? else {

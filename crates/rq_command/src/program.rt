@@ -14,6 +14,7 @@ use crate::following::{Following, follow_all};
 use crate::guarded::{check, repair};
 use crate::protecting::protect_file;
 use crate::rounds::{Rounds, open_files, send_rounds};
+use crate::splitting::split;
 use rq_cast::{Ending, Halt, Input, Seen, check_length, run_receive, standings_in};
 use rq_cells::{Key, Wanted};
 use rq_devices::{Devices, Teller, Told, key_of, read_whole};
@@ -39,6 +40,7 @@ fn prepare<'w, D: Devices<'w>, T: Teller>(
     ensures stays { IfOk result (λ r. D.stands devices.new ≡ D.stands devices.old) }
     ensures kept { D.placed devices.new ≡ D.placed devices.old }
     ensures filed { D.filed devices.new ≡ D.filed devices.old }
+    ensures earlier { D.earlier devices.new ≡ D.earlier devices.old }
     ensures told { T.calls teller.new ≡ T.calls teller.old }
 {
     let Some(key) = key_of(alloc, job.key, devices)? else {
@@ -67,9 +69,10 @@ fn send<'w, D: Devices<'w>, T: Teller>(
     requires rounds { 0 < times_of job.rounds }
     ensures terminal { MindsTerminal (D.terminal devices.old) (end_of result) }
     ensures does { EndsSending job.entry (outside (D.terminal devices.old) (T.calls teller.old) (T.calls teller.new)
-        (D.failed devices.old) (D.failed devices.new) (D.earlier devices.old) (D.earlier devices.new))
+        (D.failed devices.old) (D.failed devices.new) (D.earlier devices.old) (D.earlier devices.new) (D.stands devices.new))
         (D.stands devices.old) D.blank (end_of result) (D.placed devices.old) (D.placed devices.new) }
     ensures filed { D.filed devices.new ≡ D.filed devices.old }
+    ensures earlier { D.earlier devices.new ≡ D.earlier devices.old }
     ensures failures { Failures (end_of result) (D.failed devices.old) (D.failed devices.new) }
 {
     if devices.shows_output() {
@@ -173,7 +176,7 @@ fn receive<'w, D: Devices<'w>, T: Teller>(
 ) -> Result<End, Stop>
     requires { 0 < job.window }
     ensures does { EndsJob (Job.Receive job.entry) (outside (D.terminal devices.old) (T.calls teller.old) (T.calls teller.new)
-        (D.failed devices.old) (D.failed devices.new) (D.earlier devices.old) (D.earlier devices.new))
+        (D.failed devices.old) (D.failed devices.new) (D.earlier devices.old) (D.earlier devices.new) (D.stands devices.new))
         (D.stands devices.old) D.blank (end_of result) (D.placed devices.old) (D.placed devices.new) (D.filed devices.old) (D.filed devices.new) }
     ensures failures { Failures (end_of result) (D.failed devices.old) (D.failed devices.new) }
 {
@@ -227,7 +230,7 @@ fn follow<'w, D: Devices<'w>, T: Teller>(
 ) -> Result<End, Stop>
     requires { 0 < job.window }
     ensures does { EndsJob (Job.Follow job.entry) (outside (D.terminal devices.old) (T.calls teller.old) (T.calls teller.new)
-        (D.failed devices.old) (D.failed devices.new) (D.earlier devices.old) (D.earlier devices.new))
+        (D.failed devices.old) (D.failed devices.new) (D.earlier devices.old) (D.earlier devices.new) (D.stands devices.new))
         (D.stands devices.old) D.blank (end_of result) (D.placed devices.old) (D.placed devices.new) (D.filed devices.old) (D.filed devices.new) }
     ensures failures { Failures (end_of result) (D.failed devices.old) (D.failed devices.new) }
 {
@@ -267,7 +270,7 @@ fn info<'w, D: Devices<'w>, T: Teller>(
     teller: &mut T,
 ) -> Result<End, Stop>
     ensures does { EndsJob (Job.Info job.entry) (outside (D.terminal devices.old) (T.calls teller.old) (T.calls teller.new)
-        (D.failed devices.old) (D.failed devices.new) (D.earlier devices.old) (D.earlier devices.new))
+        (D.failed devices.old) (D.failed devices.new) (D.earlier devices.old) (D.earlier devices.new) (D.stands devices.new))
         (D.stands devices.old) D.blank (end_of result) (D.placed devices.old) (D.placed devices.new) (D.filed devices.old) (D.filed devices.new) }
     ensures failures { Failures (end_of result) (D.failed devices.old) (D.failed devices.new) }
 {
@@ -314,7 +317,7 @@ pub fn run<'w, S: AsStr, D: Devices<'w>, T: Teller>(
 ) -> End
     // What the words ask for is done, and nothing where they are refused.
     ensures does { Does (map S.text words.entry.now) (outside (D.terminal devices.old) (T.calls teller.old) (T.calls teller.new)
-        (D.failed devices.old) (D.failed devices.new) (D.earlier devices.old) (D.earlier devices.new))
+        (D.failed devices.old) (D.failed devices.new) (D.earlier devices.old) (D.earlier devices.new) (D.stands devices.new))
         (D.stands devices.old) D.blank result (D.placed devices.old) (D.placed devices.new) (D.filed devices.old) (D.filed devices.new) }
 
     // A failed call ends the run, and nothing else is a fault.
@@ -328,6 +331,8 @@ pub fn run<'w, S: AsStr, D: Devices<'w>, T: Teller>(
         Ok(Job::Protect(job)) => end_of(protect_file(alloc, &job, devices, teller)),
         Ok(Job::Check(job)) => end_of(check(alloc, &job, devices, teller)),
         Ok(Job::Repair(job)) => end_of(repair(alloc, &job, devices, teller)),
+        Ok(Job::Split(job)) => end_of(split(alloc, &job, devices, teller)),
+        Ok(Job::Join(job)) => end_of(receive(alloc, job, devices, teller)),
         Err(error) => End::Unasked(error),
     }
 }

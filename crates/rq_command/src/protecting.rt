@@ -1,7 +1,8 @@
 //! The guard of a file, made.
-ghost use Rattle.std.specs.Prelude.{◌≡◌, ◌<◌, IfErr};
+ghost use Rattle.std.specs.Prelude.{◌≡◌, ◌<◌, option_map, IfOk, IfErr};
 ghost use Rattle.rq_streams.specs.Ends.{failed_calls};
 ghost use Rattle.rq_devices.specs.Failed.{Fails, StopsReading};
+ghost use Rattle.rq_devices.specs.Placed.{guard_name};
 ghost use Rattle.rq_command.specs.Guarding.{EndsProtecting};
 ghost use Rattle.rq_command.specs.Program.{end_of, Failures};
 
@@ -28,11 +29,13 @@ impl Pace for AtOnce {
 
 // Where the guard is put.
 fn place_of<'w, D: Devices<'w>>(job: &ProtectJob<'w>, devices: &mut D) -> Result<&'w str, Stop>
+    ensures place { IfOk result (λ s. s.now ≡ guard_name job.entry.now.file.now (option_map (λ s. s.now) job.entry.now.output)) }
     ensures stops { IfErr result StopsReading }
     ensures counts { Fails (D.failed devices.old) (D.failed devices.new) (failed_calls result) }
     ensures stays { D.stands devices.new ≡ D.stands devices.old }
     ensures kept { D.placed devices.new ≡ D.placed devices.old }
     ensures filed { D.filed devices.new ≡ D.filed devices.old }
+    ensures earlier { D.earlier devices.new ≡ D.earlier devices.old }
 {
     match job.output {
         Some(guard) => Ok(guard),
@@ -50,6 +53,7 @@ pub(crate) fn protect_file<'w, D: Devices<'w>, T: Teller>(
     requires part { 0 < job.now.part }
     ensures does { EndsProtecting job.entry.now (D.stands devices.old) D.blank (end_of result) (D.placed devices.old) (D.placed devices.new) }
     ensures filed { D.filed devices.new ≡ D.filed devices.old }
+    ensures earlier { D.earlier devices.new ≡ D.earlier devices.old }
     ensures failures { Failures (end_of result) (D.failed devices.old) (D.failed devices.new) }
 {
     let Some(key) = key_of(alloc, job.key, devices)? else {

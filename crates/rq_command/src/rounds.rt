@@ -73,6 +73,7 @@ fn send_round<'w, D: Devices<'w>, T: Teller>(
     ensures stays { D.stands devices.new ≡ D.stands devices.old }
     ensures kept { D.placed devices.new ≡ D.placed devices.old }
     ensures filed { D.filed devices.new ≡ D.filed devices.old }
+    ensures earlier { D.earlier devices.new ≡ D.earlier devices.old }
 {
     let Rounds {
         order,
@@ -119,6 +120,7 @@ pub(crate) fn open_files<'w, D: Devices<'w>>(
     ensures stays { D.stands devices.new ≡ D.stands devices.old }
     ensures kept { D.placed devices.new ≡ D.placed devices.old }
     ensures filed { D.filed devices.new ≡ D.filed devices.old }
+    ensures earlier { D.earlier devices.new ≡ D.earlier devices.old }
 {
     devices.open(Vec::from_slice(alloc, files)?)
 }
@@ -145,6 +147,7 @@ pub(crate) fn send_rounds<'w, D: Devices<'w>, T: Teller>(
         (T.calls teller.old) (T.calls teller.new) (D.Writer.contents unsent.entry.writer) (D.Writer.contents result.0) halt lost) }
     ensures kept { D.placed devices.new ≡ D.placed devices.old }
     ensures filed { D.filed devices.new ≡ D.filed devices.old }
+    ensures earlier { D.earlier devices.new ≡ D.earlier devices.old }
 {
     let mut rounds = match send_round(alloc, unsent, reader, devices, teller) {
         Ok(rounds) => rounds,

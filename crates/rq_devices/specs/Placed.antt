@@ -1,5 +1,6 @@
 -- What stands in files, and what is put where a run writes.
 use Rattle.std.specs.Prelude.{◌≡◌, ℕ, Bool, true, List, [], ◌++◌, codes, Contains, Option, Some, None, Result, Ok, IfSome, unwrap_or}
+use Rattle.rq_streams.specs.declared.run.Stop.{Stop}
 
 -- what stands somewhere, where that is known
 abbrev pub Contents : Type 0

@@ -23,10 +23,11 @@ pub trait Devices<'w> {
     /// What is written.
     type Writer: Write + Drop;
 
-    /// What stands in files, one behind another, by their names; on standard input, where there are none.
+    /// What stands in files, one behind another, by their names; on standard input, where there are none. What stands
+    /// in a folder are its shards, read in turns.
     ghost stands: { Self → List (List ℕ) → Option (List ℕ) };
 
-    /// What stands where the run puts what it writes.
+    /// What stands where the run puts what it writes: of a folder of shards all their cells, as they were written.
     ghost placed: { Self → Option (List ℕ) };
 
     /// What stands in the folder of streams that are taken one after another, by their names.
@@ -87,7 +88,8 @@ pub trait Devices<'w> {
         ensures counts { Fails (failed self.old) (failed self.new) (failed_calls result) }
         ensures stays { stands self.new ≡ stands self.old }
         ensures kept { placed self.new ≡ placed self.old }
-        ensures filed { filed self.new ≡ filed self.old };
+        ensures filed { filed self.new ≡ filed self.old }
+        ensures earlier { earlier self.new ≡ earlier self.old };
 
     /// What reads a file's guard: one that is said, or that which is named by the file.
     fn open_guard(&mut self, file: &'w str, said: Option<&'w str>) -> Result<Self::Reader, Stop>
@@ -96,15 +98,21 @@ pub trait Devices<'w> {
         ensures counts { Fails (failed self.old) (failed self.new) (failed_calls result) }
         ensures stays { stands self.new ≡ stands self.old }
         ensures kept { placed self.new ≡ placed self.old }
-        ensures filed { filed self.new ≡ filed self.old };
+        ensures filed { filed self.new ≡ filed self.old }
+        ensures earlier { earlier self.new ≡ earlier self.old };
 
     /// The guard that is named by a file.
     fn guard_of(&mut self, file: &'w str) -> Result<&'w str, Stop>
+        ensures name { IfOk result (λ s. s.now ≡ guard_name file.entry.now None) }
         ensures stops { IfErr result StopsReading }
         ensures counts { Fails (failed self.old) (failed self.new) (failed_calls result) }
         ensures stays { stands self.new ≡ stands self.old }
         ensures kept { placed self.new ≡ placed self.old }
-        ensures filed { filed self.new ≡ filed self.old };
+        ensures filed { filed self.new ≡ filed self.old }
+        ensures earlier { earlier self.new ≡ earlier self.old };
+
+    /// Whether a file was written after its guard was, by their times. Nothing is promised of these.
+    fn is_newer(&self, file: &'w str, said: Option<&'w str>) -> bool;
 
     /// How many bytes a reader has, where that is known before they are read.
     fn length(&self, reader: &Self::Reader) -> Option<u64>
@@ -151,7 +159,8 @@ pub trait Devices<'w> {
         ensures fault { IfErr result (λ stop. stop ≡ Stop.Fault) }
         ensures counts { Fails (failed self.old) (failed self.new) (failed_calls result) }
         ensures kept { placed self.new ≡ placed self.old }
-        ensures filed { filed self.new ≡ filed self.old };
+        ensures filed { filed self.new ≡ filed self.old }
+        ensures earlier { earlier self.new ≡ earlier self.old };
 
     /// Puts what is written there under a stream's name, where it is whole and has one, and else takes it away.
     fn finish_in(
@@ -163,7 +172,25 @@ pub trait Devices<'w> {
         ensures fault { IfErr result (λ stop. stop ≡ Stop.Fault) }
         ensures counts { Fails (failed self.old) (failed self.new) (failed_calls result) }
         ensures kept { placed self.new ≡ placed self.old }
-        ensures filed { IsKept stream result (Self.Writer.contents writer) (filed self.old) (filed self.new) };
+        ensures filed { IsKept stream result (Self.Writer.contents writer) (filed self.old) (filed self.new) }
+        ensures earlier { earlier self.new ≡ earlier self.old };
+
+    /// What writes cells into so many shards, in a folder that isn't there yet, with the rights of a file. A call begins
+    /// a cell, which goes into the shard whose number is what is left of its encoding symbol id, divided by how many
+    /// there are. [`Devices::finish`] puts the folder in its place, where the file is what it was.
+    fn create_shards(
+        &mut self,
+        folder: &'w str,
+        file: &'w str,
+        shards: u8,
+    ) -> Result<Self::Writer, Stop>
+        ensures blank { IfOk result (λ w. Self.Writer.contents w ≡ blank) }
+        ensures empty { IsEmpty blank }
+        ensures fault { IfErr result (λ stop. stop ≡ Stop.Fault) }
+        ensures counts { Fails (failed self.old) (failed self.new) (failed_calls result) }
+        ensures kept { placed self.new ≡ placed self.old }
+        ensures filed { filed self.new ≡ filed self.old }
+        ensures earlier { earlier self.new ≡ earlier self.old };
 }
 
 /// What is told of a run while it goes on. Nothing is promised of it: but for streams that are said to be silent, the

@@ -20,6 +20,7 @@ pub fn put<'w, D: Devices<'w>, X: Copy>(
     ensures same { (ended ≡ result) ⊎ ((is_whole ≡ true) × (result ≡ Err Stop.Fault)) }
     ensures placed { IsFinished (Some place.entry) is_whole result (D.Writer.contents writer) (D.placed devices.old) (D.placed devices.new) }
     ensures filed { D.filed devices.new ≡ D.filed devices.old }
+    ensures earlier { D.earlier devices.new ≡ D.earlier devices.old }
     ensures failures { (n : ℕ) × Fails (D.failed devices.old) (D.failed devices.new) n × FailsPutting is_whole result n }
 {
     if !is_whole {

@@ -20,6 +20,6 @@ pub use list::{DigestList, LIST_PART, LIST_SYMBOL_SIZE, LISTED_LENGTH};
 pub use mending::Mending;
 pub use mending_part::{mend_part, repair_part};
 pub use protecting::{GuardOrder, Guarded, protect};
-pub use reading::Decoding;
+pub use reading::{CellPass, Decoding};
 pub use reading_lists::lists_in;
 pub use reading_stream::first_head;

@@ -29,10 +29,10 @@ pub struct Decoding<'a> {
 
 /// Finds the cells of a stream whose symbols have one length among what a reader brings.
 #[derive(Drop)]
-pub(crate) struct CellPass {
-    pub scanner: CellScanner,
-    /// What came and may still become cells.
-    pub bytes: Vec<u8>,
+pub struct CellPass {
+    pub(crate) scanner: CellScanner,
+    // What came and may still become cells.
+    pub(crate) bytes: Vec<u8>,
 }
 
 impl CellPass {

@@ -10,15 +10,19 @@ use Rattle.rq_guard_runs.specs.declared.findings.Findings.{Findings}
 abbrev pub is_whole_finding : Findings → Bool
 is_whole_finding found = found.is_there && is_whole_file found.damage
 
--- No symbol of a part is whole that has bytes of the file: the damaged ones have room for all of these.
+-- At most a hundredth of a part is whole: the damaged symbols have room for all else that it has of the file.
 abbrev pub is_lost : DigestList → PartDamage → Bool
-is_lost l d = nat_le (part_length l.head) (vec_len d.symbols * l.head.configuration.symbol_size)
+is_lost l d = nat_le (part_length l.head * 99) (vec_len d.symbols * (l.head.configuration.symbol_size * 100))
 
 abbrev pub are_lost : List DigestList → List PartDamage → Bool
 are_lost [] parts = true
 are_lost (l ∷ lists) [] = true
 are_lost (l ∷ lists) (d ∷ parts) = is_lost l d && are_lost lists parts
 
--- a file is there, isn't whole, and has no symbol that is: it may be another one
+-- a file is there, and something of it is damaged
+abbrev pub is_damaged : Findings → Bool
+is_damaged found = found.is_there && not (is_whole_finding found)
+
+-- and nearly no symbol of any part is whole: it may be another one, and stays in its place
 abbrev pub is_strange : Findings → Bool
-is_strange found = (found.is_there && not (is_whole_finding found)) && are_lost found.lists.items found.damage.parts.items
+is_strange found = is_damaged found && are_lost found.lists.items found.damage.parts.items

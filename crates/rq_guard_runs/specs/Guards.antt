@@ -109,7 +109,7 @@ pub record Replaces (table : List TableRow) (key : Key) (lists : List DigestList
   pub repairs : RepairsFile table key lists (file standing) (guard standing) blank written mended
   pub put : IsPut mended written old new
 
--- A file stays as it is that is whole, or has no symbol that is, unless another place is named.
+-- A file stays as it is that is whole, or may be meant to be so, unless a place is named.
 abbrev pub stays : Option (List ℕ) → Findings → Bool
 stays None found = is_whole_finding found || is_strange found
 stays (Some output) found = false

@@ -15,6 +15,8 @@ pub struct Findings {
     pub damage: FileDamage,
     /// Whether it is there.
     pub is_there: bool,
+    /// Whether it was written after its guard, by their times.
+    pub is_newer: bool,
     /// Whether it is whole, or mended by its guard.
     pub is_mended: bool,
 }
@@ -26,15 +28,15 @@ struct Stretch {
     to: u64,
 }
 
-// Whether no symbol of a part is whole that has bytes of the file: the damaged ones have room for all of these.
+// Whether at most a hundredth of a part is whole: the damaged symbols have room for all else that it has of the file.
 fn is_lost(list: &DigestList, part: &PartDamage) -> bool
     ensures { result ≡ is_lost list.now part.now }
 {
     let size = u128::from(list.head.configuration.symbol_size());
-    u128::from(part_length(&list.head)) <= part.symbols.len() as u128 * size
+    u128::from(part_length(&list.head)) * 99 <= part.symbols.len() as u128 * (size * 100)
 }
 
-// Whether no symbol of any part is.
+// Whether no more is of any part.
 fn are_lost(lists: &[DigestList], parts: &[PartDamage]) -> bool
     ensures { result ≡ are_lost lists.now parts.now }
 {
@@ -47,7 +49,7 @@ fn are_lost(lists: &[DigestList], parts: &[PartDamage]) -> bool
 }
 
 impl Findings {
-    ghost use Rattle.rq_guard_runs.specs.Found.{is_strange, is_whole_finding};
+    ghost use Rattle.rq_guard_runs.specs.Found.{is_damaged, is_strange, is_whole_finding};
 
     /// The same of a file of which is known whether it is mended.
     pub(crate) fn with(self, is_mended: bool) -> Findings
@@ -57,12 +59,14 @@ impl Findings {
             lists,
             damage,
             is_there,
+            is_newer,
             ..
         } = self;
         Findings {
             lists,
             damage,
             is_there,
+            is_newer,
             is_mended,
         }
     }
@@ -74,12 +78,23 @@ impl Findings {
         self.is_there && self.damage.is_whole()
     }
 
-    /// Whether it is there, isn't whole, and has no symbol that is: it may be another file.
+    // Whether it is there, and something of it is damaged.
+    fn is_damaged(&self) -> bool
+        ensures { result ≡ is_damaged self.now }
+    {
+        self.is_there && !self.is_whole()
+    }
+
+    /// Whether it is there, isn't whole, and nearly no symbol of any part is, at most a hundredth: it may be another file.
     pub fn is_strange(&self) -> bool
         ensures { result ≡ is_strange self.now }
     {
-        let is_damaged = self.is_there && !self.is_whole();
-        is_damaged && are_lost(self.lists.as_slice(), self.damage.parts.as_slice())
+        self.is_damaged() && are_lost(self.lists.as_slice(), self.damage.parts.as_slice())
+    }
+
+    // Whether it was written after its guard: then what is damaged may have been changed.
+    fn is_changed(&self) -> bool {
+        self.is_damaged() && self.is_newer
     }
 
     /// How many symbols have bytes of it. Those of the last part that have none are the guard's own.
@@ -180,6 +195,28 @@ pub fn write_findings<W: Write>(found: &Findings, json: bool, out: &mut W) -> io
     writeln!(out, "]}}")
 }
 
+// Writes how many bytes a file lacks at its end, or that it has more.
+fn write_length<W: Write>(found: &Findings, out: &mut W) -> io::Result<()> {
+    let missing = found.missing();
+    if missing > 0 {
+        write!(out, ", and it ends {missing} bytes early")?;
+    }
+    if found.damage.longer {
+        write!(out, ", and it has more bytes than its guard says")?;
+    }
+    Ok(())
+}
+
+// How a file differs from what it was as its guard was made.
+fn write_change<W: Write>(found: &Findings, out: &mut W) -> io::Result<()> {
+    let (damaged, symbols) = (found.damaged(), found.symbols());
+    write!(out, "FILE was changed after its guard was made")?;
+    if damaged > 0 {
+        write!(out, ", in {damaged} of {symbols} symbols")?;
+    }
+    write_length(found, out)
+}
+
 // What is wrong with a file, where something is.
 fn write_fault<W: Write>(found: &Findings, out: &mut W) -> io::Result<()> {
     let (damaged, symbols, missing) = (found.damaged(), found.symbols(), found.missing());
@@ -189,8 +226,11 @@ fn write_fault<W: Write>(found: &Findings, out: &mut W) -> io::Result<()> {
     if found.is_strange() {
         return write!(
             out,
-            "no symbol of FILE is as the guard says, which may be another file's"
+            "nearly no symbol of FILE is as the guard says, which may be another file's"
         );
+    }
+    if found.is_changed() {
+        return write_change(found, out);
     }
     if damaged == 0 && missing > 0 {
         return write!(out, "FILE ends {missing} bytes early");
@@ -199,13 +239,7 @@ fn write_fault<W: Write>(found: &Findings, out: &mut W) -> io::Result<()> {
         return write!(out, "FILE has more bytes than its guard says");
     }
     write!(out, "{damaged} of {symbols} symbols of FILE are damaged")?;
-    if missing > 0 {
-        write!(out, ", and it ends {missing} bytes early")?;
-    }
-    if found.damage.longer {
-        write!(out, ", and it has more bytes than its guard says")?;
-    }
-    Ok(())
+    write_length(found, out)
 }
 
 // That a guard lists nothing.
@@ -218,10 +252,23 @@ fn write_no_list<W: Write>(out: &mut W) -> io::Result<()> {
 
 // Why a file isn't mended by its guard.
 fn reason_of(found: &Findings) -> &'static str {
-    if found.is_there && !found.is_strange() {
-        "that is more than the guard mends, or the guard is of an older state of FILE"
-    } else {
+    if !found.is_there || found.is_strange() {
         "that is more than the guard mends"
+    } else if found.is_changed() {
+        "that is more than the guard undoes"
+    } else {
+        "that is more than the guard mends, or the guard is of an older state of FILE"
+    }
+}
+
+// What mends a file that its guard mends.
+fn advice_of(found: &Findings) -> &'static str {
+    if found.is_strange() {
+        "`rqcast repair -o` makes that file"
+    } else if found.is_changed() {
+        "`rqcast repair` undoes that"
+    } else {
+        "`rqcast repair` mends it"
     }
 }
 
@@ -235,10 +282,10 @@ pub fn write_checked<W: Write>(found: &Option<Findings>, out: &mut W) -> io::Res
     }
     write!(out, "rqcast: ")?;
     write_fault(found, out)?;
-    let end = match (found.is_mended, found.is_strange()) {
-        (true, true) => "`rqcast repair -o` makes that file",
-        (true, false) => "`rqcast repair` mends it",
-        (false, _) => reason_of(found),
+    let end = if found.is_mended {
+        advice_of(found)
+    } else {
+        reason_of(found)
     };
     writeln!(out, ": {end}")
 }

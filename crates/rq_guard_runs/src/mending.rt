@@ -42,6 +42,7 @@ impl<'w> Pair<'_, 'w> {
         ensures stays { D.stands devices.new ≡ D.stands devices.old }
         ensures kept { D.placed devices.new ≡ D.placed devices.old }
         ensures filed { D.filed devices.new ≡ D.filed devices.old }
+        ensures earlier { D.earlier devices.new ≡ D.earlier devices.old }
     {
         let mut mending = Mending::new(self.alloc)?;
         'parts: while (mending.mended_parts() as usize) < lists.len() {
@@ -80,6 +81,7 @@ impl<'w> Pair<'_, 'w> {
         ensures stays { D.stands devices.new ≡ D.stands devices.old }
         ensures kept { D.placed devices.new ≡ D.placed devices.old }
         ensures filed { D.filed devices.new ≡ D.filed devices.old }
+        ensures earlier { D.earlier devices.new ≡ D.earlier devices.old }
     {
         let (reader, _is_there) = self.open_file(devices, teller)?;
         let mut file = Counted::new(Told::new(reader, teller));
@@ -103,6 +105,7 @@ impl<'w> Pair<'_, 'w> {
         ensures stays { D.stands devices.new ≡ D.stands devices.old }
         ensures kept { D.placed devices.new ≡ D.placed devices.old }
         ensures filed { D.filed devices.new ≡ D.filed devices.old }
+        ensures earlier { D.earlier devices.new ≡ D.earlier devices.old }
     {
         let mut nowhere = Counted::new(sink());
         let mended = self.mend(lists, devices, teller, &mut nowhere);
@@ -123,6 +126,7 @@ impl<'w> Pair<'_, 'w> {
             (D.stands devices.old) D.blank (D.placed devices.old) (D.placed devices.new)) }
         ensures kept { IfErr result (λ _. D.placed devices.new ≡ D.placed devices.old) }
         ensures filed { D.filed devices.new ≡ D.filed devices.old }
+        ensures earlier { D.earlier devices.new ≡ D.earlier devices.old }
         ensures stops { IfErr result StopsReading }
         ensures failures { (n : ℕ) × Fails (D.failed devices.old) (D.failed devices.new) n × FailsMending result n }
     {

@@ -45,6 +45,7 @@ impl<'w> Pair<'_, 'w> {
         ensures stays { D.stands devices.new ≡ D.stands devices.old }
         ensures kept { D.placed devices.new ≡ D.placed devices.old }
         ensures filed { D.filed devices.new ≡ D.filed devices.old }
+        ensures earlier { D.earlier devices.new ≡ D.earlier devices.old }
     {
         let reader = devices.open_guard(self.file, self.said)?;
         Ok(Counted::new(reader))
@@ -59,6 +60,7 @@ impl<'w> Pair<'_, 'w> {
         ensures stays { D.stands devices.new ≡ D.stands devices.old }
         ensures kept { D.placed devices.new ≡ D.placed devices.old }
         ensures filed { D.filed devices.new ≡ D.filed devices.old }
+        ensures earlier { D.earlier devices.new ≡ D.earlier devices.old }
     {
         let wanted = Wanted {
             key: self.by.key,
@@ -86,6 +88,7 @@ impl<'w> Pair<'_, 'w> {
         ensures stays { D.stands devices.new ≡ D.stands devices.old }
         ensures kept { D.placed devices.new ≡ D.placed devices.old }
         ensures filed { D.filed devices.new ≡ D.filed devices.old }
+        ensures earlier { D.earlier devices.new ≡ D.earlier devices.old }
     {
         let mut guard = self.open_guard(devices)?;
         let lists = lists_in(self.alloc, &self.by, stream, &mut guard);
@@ -103,6 +106,7 @@ impl<'w> Pair<'_, 'w> {
         ensures stays { D.stands devices.new ≡ D.stands devices.old }
         ensures kept { D.placed devices.new ≡ D.placed devices.old }
         ensures filed { D.filed devices.new ≡ D.filed devices.old }
+        ensures earlier { D.earlier devices.new ≡ D.earlier devices.old }
     {
         let Some(head) = self.first_head(devices)? else {
             return Ok(None);
@@ -123,6 +127,7 @@ impl<'w> Pair<'_, 'w> {
         ensures stays { D.stands devices.new ≡ D.stands devices.old }
         ensures kept { D.placed devices.new ≡ D.placed devices.old }
         ensures filed { D.filed devices.new ≡ D.filed devices.old }
+        ensures earlier { D.earlier devices.new ≡ D.earlier devices.old }
     {
         let (reader, is_there) = devices.open_if_there(self.file)?;
         teller.begin(self.telling, None, devices.length(&reader));
@@ -144,6 +149,7 @@ impl<'w> Pair<'_, 'w> {
         ensures stays { D.stands devices.new ≡ D.stands devices.old }
         ensures kept { D.placed devices.new ≡ D.placed devices.old }
         ensures filed { D.filed devices.new ≡ D.filed devices.old }
+        ensures earlier { D.earlier devices.new ≡ D.earlier devices.old }
     {
         let (reader, is_there) = self.open_file(devices, teller)?;
         let mut file = Counted::new(Told::new(reader, teller));
@@ -152,7 +158,8 @@ impl<'w> Pair<'_, 'w> {
         Ok((damage?, is_there))
     }
 
-    /// What is known of the file by its guard, where that has the lists of all parts, before it is mended.
+    /// What is known of the file by its guard, where that has the lists of all parts, before it is mended. The run begins
+    /// here, as it is told.
     pub fn find<D: Devices<'w>, T: Teller>(
         &self,
         devices: &mut D,
@@ -168,16 +175,20 @@ impl<'w> Pair<'_, 'w> {
         ensures stays { D.stands devices.new ≡ D.stands devices.old }
         ensures kept { D.placed devices.new ≡ D.placed devices.old }
         ensures filed { D.filed devices.new ≡ D.filed devices.old }
+        ensures earlier { D.earlier devices.new ≡ D.earlier devices.old }
     {
+        teller.begin(self.telling, None, None);
         let Some(lists) = self.lists(devices)? else {
             return Ok(None);
         };
         let (damage, is_there) = self.damage(lists.as_slice(), devices, teller)?;
+        let is_newer = devices.is_newer(self.file, self.said);
         let is_mended = is_there && damage.is_whole();
         Ok(Some(Findings {
             lists,
             damage,
             is_there,
+            is_newer,
             is_mended,
         }))
     }

@@ -10,7 +10,7 @@ use crate::pair::Pair;
 use rq_devices::{Devices, Teller};
 use rq_streams::Stop;
 
-// A file stays as it is that is whole, or has no symbol that is, unless another place is named.
+// A file stays as it is that is whole, or may be another one, unless a place is named.
 fn stays(output: Option<&str>, found: &Findings) -> bool
     ensures { result ≡ stays (option_map (λ s. s.now) output.entry) found.now }
 {
@@ -28,8 +28,10 @@ impl<'w> Pair<'_, 'w> {
             (in_guard self.now (D.stands devices.old))) }
         ensures stops { IfErr result StopsReading }
         ensures counts { Fails (D.failed devices.old) (D.failed devices.new) (failed_calls result) }
+        ensures stays { D.stands devices.new ≡ D.stands devices.old }
         ensures kept { D.placed devices.new ≡ D.placed devices.old }
         ensures filed { D.filed devices.new ≡ D.filed devices.old }
+        ensures earlier { D.earlier devices.new ≡ D.earlier devices.old }
     {
         let Some(found) = self.find(devices, teller)? else {
             return Ok(None);
@@ -42,7 +44,7 @@ impl<'w> Pair<'_, 'w> {
     }
 
     /// What is found of the file, which is mended in its place, or in another one, where that is named. One that is whole
-    /// stays as it is, and so does one that has no symbol that is: it may be another file.
+    /// stays as it is, and so does one of which nearly no symbol is: it may be another file.
     pub fn repair<D: Devices<'w>, T: Teller>(
         &self,
         output: Option<&'w str>,
@@ -53,6 +55,7 @@ impl<'w> Pair<'_, 'w> {
             (option_map (λ s. s.now) output.entry) (D.stands devices.old) D.blank o (D.placed devices.old) (D.placed devices.new)) }
         ensures kept { IfErr result (λ _. D.placed devices.new ≡ D.placed devices.old) }
         ensures filed { D.filed devices.new ≡ D.filed devices.old }
+        ensures earlier { D.earlier devices.new ≡ D.earlier devices.old }
         ensures stops { IfErr result StopsReading }
         ensures failures { (n : ℕ) × Fails (D.failed devices.old) (D.failed devices.new) n × FailsRepairing result n }
     {

@@ -6,16 +6,16 @@ use Rattle.clap.specs.declared.error.Error.{Error}
 use Rattle.clap.specs.declared.error.kind.ErrorKind.TheVariants.{OutOfMemory}
 use Rattle.clap.specs.declared.parser.matches.ArgMatches.{ArgMatches}
 use Rattle.clap.proofs.OnLiterals.{clap_on_literals}
-use Rattle.rq_options.specs.Definition.{program_app, send_app, receive_app, info_app, protect_app, check_app, repair_app, faults_of, used_of}
+use Rattle.rq_options.specs.Definition.{program_app, send_app, receive_app, info_app, protect_app, check_app, repair_app, split_app, join_app, faults_of, used_of}
 use Rattle.rq_options.specs.Options.{named, verb_in, verb_used}
 
 -- clap's clauses on matches and faults are exact of this program
 simple : is_simple program_app ≡ true
-unfolding program_app send_app receive_app info_app protect_app check_app repair_app clap_on_literals
+unfolding program_app send_app receive_app info_app protect_app check_app repair_app split_app join_app clap_on_literals
 simple = refl
 
 free : is_simple_and_free program_app ≡ true
-unfolding program_app send_app receive_app info_app protect_app check_app repair_app clap_on_literals
+unfolding program_app send_app receive_app info_app protect_app check_app repair_app split_app join_app clap_on_literals
 free = refl
 
 -- the subcommand that is used, where the parser took the words

@@ -30,12 +30,16 @@ file_rule = record (new_rule (codes "file")) { action = Some Set; value_names = 
 abbrev pub cells_rule : Rule
 cells_rule = record (new_rule (codes "cells")) { action = Some Append; value_names = 1 }
 
--- a file that has a guard, which has to be named, and its guard
+-- a file that has a guard or is split, which has to be named, and its guard
 abbrev pub guarded_rule : Rule
 guarded_rule = record (new_rule (codes "file")) { action = Some Set; value_names = 1; required = true }
 
 abbrev pub guard_rule : Rule
 guard_rule = record (new_rule (codes "guard")) { action = Some Set; value_names = 1 }
+
+-- a folder of shards, which has to be named
+abbrev pub folder_rule : Rule
+folder_rule = record (new_rule (codes "folder")) { action = Some Set; value_names = 1; required = true }
 
 -- a subcommand, which says the version too
 abbrev pub subcommand_app : Text → App
@@ -90,6 +94,18 @@ check_app = with_rule (with_rule (with_common (subcommand_app (codes "check"))) 
 unfoldable pub repair_app : App
 repair_app = with_rule (with_rule (with_common (with_rule (subcommand_app (codes "repair")) (with_letter 111 (value_rule (codes "output"))))) guarded_rule) guard_rule
 
+-- the options that say how a file is split
+abbrev pub with_shards : App → App
+with_shards a = with_rule (with_rule (with_rule (with_rule a (with_default (codes "16") (value_rule (codes "need"))))
+    (with_default (codes "20") (value_rule (codes "of")))) (with_default (codes "16M") (value_rule (codes "part"))))
+    (with_default (codes "4096") (with_letter 99 (value_rule (codes "cell"))))
+
+unfoldable pub split_app : App
+split_app = with_rule (with_rule (with_common (with_shards (subcommand_app (codes "split")))) guarded_rule) folder_rule
+
+unfoldable pub join_app : App
+join_app = with_rule (with_common (with_rule (subcommand_app (codes "join")) (with_letter 111 (value_rule (codes "output"))))) folder_rule
+
 -- the program, with no subcommand yet
 abbrev pub top_app : App
 top_app = on_top (λ s. record s { has_version = true; no_binary_name = true; subcommand_required = true; disable_help_subcommand = true }) (new_app (codes "rqcast"))
@@ -97,8 +113,9 @@ top_app = on_top (λ s. record s { has_version = true; no_binary_name = true; su
 -- all words behind the program's name
 unfoldable pub program_app : App
 program_app =
-    with_subcommand (with_subcommand (with_subcommand (with_subcommand (with_subcommand (with_subcommand top_app send_app.top) receive_app.top) info_app.top)
-    protect_app.top) check_app.top) repair_app.top
+    with_subcommand (with_subcommand
+    (with_subcommand (with_subcommand (with_subcommand (with_subcommand (with_subcommand (with_subcommand top_app send_app.top) receive_app.top) info_app.top)
+    protect_app.top) check_app.top) repair_app.top) split_app.top) join_app.top
 
 -- what the parser finds at fault in words
 unfoldable pub faults_of : List Text → Kinds

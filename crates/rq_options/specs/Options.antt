@@ -6,7 +6,7 @@ use Rattle.clap.specs.declared.error.kind.ErrorKind.{ErrorKind}
 use Rattle.clap.specs.declared.error.kind.ErrorKind.TheVariants.{ArgumentConflict, MissingRequiredArgument, ValueValidation}
 use Rattle.clap.specs.declared.parser.matches.ArgMatches.{ArgMatches}
 use Rattle.rq_options.specs.declared.matches.Verb.{Verb}
-use Rattle.rq_options.specs.declared.matches.Verb.TheVariants.{Send, Receive, Info, Protect, Check, Repair}
+use Rattle.rq_options.specs.declared.matches.Verb.TheVariants.{Send, Receive, Info, Protect, Check, Repair, Split, Join}
 use Rattle.rq_options.specs.declared.misuse.Misuse.{Misuse}
 use Rattle.rq_options.specs.declared.misuse.Misuse.TheVariants.{Together, Alone, Value}
 use Rattle.rq_options.specs.Definition.{used_of}
@@ -18,7 +18,8 @@ unfoldable pub verb_named : Text → Option Verb
 verb_named name =
     if bytes_eq name (codes "send") then Some Send else (if bytes_eq name (codes "receive") then Some Receive
     else (if bytes_eq name (codes "info") then Some Info else (if bytes_eq name (codes "protect") then Some Protect
-    else (if bytes_eq name (codes "check") then Some Check else (if bytes_eq name (codes "repair") then Some Repair else None)))))
+    else (if bytes_eq name (codes "check") then Some Check else (if bytes_eq name (codes "repair") then Some Repair
+    else (if bytes_eq name (codes "split") then Some Split else (if bytes_eq name (codes "join") then Some Join else None)))))))
 
 -- a subcommand and what stands behind it, by its name
 unfoldable pub named : Option (Text × List Row) → Option (Verb × List Row)

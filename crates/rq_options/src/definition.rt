@@ -2,7 +2,7 @@
 ghost use Rattle.std.specs.Prelude.{◌≡◌, IfOk, false};
 ghost use Rattle.clap.specs.Words.{app_of, rule_of, with_rule};
 ghost use Rattle.clap.specs.declared.builder.command.Command.TheViews.{out-Command};
-ghost use Rattle.rq_options.specs.Definition.{value_rule, several_rule, flag_rule, file_rule, cells_rule, subcommand_app, top_app, guarded_rule, guard_rule, with_common, with_repair, with_ids, with_places, with_guard, send_app, receive_app, info_app, protect_app, check_app, repair_app, program_app, with_choice};
+ghost use Rattle.rq_options.specs.Definition.{value_rule, several_rule, flag_rule, file_rule, cells_rule, subcommand_app, top_app, guarded_rule, guard_rule, folder_rule, with_common, with_repair, with_ids, with_places, with_guard, with_shards, send_app, receive_app, info_app, protect_app, check_app, repair_app, split_app, join_app, program_app, with_choice};
 
 use crate::version::VERSION;
 use clap::{Arg, ArgAction, Command};
@@ -13,10 +13,13 @@ Examples:
   rqcast send --loss 10 --rate 400M FILE >/dev/udp/HOST/PORT
   socat -u -b65536 UDP-RECV:PORT,rcvbuf=4194304 - | rqcast receive -o FILE
   rqcast info KEPT
+  rqcast protect FILE
+  rqcast check FILE || rqcast repair FILE
 
 It ends with 0 where all is done, 1 after a fault of the system, 2 where too
-little came, 3 where what was to be sent is refused, and 64 where the words
-are wrong or the key is empty.";
+little came or a guard doesn't mend its file, 3 where what was to be sent is
+refused or a guard mends what a check found, and 64 where the words are wrong,
+the key is empty, or a file that is read would be written.";
 
 // An option that takes a value.
 fn value<'a>(alloc: Global, id: &'a str, name: &'a str, help: &'a str) -> Arg<'a>
@@ -351,12 +354,90 @@ pub(crate) fn repair<'a>(alloc: Global) -> Result<Command<'a>, AllocError>
     added(added(common, guarded(alloc))?, guard(alloc))
 }
 
+// The file that is split.
+fn whole<'a>(alloc: Global) -> Arg<'a>
+    ensures rule { rule_of result ≡ guarded_rule }
+    ensures local { result.global ≡ false }
+{
+    Arg::new(alloc, "file")
+        .value_name("FILE")
+        .action(ArgAction::Set)
+        .required(true)
+        .help("The file to split")
+}
+
+// The folder of its shards.
+fn folder<'a>(alloc: Global, help: &'a str) -> Arg<'a>
+    ensures rule { rule_of result ≡ folder_rule }
+    ensures local { result.global ≡ false }
+{
+    Arg::new(alloc, "folder")
+        .value_name("FOLDER")
+        .action(ArgAction::Set)
+        .required(true)
+        .help(help)
+}
+
+// The options of `split` alone.
+fn sharded<'a>(alloc: Global, command: Command<'a>) -> Result<Command<'a>, AllocError>
+    ensures app { IfOk result (λ c. app_of c ≡ with_shards (app_of command.entry)) }
+    ensures local { IfOk result (λ c. (out-Command c).has_globals ≡ (out-Command command.entry).has_globals) }
+{
+    let need = value(alloc, "need", "K", "How many shards are enough, whichever");
+    let one = added(command, need.default_value("16"))?;
+    let of = value(alloc, "of", "N", "How many there are, 255 at most");
+    let two = added(one, of.default_value("20"))?;
+    let part = value(
+        alloc,
+        "part",
+        "BYTES",
+        "How many bytes are read and split as a part",
+    );
+    let three = added(two, part.default_value("16M"))?;
+    let cell = value(alloc, "cell", "BYTES", "The most bytes of a cell");
+    added(three, cell.short('c').default_value("4096"))
+}
+
+/// `split`, with its options.
+pub(crate) fn split<'a>(alloc: Global) -> Result<Command<'a>, AllocError>
+    ensures app { IfOk result (λ c. app_of c ≡ split_app) }
+    ensures local { IfOk result (λ c. (out-Command c).has_globals ≡ false) }
+{
+    let about = "Makes shards of FILE in FOLDER, some of which are enough for it";
+    let sharded = sharded(alloc, subcommand(alloc, "split", about)?)?;
+    let common = common(alloc, sharded)?;
+    let filed = added(common, whole(alloc))?;
+    added(
+        filed,
+        folder(alloc, "The folder that is made of its shards"),
+    )
+}
+
+/// `join`, with its options.
+pub(crate) fn join<'a>(alloc: Global) -> Result<Command<'a>, AllocError>
+    ensures app { IfOk result (λ c. app_of c ≡ join_app) }
+    ensures local { IfOk result (λ c. (out-Command c).has_globals ≡ false) }
+{
+    let about = "Writes the file whose shards are in FOLDER";
+    let output = value(
+        alloc,
+        "output",
+        "FILE",
+        "Write beside FILE, and put it there when it is whole",
+    );
+    let placed = added(subcommand(alloc, "join", about)?, output.short('o'))?;
+    let common = common(alloc, placed)?;
+    added(common, folder(alloc, "The folder of the shards"))
+}
+
 // The program with no subcommand yet. Usage names it before a subcommand.
 fn top<'a>(alloc: Global) -> Result<Command<'a>, AllocError>
     ensures { IfOk result (λ c. app_of c ≡ top_app) }
 {
     Command::new(alloc, "rqcast")
-        .about("Sends a file as RaptorQ cells over anything that loses or damages, and receives it")
+        .about(
+            "Sends a file as RaptorQ cells over anything that loses or damages, and receives it; mends a file by its guard",
+        )
         .version(VERSION)
         .after_help(AFTER_HELP)
         .no_binary_name(true)
@@ -374,5 +455,7 @@ pub(crate) fn program<'a>(alloc: Global) -> Result<Command<'a>, AllocError>
     let three = two.subcommand(info(alloc)?)?;
     let four = three.subcommand(protect(alloc)?)?;
     let five = four.subcommand(check(alloc)?)?;
-    five.subcommand(repair(alloc)?)
+    let six = five.subcommand(repair(alloc)?)?;
+    let seven = six.subcommand(split(alloc)?)?;
+    seven.subcommand(join(alloc)?)
 }

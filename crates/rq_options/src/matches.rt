@@ -24,6 +24,10 @@ pub enum Verb {
     Check,
     /// `repair`.
     Repair,
+    /// `split`.
+    Split,
+    /// `join`.
+    Join,
 }
 
 /// What the parser finds among the words after the program's name. Its errors are those of clap, requests
@@ -64,6 +68,12 @@ fn verb_of(name: &str) -> Option<Verb>
     }
     if name == "repair" {
         return Some(Verb::Repair);
+    }
+    if name == "split" {
+        return Some(Verb::Split);
+    }
+    if name == "join" {
+        return Some(Verb::Join);
     }
     None
 }

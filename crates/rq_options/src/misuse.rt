@@ -48,6 +48,8 @@ fn command_of<'a>(alloc: Global, verb: Verb) -> Result<Command<'a>, AllocError> 
         Verb::Protect => definition::protect(alloc)?.bin_name("rqcast protect"),
         Verb::Check => definition::check(alloc)?.bin_name("rqcast check"),
         Verb::Repair => definition::repair(alloc)?.bin_name("rqcast repair"),
+        Verb::Split => definition::split(alloc)?.bin_name("rqcast split"),
+        Verb::Join => definition::join(alloc)?.bin_name("rqcast join"),
     }
 }
 

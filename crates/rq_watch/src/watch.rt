@@ -196,11 +196,12 @@ impl<'a, C: Clock, W: Write> Watch<'a, C, W> {
         }
     }
 
-    // Writes how many symbols of a file are damaged.
+    // Writes how many symbols of a file are damaged; as JSON also whether it is whole or mended.
     fn say_found(&mut self, found: &Findings) -> io::Result<()> {
-        let (damaged, symbols) = (found.damaged(), found.symbols());
+        let (damaged, symbols, mended) = (found.damaged(), found.symbols(), found.is_mended);
         if self.telling == Telling::Json {
-            return self.write_json(&[("symbols", Some(symbols)), ("damaged", Some(damaged))]);
+            write!(self.out, "{{\"mended\":{mended},")?;
+            return self.write_counts(&[("symbols", Some(symbols)), ("damaged", Some(damaged))]);
         }
         self.say_passed()?;
         match damaged {

@@ -11,7 +11,7 @@ use Rattle.rq_options.specs.declared.matches.Verb.TheVariants as verb
 use Rattle.rq_options.specs.Definition.{faults_of}
 use Rattle.rq_options.specs.Options.{verb_in, verb_used}
 use Rattle.rq_words.specs.declared.jobs.Job.{Job}
-use Rattle.rq_words.specs.declared.jobs.Job.TheVariants.{Send, Receive, Follow, Info, Protect, Check, Repair}
+use Rattle.rq_words.specs.declared.jobs.Job.TheVariants.{Send, Receive, Follow, Info, Protect, Check, Repair, Split, Join}
 use Rattle.rq_words.specs.Asked.{Asked, AsksFor, IsReceivedOf, IsRefused, Uses, both, kinds_of, misuses_of, refusals_of}
 
 -- ---- one option and another
@@ -49,6 +49,8 @@ received words rows (Ok (Info job)) uses is = absurd is
 received words rows (Ok (Protect job)) uses is = absurd is
 received words rows (Ok (Check job)) uses is = absurd is
 received words rows (Ok (Repair job)) uses is = absurd is
+received words rows (Ok (Split job)) uses is = absurd is
+received words rows (Ok (Join job)) uses is = absurd is
 received words rows (Err e) uses is = tt
 
 -- ---- words that are refused
@@ -69,6 +71,10 @@ unrefused words (Protect job) (rows, uses, asks) =
 unrefused words (Check job) (rows, uses, asks) =
     ap₂ (λ (f : Kinds) (u : Option (Verb × List Row)). or_else f (misuses_of u)) uses.faultless uses.used ∙ ap kinds_of asks.asked_for
 unrefused words (Repair job) (rows, uses, asks) =
+    ap₂ (λ (f : Kinds) (u : Option (Verb × List Row)). or_else f (misuses_of u)) uses.faultless uses.used ∙ ap kinds_of asks.asked_for
+unrefused words (Split job) (rows, uses, asks) =
+    ap₂ (λ (f : Kinds) (u : Option (Verb × List Row)). or_else f (misuses_of u)) uses.faultless uses.used ∙ ap kinds_of asks.asked_for
+unrefused words (Join job) (rows, uses, asks) =
     ap₂ (λ (f : Kinds) (u : Option (Verb × List Row)). or_else f (misuses_of u)) uses.faultless uses.used ∙ ap kinds_of asks.asked_for
 
 among_none : (kind : ErrorKind) (kinds : Kinds) → IsAmong kind kinds → kinds ≡ [] → ⊥

@@ -8,6 +8,7 @@ use Rattle.rq_cast.specs.declared.order.Ids.{Ids}
 use Rattle.rq_cast.specs.declared.order.Order.{Order}
 use Rattle.rq_cast.specs.declared.series.Repair.{Repair}
 use Rattle.rq_cast.specs.declared.series.Repair.TheVariants.{Against}
+use Rattle.rq_cast.specs.declared.shares.Shares.{Shares}
 use Rattle.rq_options.specs.declared.matches.Verb.{Verb}
 use Rattle.rq_options.specs.declared.matches.Verb.TheVariants as verb
 use Rattle.rq_options.specs.declared.misuse.Misuse.{Misuse}
@@ -25,8 +26,10 @@ use Rattle.rq_words.specs.declared.jobs.Job.{Job}
 use Rattle.rq_words.specs.declared.jobs.ProtectJob.{ProtectJob}
 use Rattle.rq_words.specs.declared.jobs.CheckJob.{CheckJob}
 use Rattle.rq_words.specs.declared.jobs.RepairJob.{RepairJob}
-use Rattle.rq_words.specs.declared.jobs.Job.TheVariants.{Send, Receive, Follow, Info, Protect, Check, Repair as Mend}
-use Rattle.rq_words.specs.Values.{part_of, guarded_part_of, window_of, symbol_size_of, loss_of, repair_of, rounds_of, times_of, rate_of, id_of, share_of, name_of, timeout_of}
+use Rattle.rq_words.specs.declared.jobs.SplitJob.{SplitJob}
+use Rattle.rq_words.specs.declared.values.TheConstants.{WIDEST_WINDOW}
+use Rattle.rq_words.specs.declared.jobs.Job.TheVariants.{Send, Receive, Follow, Info, Protect, Check, Repair as Mend, Split, Join}
+use Rattle.rq_words.specs.Values.{part_of, guarded_part_of, window_of, symbol_size_of, loss_of, repair_of, rounds_of, times_of, rate_of, id_of, share_of, name_of, timeout_of, shards_of}
 
 -- What is asked for, or the kind of its refusal: the first one in the order in which the options are read.
 abbrev pub Asked : Type 0 → Type 0
@@ -287,6 +290,55 @@ pub record IsRepairOf (rows : List Row) (job : RepairJob) : Type 0 where
   pub guard : option_map (λ s. s.now) job.guard ≡ first_of (codes "guard") rows
   pub output : option_map (λ s. s.now) job.output ≡ first_of (codes "output") rows
 
+-- ---- shards
+
+-- how many are enough, and how many there are, not fewer
+unfoldable pub shares_asked : List Row → Asked Shares
+shares_asked rows = and_then (valued (shards_of 1 (text_or rows (codes "need") []))) (λ needed.
+    and_then (valued (shards_of needed (text_or rows (codes "of") []))) (λ all. Ok (record { needed = needed; all = all })))
+
+-- how many bytes a part has, and a symbol at most
+abbrev pub cut_asked : List Row → Asked (ℕ × ℕ)
+cut_asked rows = both (part_asked rows) (symbol_size_asked rows)
+
+-- how a file is split
+abbrev pub splitting_asked : List Row → Asked (Shares × (ℕ × ℕ))
+splitting_asked rows = both (shares_asked rows) (cut_asked rows)
+
+unfoldable pub folder_asked : List Row → Asked (List ℕ)
+folder_asked rows = file_by (first_of (codes "folder") rows)
+
+-- whose shards are joined, and what is told
+abbrev pub joined_asked : List Row → Asked (List ℕ × Telling)
+joined_asked rows = both (folder_asked rows) (telling_asked rows)
+
+unfoldable pub split_file_asked : List Row → Asked (List ℕ)
+split_file_asked rows = file_by (first_of (codes "file") rows)
+
+-- which file is split, into which folder, and what is told
+abbrev pub pair_asked : List Row → Asked (List ℕ × (List ℕ × Telling))
+pair_asked rows = both (split_file_asked rows) (joined_asked rows)
+
+-- how, and that
+abbrev pub split_asked : List Row → Asked ((Shares × (ℕ × ℕ)) × (List ℕ × (List ℕ × Telling)))
+split_asked rows = both (splitting_asked rows) (pair_asked rows)
+
+pub record IsSplitOf (rows : List Row) (job : SplitJob) : Type 0 where
+  pub asked_for : split_asked rows ≡ Ok ((job.shares, (job.part, job.symbol_size)), (job.file.now, (job.folder.now, job.telling)))
+  pub key : option_map (λ s. s.now) job.key ≡ first_of (codes "key") rows
+
+-- Any stream is received, by the widest window.
+pub record IsJoinOf (rows : List Row) (job : ReceiveJob) : Type 0 where
+  pub folder : List ℕ
+  pub asked_for : joined_asked rows ≡ Ok (folder, job.telling)
+  pub files : map (λ s. s.now) job.files.items ≡ folder ∷ []
+  pub any : job.name.items ≡ []
+  pub none_passed : map (λ v. v.items) job.passed.items ≡ []
+  pub window : job.window ≡ WIDEST_WINDOW
+  pub key : option_map (λ s. s.now) job.key ≡ first_of (codes "key") rows
+  pub output : option_map (λ s. s.now) job.output ≡ first_of (codes "output") rows
+  pub unkept : option_map (λ s. s.now) job.state ≡ None
+
 -- what `receive` asks for
 abbrev pub IsReceivedOf : List Row → Job → Type 0
 IsReceivedOf rows (Receive job) = IsReceiveOf rows job
@@ -307,6 +359,8 @@ AsksFor words (Info job) = (rows : List Row) × Uses words verb.Info rows × IsI
 AsksFor words (Protect job) = (rows : List Row) × Uses words verb.Protect rows × IsProtectOf rows job
 AsksFor words (Check job) = (rows : List Row) × Uses words verb.Check rows × IsCheckOf rows job
 AsksFor words (Mend job) = (rows : List Row) × Uses words verb.Repair rows × IsRepairOf rows job
+AsksFor words (Split job) = (rows : List Row) × Uses words verb.Split rows × IsSplitOf rows job
+AsksFor words (Join job) = (rows : List Row) × Uses words verb.Join rows × IsJoinOf rows job
 
 -- the ids of an order go on from one to the next
 abbrev pub StepsOn : Job → Type 0
@@ -319,6 +373,8 @@ HasParts (Send job) = 0 < job.order.part
 HasParts (Receive job) = 0 < job.window
 HasParts (Follow job) = 0 < job.window
 HasParts (Protect job) = 0 < job.part
+HasParts (Split job) = 0 < job.part
+HasParts (Join job) = 0 < job.window
 HasParts _ = ⊤
 
 -- a stream is sent in some rounds
@@ -341,6 +397,8 @@ misuses_behind verb.Info rows = kinds_of (telling_asked rows)
 misuses_behind verb.Protect rows = kinds_of (protect_asked rows)
 misuses_behind verb.Check rows = kinds_of (guarded_asked rows)
 misuses_behind verb.Repair rows = kinds_of (guarded_asked rows)
+misuses_behind verb.Split rows = kinds_of (split_asked rows)
+misuses_behind verb.Join rows = kinds_of (joined_asked rows)
 
 -- of the subcommand that is used, and that none is
 abbrev pub misuses_of : Option (Verb × List Row) → Kinds

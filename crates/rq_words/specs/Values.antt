@@ -30,6 +30,10 @@ guarded_part_of text = up_to 1006632928 text
 unfoldable pub window_of : List ℕ → Option ℕ
 window_of text = up_to 1024 text
 
+-- shards, not fewer than so many, and 255 at most
+unfoldable pub shards_of : ℕ → List ℕ → Option ℕ
+shards_of least text = option_and_then (λ n. if nat_le least n then Some n else None) (up_to 255 text)
+
 -- seconds of a day at most
 unfoldable pub timeout_of : List ℕ → Option ℕ
 timeout_of text = up_to 86400 text

@@ -1,6 +1,6 @@
 //! What the program can be asked to do.
 
-use rq_cast::{Order, Repair};
+use rq_cast::{Order, Repair, Shares};
 
 /// What is told of a run beside what went wrong.
 #[derive(Clone, Copy, Debug, Default, PartialEq, Eq)]
@@ -154,6 +154,25 @@ pub struct RepairJob<'a> {
     pub telling: Telling,
 }
 
+/// Which file is split into shards, and how.
+#[derive(Debug, PartialEq, Eq, Drop)]
+pub struct SplitJob<'a> {
+    /// How many bytes a part has: not 0.
+    pub part: u64,
+    /// How many bytes a symbol has at most.
+    pub symbol_size: u16,
+    /// How many shards are enough, and how many there are.
+    pub shares: Shares,
+    /// The file whose bytes are the key that its cells are made by, where there is one.
+    pub key: Option<&'a str>,
+    /// The file that is split.
+    pub file: &'a str,
+    /// The folder that its shards become.
+    pub folder: &'a str,
+    /// What is told.
+    pub telling: Telling,
+}
+
 /// What the program is asked to do.
 #[derive(Debug, PartialEq, Eq, Drop)]
 pub enum Job<'a> {
@@ -171,4 +190,8 @@ pub enum Job<'a> {
     Check(CheckJob<'a>),
     /// Mends a file by its guard.
     Repair(RepairJob<'a>),
+    /// Splits a file into shards.
+    Split(SplitJob<'a>),
+    /// Receives the file of a folder of shards.
+    Join(ReceiveJob<'a>),
 }

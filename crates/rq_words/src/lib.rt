@@ -5,11 +5,13 @@ mod guarding;
 mod jobs;
 mod numbers;
 mod receiving;
+mod splitting;
 mod values;
 mod words;
 
 pub use jobs::{
-    CheckJob, FollowJob, InfoJob, Job, ProtectJob, ReceiveJob, RepairJob, Rounds, SendJob, Telling,
+    CheckJob, FollowJob, InfoJob, Job, ProtectJob, ReceiveJob, RepairJob, Rounds, SendJob,
+    SplitJob, Telling,
 };
 pub use values::WIDEST_WINDOW;
 pub use words::job;

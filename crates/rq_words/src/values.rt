@@ -1,6 +1,6 @@
 //! What the values of options say.
 ghost use Rattle.std.specs.Prelude.{◌≡◌, ◌<◌, ◌≤◌, option_map, IfOk, IfSome};
-ghost use Rattle.rq_words.specs.Values.{up_to, part_of, guarded_part_of, window_of, symbol_size_of, percent_of, packets_of, loss_of, repair_of, rounds_of, times_of, rate_of, id_of, share_of, sized, is_refused, name_of, timeout_of};
+ghost use Rattle.rq_words.specs.Values.{up_to, part_of, guarded_part_of, window_of, symbol_size_of, percent_of, packets_of, loss_of, repair_of, rounds_of, times_of, rate_of, id_of, share_of, sized, is_refused, name_of, timeout_of, shards_of};
 
 use crate::jobs::Rounds;
 use crate::numbers::{count, scaled};
@@ -17,6 +17,9 @@ const LONGEST_GUARDED_PART: u64 = 1_006_632_928;
 
 /// How many parts a window has at most.
 pub const WIDEST_WINDOW: u32 = 1024;
+
+// How many shards there are at most.
+const MOST_SHARDS: u64 = 255;
 
 // How many seconds a stream may be silent at most: a day.
 const LONGEST_TIMEOUT: u64 = 86_400;
@@ -73,6 +76,17 @@ pub(crate) fn window(text: &str) -> Option<u32>
     ensures some { IfSome result (λ parts. 0 < parts) }
 {
     Some(up_to(u64::from(WIDEST_WINDOW), text)? as u32)
+}
+
+/// How many shards a text says, not fewer than so many, up to 255.
+#[tactic(auto, using(std::proofs::lemmas::Bool::Decides::nat_tests), unfolding(crate::specs::Values::shards_of))]
+pub(crate) fn shards(least: u8, text: &str) -> Option<u8>
+    ensures { result ≡ shards_of least text.now }
+{
+    match up_to(MOST_SHARDS, text) {
+        Some(n) if n >= u64::from(least) => Some(n as u8),
+        _ => None,
+    }
 }
 
 /// How many seconds a text says, up to those of a day.

@@ -8,6 +8,7 @@ ghost use Rattle.rq_options.specs.Options.{misuse_kind};
 use crate::guarding::{check_job, protect_job, repair_job};
 use crate::jobs::{InfoJob, Job, Rounds, SendJob, Telling};
 use crate::receiving::receive_job;
+use crate::splitting::{join_job, split_job};
 use crate::values;
 use clap::error::ErrorKind;
 use clap::{ArgMatches, Error};
@@ -23,7 +24,7 @@ const USUAL_LOSS: &str = "5";
 
 // How many bytes a part has.
 #[tactic(auto, unfolding(crate::specs::Asked::part_asked))]
-fn part_of<'a>(matches: &ArgMatches<'a>) -> Result<u64, Misuse<'a>>
+pub(crate) fn part_of<'a>(matches: &ArgMatches<'a>) -> Result<u64, Misuse<'a>>
     ensures value { asked result ≡ part_asked (rows_of (found_of matches.now)) }
     ensures some { IfOk result (λ bytes. 0 < bytes) }
 {
@@ -37,7 +38,7 @@ fn part_of<'a>(matches: &ArgMatches<'a>) -> Result<u64, Misuse<'a>>
 
 // How many bytes a symbol has at most.
 #[tactic(auto, unfolding(crate::specs::Asked::symbol_size_asked))]
-fn symbol_size_of<'a>(matches: &ArgMatches<'a>) -> Result<u16, Misuse<'a>>
+pub(crate) fn symbol_size_of<'a>(matches: &ArgMatches<'a>) -> Result<u16, Misuse<'a>>
     ensures { asked result ≡ symbol_size_asked (rows_of (found_of matches.now)) }
 {
     let text = text_or(matches, "cell", "");
@@ -298,6 +299,7 @@ fn info_job<'a>(alloc: Global, matches: &ArgMatches<'a>) -> Result<InfoJob<'a>, 
 /// `--loss` beside `--repair` stands for theirs, `--rounds` of more than 1 without a file for its, and so do `--follow`
 /// without `--output` or beside `--name` or `--state`, and `--timeout` without `--follow`; and two of `--quiet`, `--progress` and
 /// `--json`. Of `protect` it is `--part`, `--repair`, `--output` where it names the guarded file, and two of these flags.
+/// Of `split` it is `--need`, `--of`, `--part`, `--cell`, and two of them.
 /// [`ErrorKind::OutOfMemory`](clap::error::ErrorKind) may come before any of them.
 pub fn job<'a, S: AsStr>(alloc: Global, words: &'a [S]) -> Result<Job<'a>, Error>
     ensures job { IfOk result (AsksFor (map S.text words.entry.now)) }
@@ -314,6 +316,8 @@ pub fn job<'a, S: AsStr>(alloc: Global, words: &'a [S]) -> Result<Job<'a>, Error
         Some((Verb::Protect, behind)) => Ok(Job::Protect(protect_job(alloc, behind)?)),
         Some((Verb::Check, behind)) => Ok(Job::Check(check_job(alloc, behind)?)),
         Some((Verb::Repair, behind)) => Ok(Job::Repair(repair_job(alloc, behind)?)),
+        Some((Verb::Split, behind)) => Ok(Job::Split(split_job(alloc, behind)?)),
+        Some((Verb::Join, behind)) => Ok(Job::Join(join_job(alloc, behind)?)),
         // There are no others, and one is required.
         None => Err(no_subcommand(alloc)),
     }

@@ -3,15 +3,21 @@
 use crate::keeping::{node_at, node_of};
 use crate::system::System;
 use rq_cells::STREAM_LENGTH;
+use std::alloc::AllocError;
 use std::fmt::Write;
-use std::fs::{File, Permissions, TryLockError};
+use std::fs::{File, OpenOptions, Permissions, TryLockError};
 use std::io::ErrorKind;
-use std::os::unix::fs::PermissionsExt;
+use std::os::unix::fs::{OpenOptionsExt, PermissionsExt};
 use std::path::PathBuf;
 use std::{fs, io};
 
 // Who may read, write and run a file. The bits above lend the rights of its owner, and not to what others sent.
 const RIGHTS: u32 = 0o777;
+
+// Those of a new file, before umask, and those until it has another's.
+const NEW: u32 = 0o666;
+
+const OWN: u32 = 0o600;
 
 /// A file that isn't in its place yet.
 #[derive(Drop)]
@@ -23,8 +29,8 @@ pub struct Aside<'c, 'w> {
     path: &'w str,
 }
 
-// The file that a link leads to. The path itself, where it is no link, or one that leads nowhere.
-fn place_of(rt: &HostRuntime, path: &str) -> io::Result<PathBuf> {
+/// The file that a link leads to. The path itself, where it is no link, or one that leads nowhere.
+pub fn place_of(rt: &HostRuntime, path: &str) -> io::Result<PathBuf> {
     match fs::symlink_metadata(rt, path) {
         Ok(metadata) if metadata.is_symlink() => match fs::canonicalize(rt, path) {
             Err(error) if error.kind() == ErrorKind::NotFound => {}
@@ -35,21 +41,31 @@ fn place_of(rt: &HostRuntime, path: &str) -> io::Result<PathBuf> {
     Ok(PathBuf::from_str(rt.alloc(), path)?)
 }
 
+/// Where a file is written that is put in a place when it is whole.
+pub fn beside_of(rt: &HostRuntime, place: &PathBuf) -> Result<String, AllocError> {
+    let alloc = rt.alloc();
+    format!(in alloc; "{}.rqcast", place.display())
+}
+
+/// Where one is written that is put in a folder.
+pub fn inside_of(rt: &HostRuntime, folder: &str) -> Result<String, AllocError> {
+    let alloc = rt.alloc();
+    format!(in alloc; "{folder}/receiving.rqcast")
+}
+
 // The path beside a place, which is known as long as the words of the line are.
 fn path_beside<'w>(system: System<'_, 'w>, place: &PathBuf) -> io::Result<&'w str> {
-    let alloc = system.rt.alloc();
     let path = system
         .beside
-        .get_or_try_init(|| format!(in alloc; "{}.rqcast", place.display()))?;
+        .get_or_try_init(|| beside_of(system.rt, place))?;
     Ok(path.as_str())
 }
 
 // The path in a folder of what isn't whole yet, which is known as long as the words of the line are.
 fn path_inside<'w>(system: System<'_, 'w>, folder: &str) -> io::Result<&'w str> {
-    let alloc = system.rt.alloc();
     let path = system
         .beside
-        .get_or_try_init(|| format!(in alloc; "{folder}/receiving.rqcast"))?;
+        .get_or_try_init(|| inside_of(system.rt, folder))?;
     Ok(path.as_str())
 }
 
@@ -88,10 +104,12 @@ fn remove_left(rt: &HostRuntime, path: &str) -> io::Result<()> {
     fs::remove_file(rt, path)
 }
 
-// Makes a file, in place of what a run left there that was killed.
-fn create_anew(rt: &HostRuntime, path: &str) -> io::Result<File> {
+// Makes a file with these rights, in place of what a run left there that was killed.
+fn create_anew(rt: &HostRuntime, path: &str, rights: u32) -> io::Result<File> {
     remove_left(rt, path)?;
-    let file = File::create_new(rt, path)?;
+    let mut options = OpenOptions::new();
+    options.read(true).write(true).create_new(true).mode(rights);
+    let file = options.open(rt, path)?;
     // Where a file can't be locked, other runs don't see that it is taken. One that was as fast may lock it for a
     // moment, and take it away.
     let _ = file.lock();
@@ -102,7 +120,7 @@ fn create_anew(rt: &HostRuntime, path: &str) -> io::Result<File> {
 }
 
 impl<'c, 'w> Aside<'c, 'w> {
-    /// Begins a file beside its place, with these rights, where one with them is there.
+    /// Begins a file beside its place, with these rights, or those that umask leaves.
     pub fn create(
         system: System<'c, 'w>,
         path: &'w str,
@@ -110,7 +128,8 @@ impl<'c, 'w> Aside<'c, 'w> {
     ) -> io::Result<Aside<'c, 'w>> {
         let place = system.noted("opening", path, place_of(system.rt, path))?;
         let path = system.noted("opening", path, path_beside(system, &place))?;
-        let file = system.noted("opening", path, create_anew(system.rt, path))?;
+        let first = if rights.is_some() { OWN } else { NEW };
+        let file = system.noted("opening", path, create_anew(system.rt, path, first))?;
         let aside = Aside {
             system,
             file,
@@ -130,7 +149,7 @@ impl<'c, 'w> Aside<'c, 'w> {
     pub fn create_in(system: System<'c, 'w>, folder: &'w str) -> io::Result<Aside<'c, 'w>> {
         let path = system.noted("opening", folder, path_inside(system, folder))?;
         let place = PathBuf::from_str(system.rt.alloc(), path)?;
-        let file = system.noted("opening", path, create_anew(system.rt, path))?;
+        let file = system.noted("opening", path, create_anew(system.rt, path, NEW))?;
         Ok(Aside {
             system,
             file,
@@ -164,6 +183,10 @@ impl<'c, 'w> Aside<'c, 'w> {
     // Puts it in its place.
     fn put(&self) -> io::Result<()> {
         let (system, path) = (self.system, self.path);
+        // Where a file's time can't be set it counts as changed later.
+        if let Some(time) = system.mended_time() {
+            let _ = self.file.set_modified(time);
+        }
         system.noted("writing to", path, self.file.sync_all())?;
         let renamed = fs::rename(system.rt, path, self.place.as_path());
         system.noted("renaming", path, renamed)

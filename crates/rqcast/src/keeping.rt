@@ -11,9 +11,6 @@ use std::{fs, io};
 // Who may read and write a new file: what others sent is its owner's alone.
 const RIGHTS: u32 = 0o600;
 
-// What standard input is, where the system says so.
-const INPUT: &str = "/dev/stdin";
-
 /// Which file it is, whatever its path.
 pub type Node = (u64, u64);
 
@@ -67,18 +64,6 @@ impl<'c, 'w> Keeping<'c, 'w> {
             path,
             is_read: false,
         })
-    }
-
-    /// Refuses what is read where it is this file: else it would never end.
-    pub fn check_input(&self, path: Option<&'w str>) -> io::Result<()> {
-        let place = path.unwrap_or(INPUT);
-        let node = node_at(self.system.rt, place);
-        if node.is_none() || node != self.system.kept.get() {
-            return Ok(());
-        }
-        let refused = Err(io::Error::from(ErrorKind::InvalidInput));
-        self.system
-            .noted("reading", path.unwrap_or("standard input"), refused)
     }
 
     /// Reads what earlier runs kept: none where all of it is read.

@@ -2,6 +2,7 @@
 ghost use Rattle.std.specs.Io.{ReadsAtMost};
 
 use crate::keeping::Keeping;
+use crate::shelf::Shelf;
 use crate::system::System;
 use std::fs::File;
 use std::io::{ErrorKind, Read};
@@ -15,6 +16,8 @@ pub struct Source<'c, 'w> {
     // How many of them were opened, the last of which is read.
     opened: usize,
     file: Option<File>,
+    // The shards in its place, where it is a folder of some.
+    shelf: Option<Shelf<'c, 'w>>,
     keeping: Option<Keeping<'c, 'w>>,
 }
 
@@ -26,6 +29,7 @@ impl<'c, 'w> Source<'c, 'w> {
             files,
             opened: 0,
             file: None,
+            shelf: None,
             keeping: None,
         };
         source.open_next()?;
@@ -39,12 +43,6 @@ impl<'c, 'w> Source<'c, 'w> {
         files: Vec<&'w str>,
     ) -> io::Result<Source<'c, 'w>> {
         let keeping = Keeping::open(system, state)?;
-        if files.is_empty() {
-            keeping.check_input(None)?;
-        }
-        for path in &files {
-            keeping.check_input(Some(*path))?;
-        }
         let mut source = Source::open(system, files)?;
         source.keeping = Some(keeping);
         Ok(source)
@@ -63,6 +61,7 @@ impl<'c, 'w> Source<'c, 'w> {
                     files,
                     opened: 1,
                     file: None,
+                    shelf: None,
                     keeping: None,
                 };
                 Ok((nothing, false))
@@ -86,10 +85,16 @@ impl<'c, 'w> Source<'c, 'w> {
     // Opens the next file, where there is one.
     fn open_next(&mut self) -> io::Result<()> {
         self.file = None;
+        self.shelf = None;
         let Some(path) = self.files.get(self.opened).copied() else {
             return Ok(());
         };
         self.opened += 1;
+        let metadata = fs::metadata(self.system.rt, path);
+        let is_folder = matches!(metadata, Ok(metadata) if metadata.is_dir());
+        if is_folder && self.system.may_have_shards(path) {
+            self.shelf = Shelf::open(self.system, path)?;
+        }
         let opened = File::open(self.system.rt, path);
         self.file = Some(self.system.noted("opening", path, opened)?);
         Ok(())
@@ -99,6 +104,9 @@ impl<'c, 'w> Source<'c, 'w> {
     fn read_open(&mut self, buf: &mut [u8]) -> io::Result<usize>
         ensures { ReadsAtMost result buf.new }
     {
+        if let Some(shelf) = &mut self.shelf {
+            return shelf.read(buf);
+        }
         let result = match &mut self.file {
             Some(file) => file.read(buf),
             None if self.files.is_empty() => self.system.rt.stdin().read(buf),

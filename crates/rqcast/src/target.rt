@@ -1,6 +1,7 @@
 //! Standard output, or a file that is written beside its place.
 
 use crate::aside::Aside;
+use crate::shards::Shards;
 use crate::system::System;
 use rq_cast::loses;
 use rq_cells::STREAM_LENGTH;
@@ -14,6 +15,7 @@ enum Sink<'c, 'w> {
     Output,
     Device(File, &'w str),
     Aside(Aside<'c, 'w>),
+    Shards(Shards<'c, 'w>),
 }
 
 /// What is written.
@@ -36,7 +38,7 @@ fn open_file<'c, 'w>(system: System<'c, 'w>, path: &'w str) -> io::Result<Sink<'
             let device = system.noted("opening", path, opened)?;
             return Ok(Sink::Device(device, path));
         }
-        Err(_) => None,
+        Err(_) => system.rights(),
     };
     Ok(Sink::Aside(Aside::create(system, path, rights)?))
 }
@@ -58,12 +60,25 @@ impl<'c, 'w> Target<'c, 'w> {
         Ok(Target { system, sink })
     }
 
+    /// Writes cells into so many shards of a file, beside their folder.
+    pub fn create_shards(
+        system: System<'c, 'w>,
+        folder: &'w str,
+        file: &'w str,
+        count: u8,
+    ) -> io::Result<Target<'c, 'w>> {
+        let shards = Shards::create(system, folder, file, count)?;
+        let sink = Sink::Shards(shards);
+        Ok(Target { system, sink })
+    }
+
     // What is written now, as a failed call names it.
     fn place(&self) -> &'w str {
         match &self.sink {
             Sink::Output => "standard output",
             Sink::Device(_, path) => path,
             Sink::Aside(aside) => aside.path(),
+            Sink::Shards(shards) => shards.path(),
         }
     }
 
@@ -71,6 +86,7 @@ impl<'c, 'w> Target<'c, 'w> {
     pub fn finish(self, is_whole: bool) -> io::Result<()> {
         match self.sink {
             Sink::Aside(aside) => aside.finish(is_whole),
+            Sink::Shards(shards) => shards.finish(is_whole),
             Sink::Output | Sink::Device(..) => Ok(()),
         }
     }
@@ -91,6 +107,7 @@ impl Write for Target<'_, '_> {
             Sink::Output => self.system.rt.stdout().write(buf),
             Sink::Device(file, _) => file.write(buf),
             Sink::Aside(aside) => aside.file().write(buf),
+            Sink::Shards(shards) => shards.write(buf),
         };
         // That a network loses a datagram is no fault of the run.
         if matches!(&result, Err(error) if loses(error)) {
@@ -104,6 +121,7 @@ impl Write for Target<'_, '_> {
             Sink::Output => self.system.rt.stdout().flush(),
             Sink::Device(file, _) => file.flush(),
             Sink::Aside(aside) => aside.file().flush(),
+            Sink::Shards(shards) => shards.flush(),
         };
         self.system.noted("writing to", self.place(), result)
     }

@@ -101,8 +101,13 @@ impl<'w, 'a> Devices<'w> for Memory<'a> {
         self.open(files)
     }
 
-    fn guard_of(&mut self, file: &'w str) -> Result<&'w str, Stop> {
-        Ok(file)
+    // No row makes a guard.
+    fn guard_of(&mut self, _file: &'w str) -> Result<&'w str, Stop> {
+        Err(Stop::Fault)
+    }
+
+    fn is_newer(&self, _file: &'w str, _said: Option<&'w str>) -> bool {
+        false
     }
 
     fn length(&self, reader: &Bytes<'a>) -> Option<u64> {
@@ -131,6 +136,15 @@ impl<'w, 'a> Devices<'w> for Memory<'a> {
     }
 
     fn create_in(&mut self, _folder: &'w str) -> Result<Written, Stop> {
+        self.create(None)
+    }
+
+    fn create_shards(
+        &mut self,
+        _folder: &'w str,
+        _file: &'w str,
+        _shards: u8,
+    ) -> Result<Written, Stop> {
         self.create(None)
     }
 

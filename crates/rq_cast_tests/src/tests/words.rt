@@ -164,6 +164,8 @@ fn names_key(alloc: Global, line: &str, key: Option<&str>) -> Result<bool, Alloc
         Ok(Job::Protect(job)) => Ok(job.key == key),
         Ok(Job::Check(job)) => Ok(job.key == key),
         Ok(Job::Repair(job)) => Ok(job.key == key),
+        Ok(Job::Split(job)) => Ok(job.key == key),
+        Ok(Job::Join(job)) => Ok(job.key == key),
         Err(_) => Ok(false),
     }
 }
@@ -180,6 +182,8 @@ fn keys_are_named(rt: HostRuntime) {
         ("protect -k FILE A", Some("FILE")),
         ("check A GUARD", None),
         ("repair A --key FILE -o B", Some("FILE")),
+        ("split A -k FILE FOLDER", Some("FILE")),
+        ("join FOLDER --key=FILE", Some("FILE")),
     ] {
         let is_named = names_key(rt.alloc(), line, key).expect(&rt, "memory");
         assert!(rt; is_named, "{line}");

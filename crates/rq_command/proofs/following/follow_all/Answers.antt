@@ -110,4 +110,5 @@ streams-preserved g c =
       fails = failed_then (g.D.Devices.failed c.args.devices.now) (g.D.Devices.failed c.streams.devices) (g.D.Devices.failed c.follow_one-ended.new.devices) 0 fails.0 0
           c.streams.invariant.fails fails.1 (omega (arith, none));
       kept = c.follow_one-ended.ensures.kept ∙ c.streams.invariant.kept;
+      earlier = c.follow_one-ended.ensures.earlier ∙ c.streams.invariant.earlier;
     }

@@ -14,4 +14,5 @@ invariant-streams g l = record {
   none : failed_count (counted_of l.input) ≡ 0;
   fails : Fails (g.D.Devices.failed l.fn.devices) (g.D.Devices.failed l.devices) 0;
   kept : g.D.Devices.placed l.devices ≡ g.D.Devices.placed l.fn.devices;
+  earlier : g.D.Devices.earlier l.devices ≡ g.D.Devices.earlier l.fn.devices;
 }

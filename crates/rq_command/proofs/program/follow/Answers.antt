@@ -24,6 +24,7 @@ returns-clause-does g c =
           (g.D.Devices.filed c.open.new.self) (g.D.Devices.filed c.follow_all-last.new.devices) (subst (IsKeyRead file) c.in-Some.is c.in_ok-key.ensures.key)
           c.in_ok-table.ensures read (c.open.ensures.filed ∙ c.key_of.ensures.filed) c.follow_all-last.ensures.all,
       c.follow_all-last.ensures.kept ∙ c.open.ensures.kept ∙ c.key_of.ensures.kept,
+      c.follow_all-last.ensures.earlier ∙ c.open.ensures.earlier ∙ c.key_of.ensures.earlier,
     )
 
 pub returns-clause-failures : goal.returns-clause-failures

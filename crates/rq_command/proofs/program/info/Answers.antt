@@ -35,4 +35,6 @@ returns-clause-does g c =
             (rw c.as_slice-bytes.ensures.value at c.in_ok-standings.ensures.survey),
       ),
       c.read_whole.ensures.filed ∙ c.open.ensures.filed ∙ c.key_of.ensures.filed,
+      c.read_whole.ensures.earlier ∙ c.open.ensures.earlier ∙ c.key_of.ensures.earlier,
+      c.read_whole.ensures.stays ∙ c.open.ensures.stays ∙ c.key_of.ensures.stays,
     )

@@ -76,7 +76,9 @@ module _ (g : Over) (c : After-finish-finished g) where
   placed = g.D.Devices.placed c.finish-finished.new.self
 
   abbrev around : Outside
-  around = outside (g.D.Devices.terminal c.args.devices.now) told told' a z (g.D.Devices.earlier c.args.devices.now) (g.D.Devices.earlier c.finish-finished.new.self)
+  around =
+      outside (g.D.Devices.terminal c.args.devices.now) told told' a z (g.D.Devices.earlier c.args.devices.now) (g.D.Devices.earlier c.finish-finished.new.self)
+      (g.D.Devices.stands c.finish-finished.new.self)
 
   keyed : IsKeyOf file c.in-Some.key
   keyed = subst (λ r. IsKeyRead file (option_map (λ o. o.0) r)) c.in-Some.is c.in_ok-key.ensures.key

@@ -44,6 +44,7 @@ loop-round-init g c = record {
   stays = c.in-Ok.ensures.stays;
   kept = c.in-Ok.ensures.kept;
   filed = c.in-Ok.ensures.filed;
+  earlier = c.in-Ok.ensures.earlier;
 }
 
 -- there is no cell
@@ -75,6 +76,9 @@ returns-in-Err-open_files-clause-kept g c = c.in-Err-open_files.ensures.kept ∙
 
 pub returns-in-Err-open_files-clause-filed : goal.returns-in-Err-open_files-clause-filed
 returns-in-Err-open_files-clause-filed g c = c.in-Err-open_files.ensures.filed ∙ c.loop-round.invariant.filed
+
+pub returns-in-Err-open_files-clause-earlier : goal.returns-in-Err-open_files-clause-earlier
+returns-in-Err-open_files-clause-earlier g c = c.in-Err-open_files.ensures.earlier ∙ c.loop-round.invariant.earlier
 
 pub send_round-requires-in-loop-round : goal.send_round-requires-in-loop-round
 send_round-requires-in-loop-round g c κs =
@@ -124,6 +128,10 @@ pub returns-in-Err-send_round-clause-filed : goal.returns-in-Err-send_round-clau
 returns-in-Err-send_round-clause-filed g c =
     c.in-Err-send_round.ensures.filed ∙ c.in-Ok-open_files.ensures.filed ∙ c.loop-round.invariant.filed
 
+pub returns-in-Err-send_round-clause-earlier : goal.returns-in-Err-send_round-clause-earlier
+returns-in-Err-send_round-clause-earlier g c =
+    c.in-Err-send_round.ensures.earlier ∙ c.in-Ok-open_files.ensures.earlier ∙ c.loop-round.invariant.earlier
+
 pub loop-round-preserved : goal.loop-round-preserved
 loop-round-preserved g c =
     let contents = g.D.Writer.Write.contents in
@@ -152,6 +160,7 @@ loop-round-preserved g c =
       stays = c.in-Ok-send_round.ensures.stays ∙ c.in-Ok-open_files.ensures.stays ∙ c.loop-round.invariant.stays;
       kept = c.in-Ok-send_round.ensures.kept ∙ c.in-Ok-open_files.ensures.kept ∙ c.loop-round.invariant.kept;
       filed = c.in-Ok-send_round.ensures.filed ∙ c.in-Ok-open_files.ensures.filed ∙ c.loop-round.invariant.filed;
+      earlier = c.in-Ok-send_round.ensures.earlier ∙ c.in-Ok-open_files.ensures.earlier ∙ c.loop-round.invariant.earlier;
     }
 
 -- ---- all of them
@@ -173,3 +182,6 @@ returns-clause-kept g c = c.loop-round.invariant.kept
 
 pub returns-clause-filed : goal.returns-clause-filed
 returns-clause-filed g c = c.loop-round.invariant.filed
+
+pub returns-clause-earlier : goal.returns-clause-earlier
+returns-clause-earlier g c = c.loop-round.invariant.earlier

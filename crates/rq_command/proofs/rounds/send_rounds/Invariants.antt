@@ -11,4 +11,5 @@ invariant-loop-round g l = record {
   stays : g.D.Devices.stands l.devices ≡ g.D.Devices.stands l.fn.devices;
   kept : g.D.Devices.placed l.devices ≡ g.D.Devices.placed l.fn.devices;
   filed : g.D.Devices.filed l.devices ≡ g.D.Devices.filed l.fn.devices;
+  earlier : g.D.Devices.earlier l.devices ≡ g.D.Devices.earlier l.fn.devices;
 }

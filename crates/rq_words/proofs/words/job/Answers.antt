@@ -64,6 +64,22 @@ returns-in_err-repair_job-in-Some-Repair-default-clause-refused g c =
     (Some (verb.Repair, rows_of (found_of c.in-Some-Repair-default.behind.now))) c.in_ok-matches.ensures.fails
     ((rw c.in-Some-Repair-default.field-0-0-is at c.in-Some-Repair-default.ensures) ∙ c.in_ok-matches.ensures.used) c.in_err-repair_job-in-Some-Repair-default.ensures.fails)
 
+pub returns-in_err-split_job-in-Some-Split-default-clause-refused : goal.returns-in_err-split_job-in-Some-Split-default-clause-refused
+returns-in_err-split_job-in-Some-Split-default-clause-refused g c =
+    let p = err_from_is_err_and c.from_residual-in_err-split_job-in-Some-Split-default.result c.from_residual-in_err-split_job-in-Some-Split-default.ensures.1 in
+    rw (p.1, p.2)
+    (refused_then (map g.S.AsStr.text c.args.words.now) (kind_of c.in_err-split_job-in-Some-Split-default.field-0.0)
+    (Some (verb.Split, rows_of (found_of c.in-Some-Split-default.behind.now))) c.in_ok-matches.ensures.fails
+    ((rw c.in-Some-Split-default.field-0-0-is at c.in-Some-Split-default.ensures) ∙ c.in_ok-matches.ensures.used) c.in_err-split_job-in-Some-Split-default.ensures.fails)
+
+pub returns-in_err-join_job-in-Some-Join-default-clause-refused : goal.returns-in_err-join_job-in-Some-Join-default-clause-refused
+returns-in_err-join_job-in-Some-Join-default-clause-refused g c =
+    let p = err_from_is_err_and c.from_residual-in_err-join_job-in-Some-Join-default.result c.from_residual-in_err-join_job-in-Some-Join-default.ensures.1 in
+    rw (p.1, p.2)
+    (refused_then (map g.S.AsStr.text c.args.words.now) (kind_of c.in_err-join_job-in-Some-Join-default.field-0.0)
+    (Some (verb.Join, rows_of (found_of c.in-Some-Join-default.behind.now))) c.in_ok-matches.ensures.fails
+    ((rw c.in-Some-Join-default.field-0-0-is at c.in-Some-Join-default.ensures) ∙ c.in_ok-matches.ensures.used) c.in_err-join_job-in-Some-Join-default.ensures.fails)
+
 pub returns-clause-refused : goal.returns-clause-refused
 returns-clause-refused g c =
     refused_then (map g.S.AsStr.text c.args.words.now) (kind_of c.no_subcommand.result) None c.in_ok-matches.ensures.fails

@@ -24,6 +24,7 @@ parts-init g c =
       stays = refl;
       kept = refl;
       filed = refl;
+      earlier = refl;
     }
 
 pub returns-in_err-guard-clause-counts : goal.returns-in_err-guard-clause-counts
@@ -104,6 +105,7 @@ parts-preserved g c =
       stays = c.count.ensures.stays ∙ c.in_ok-guard.ensures.stays ∙ now.stays;
       kept = c.count.ensures.kept ∙ c.in_ok-guard.ensures.kept ∙ now.kept;
       filed = c.count.ensures.filed ∙ c.in_ok-guard.ensures.filed ∙ now.filed;
+      earlier = c.count.ensures.earlier ∙ c.in_ok-guard.ensures.earlier ∙ now.earlier;
     }
 
 pub returns-clause-repairs : goal.returns-clause-repairs

@@ -17,6 +17,7 @@ invariant-parts g l = record {
   stays : g.D.Devices.stands l.devices ≡ g.D.Devices.stands l.fn.devices;
   kept : g.D.Devices.placed l.devices ≡ g.D.Devices.placed l.fn.devices;
   filed : g.D.Devices.filed l.devices ≡ g.D.Devices.filed l.fn.devices;
+  earlier : g.D.Devices.earlier l.devices ≡ g.D.Devices.earlier l.fn.devices;
 }
 
 abbrev pub decreases-parts : goal.decreases-parts

@@ -1,0 +1,2 @@
+mod CellIds
+mod CountedCells
