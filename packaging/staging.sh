@@ -78,7 +78,7 @@ TEXT
 }
 
 # The scripts of examples/ over the programs.
-readonly SCRIPTS=(carousel diode many relay shards)
+readonly SCRIPTS=(carousel diode many relay)
 # The pages for users, which stand in packages as they do here, so that their links to each other hold.
 readonly PAGES=(README.md docs/SEND.md docs/C.md docs/CELLS.md)
 
