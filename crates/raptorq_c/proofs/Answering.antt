@@ -1,17 +1,6 @@
 -- What calls answer, by what the coders say.
-use Rattle.raptorq_c.proofs.Names.{◌≡◌, ◌≢◌, ◌⊎◌, ◌<◌, ℕ, List, length, Option, Some, None, Result, Ok, Err, refl, sym, ap, ◌∙◌, subst, arith, inl, inr, IfOk, OnErr, MatchOption, MatchResult, Error, code_of, and_then, IsAnswer, Configuration, TableRow, Packet, frame_size, frames_in, read_packet, block_refusal}
-use Rattle.raptorq_c.proofs.Names.{state_of, KeptBlock, AnswersHere, AnswersOpen, RefusesAnswer, TakesHere, TakesInTurn, packet_refusal, IsRunRefusal, AnswersRun, Decoder, CallEnd, IsPartOf, number_of, refusal_number, IsNumber, Answered, IsDecoded, frames_refusal, packets_in}
-use Rattle.std.specs.Prelude.{IfErr, IfSome}
-use Rattle.rq_bytes.specs.Refusals.{IsRefusal}
-use Rattle.rq_standard.specs.DecoderState.{State, result_of}
-use Rattle.rq_standard.specs.Following.{IsAnswerAfter}
-use Rattle.rq_standard.specs.Headline.{AnswersExactly, AnswersWhereAnyCan}
-use Rattle.raptorq.specs.TakesPacket.{TakesPacket}
-use Rattle.raptorq.proofs.AnsweredParts.{long_answers, result_long}
-use Rattle.raptorq.proofs.InTurn.{turns_take}
-use Rattle.raptorq_c.specs.Decoders.{FillsWithBlock, FillsWithResult}
-use Rattle.raptorq_c.specs.Frames.{IsAddedBy, IsTakenNumber, StaysUnread, TakesRead}
-use Rattle.raptorq_c.specs.ObjectBuffers.{FillsWithObject, IsFilled, IsRefused, IsDecodingRefusal}
+use Rattle.raptorq_c.proofs.Names.{◌≡◌, ◌≢◌, ◌<◌, ℕ, List, Option, Some, None, Result, Ok, Err, refl, sym, ap, ◌∙◌, subst, arith, inl, inr, length, OnErr, MatchResult, IfSome, code_of, Error, Configuration, State, result_of, IsAnswerAfter, AnswersExactly, AnswersWhereAnyCan, frame_size, frames_in, TableRow, long_answers, result_long}
+use Rattle.raptorq_c.proofs.Names.{state_of, IsRunRefusal, AnswersRun, Decoder, IsPartOf, FillsWithBlock, FillsWithResult, number_of, IsNumber, Answered, IsDecoded, frames_refusal, packets_in, FillsWithObject, IsFilled, IsRefused, IsDecodingRefusal, CallEnd}
 use Rattle.raptorq_c.proofs.Ending.{code_positive, code_no_call, is_stopped}
 
 -- a buffer is filled with an answer, of which P
@@ -60,74 +49,6 @@ fills_block s block part ended before after known is number answered kept = reco
   answered = answered_by (IsPartOf s block) part (number_of ended) before after is answered;
   kept = is_stopped ended (after ≡ before) kept;
 }
-
--- ---- the bytes of a packet
-
-module _ {D : Type 0} (refusal : Packet → Result (Unit {0}) Error) (Takes : D → Packet → Result (Unit {0}) Error → D → Type 0) where
-  -- bytes that aren't read leave a decoder as it was
-  unread_number : (e : Error) (read : Result Packet Error) → IsRefusal e read → IsTakenNumber (code_of e) (and_then {Y = Unit {0}} read refusal)
-  unread_number e (Ok p) memory = inl (inr (ap code_of memory))
-  unread_number e (Err w) same = inl (inl (ap code_of same))
-
-  unread_packet : (d : D) (e : Error) (read : Result Packet Error) → IsRefusal e read → IfOk read (λ p. StaysUnread d (code_of e) d ⊎ TakesRead Takes d p (code_of e) d)
-  unread_packet d e (Ok p) memory = inl (ap code_of memory, refl)
-  unread_packet d e (Err w) same = tt
-
-  unread_short : (d : D) (e : Error) (read : Result Packet Error) → IsRefusal e read → IfErr read (λ w. (code_of e ≡ code_of w) × (d ≡ d))
-  unread_short d e (Ok p) memory = tt
-  unread_short d e (Err w) same = (ap code_of same, refl)
-
-  pub unread_bytes : (d : D) (bytes : List ℕ) (e : Error) → IsRefusal e (read_packet bytes) → IsAddedBy refusal Takes d bytes (code_of e) d
-  unread_bytes d bytes e refused = record {
-    refused = unread_number e (read_packet bytes) refused;
-    short = unread_short d e (read_packet bytes) refused;
-    takes = unread_packet d e (read_packet bytes) refused;
-  }
-
-  -- what a decoder does with the packet that bytes spell
-  pub taken_bytes : (old new : D) (bytes : List ℕ) (p : Packet) (r : Result (Unit {0}) Error) → read_packet bytes ≡ Ok p → IsTakenNumber (refusal_number r) (refusal p) → Takes old p r new
-      → IsAddedBy refusal Takes old bytes (refusal_number r) new
-  taken_bytes old new bytes p r read number takes =
-      let n = refusal_number r in
-      let wanted : Result Packet Error → Result (Unit {0}) Error = λ found. and_then {Y = Unit {0}} found refusal in
-      record {
-        refused = subst (λ found. IsTakenNumber n (wanted found)) (sym read) number;
-        short = subst (λ found. IfErr found (λ e. (n ≡ code_of e) × (new ≡ old))) (sym read) tt;
-        takes = subst (λ found. IfOk found (λ q. StaysUnread old n new ⊎ TakesRead Takes old q n new)) (sym read) (inr (record { result = r; number = refl; takes = takes }));
-      }
-
--- the number of what a decoder of an object answers
-taken_number : (old new : State) (p : Packet) (r : Result (Unit {0}) Error) → TakesPacket old p r new → IsTakenNumber (refusal_number r) (packet_refusal old.configuration p)
-taken_number old new p (Ok x) takes = inl (inl (sym (ap refusal_number takes.0)))
-taken_number old new p (Err e) (inl tested) = inl (inl (sym (ap refusal_number tested.0)))
-taken_number old new p (Err e) (inr (inl memory)) = inl (inr (ap code_of memory.1))
-taken_number old new p (Err e) (inr (inr x)) = inr (ap code_of x.1, x.0)
-
-pub object_number : (old new : Decoder) (p : Packet) (r : Result (Unit {0}) Error) → TakesInTurn old p r new → IsTakenNumber (refusal_number r) (packet_refusal (state_of old).configuration p)
-object_number old new p r takes = taken_number (state_of old) (state_of new) p r (turns_take old new p r takes)
-
--- and of a block
-open_number : (old new : KeptBlock) (wanted r : Result (Unit {0}) Error) → wanted ≡ Ok tt → MatchResult r (λ _. AnswersOpen old new) (λ e. RefusesAnswer old e new) → IsTakenNumber (refusal_number r) wanted
-open_number old new wanted (Ok x) passed answers = inl (inl (sym (ap refusal_number passed)))
-open_number old new wanted (Err e) passed (inl memory) = inl (inr (ap code_of memory.0))
-open_number old new wanted (Err e) passed (inr x) = inr (ap code_of x.0, passed)
-
-answers_number : (old new : KeptBlock) (answer : Option (List ℕ)) (wanted r : Result (Unit {0}) Error) → wanted ≡ Ok tt
-    → MatchOption answer (MatchResult r (λ _. AnswersOpen old new) (λ e. RefusesAnswer old e new)) (λ _. (r ≡ Ok tt) × (new ≡ old)) → IsTakenNumber (refusal_number r) wanted
-answers_number old new None wanted r passed answers = open_number old new wanted r passed answers
-answers_number old new (Some bytes) wanted r passed stays = inl (inl (ap refusal_number stays.0 ∙ sym (ap refusal_number passed)))
-
-refused_number : (wanted r : Result (Unit {0}) Error) (e : Error) → IsRefusal e wanted → r ≡ Err e → IsTakenNumber (refusal_number r) wanted
-refused_number (Ok x) r e memory is = inl (inr (ap refusal_number is ∙ ap code_of memory))
-refused_number (Err w) r e same is = inl (inl (ap refusal_number is ∙ ap code_of same))
-
-recorded_number : (middle new : KeptBlock) (wanted recorded r : Result (Unit {0}) Error) → IsAnswer (λ _. tt) recorded wanted
-    → MatchResult recorded (λ _. AnswersHere r middle new) (λ e. (r ≡ Err e) × (new ≡ middle)) → IsTakenNumber (refusal_number r) wanted
-recorded_number middle new wanted (Ok x) r passed answers = answers_number middle new middle.answer wanted r passed answers
-recorded_number middle new wanted (Err e) r refused stays = refused_number wanted r e refused stays.0
-
-pub block_number : (old new : KeptBlock) (p : Packet) (r : Result (Unit {0}) Error) → TakesHere old p r new → IsTakenNumber (refusal_number r) (block_refusal old.received p)
-block_number old new p r takes = recorded_number takes.middle new (block_refusal old.received p) takes.recorded r takes.tested takes.answers
 
 -- ---- packets in a buffer
 

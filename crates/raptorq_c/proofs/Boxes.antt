@@ -1,6 +1,6 @@
 -- A coder's box as the kit's calls on boxes see it, and how its coder goes.
 use Rattle.std.proofs.Common.{[], ◌∷◌, refl}
-use Rattle.raptorq_c.proofs.Walking.{Lasts, lasts, bare, layout, arg, Laws, arg_laws, RattleType, boxed}
+use Rattle.raptorq_c.proofs.Walking.{Lasts, lasts, bare, layout, arg, Laws, arg_laws, RattleType, Bx, box_of, boxed}
 use mir.Syntax.{Dict, impl, tnil, dnil, method}
 use denote.Exit.{no}
 use denote.Param.{layouts}
@@ -18,29 +18,28 @@ use borrow.Fn.Impl.{via_longer, method_Known}
 use borrow.Fn.Kinds.{ended_of, stays, r_unit}
 use borrow.Fn.Run.{Over}
 use borrow.Fn.World.{World}
-use Rattle.std_alloc.proofs.BoxSteps.Form as box
-use Rattle.raptorq_c.specs.contracts.kept.Coder as coder
-use Rattle.raptorq_c.proofs.kept.Coder.TheLaws as coder_laws
+pub use Rattle.raptorq_c.specs.contracts.kept.Coder.{the_row as row}
+pub use Rattle.raptorq_c.proofs.kept.Coder.TheLaws.{the_row_laws as row_laws, the_within as row_within}
 use Rattle.raptorq_c.proofs.raptorq_c++kept++Coder+Destruct.drop.Kinds as drops
 use Rattle.raptorq_c.proofs.raptorq_c++kept++Coder+Destruct.drop.Reads as reads
 use Rattle.raptorq_c.proofs.raptorq_c++kept++Coder+Destruct.drop.Symbol as symbol
 use Rattle.raptorq_c.proofs.raptorq_c++kept++Coder+Destruct.drop.Met.{met}
 
 abbrev pub T : RattleType
-T = arg (bare (layout coder.the_row)) no coder.the_row
+T = arg (bare (layout row)) no row
 
 abbrev pub LT : Laws T
-LT = arg_laws (bare (layout coder.the_row)) no coder.the_row coder_laws.the_row_laws refl
+LT = arg_laws (bare (layout row)) no row row_laws refl
 
 -- how it goes
 abbrev pub dx : Dict
 dx = impl ("raptorq_c::raptorq_c++kept++Coder+Destruct::drop" ∷ []) tnil dnil
 
-abbrev pub E : box.Bx
+abbrev pub E : Bx
 E = boxed T LT
 
 abbrev pub B : RattleType
-B = box.B E
+B = box_of E
 
 -- a coder goes by the drop that is derived of it
 abbrev over : Ended

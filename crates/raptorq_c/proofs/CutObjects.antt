@@ -1,15 +1,10 @@
 -- How objects are cut.
-use Rattle.raptorq_c.proofs.Names.{◌≡◌, ℕ, ◌+◌, ◌*◌, ◌<◌, ◌≤◌, Bool, true, false, eqb, ltb, Ok, refl, ap, ◌∙◌, subst, arith, not, SymbolSizeZero, TransferLengthZero, TooManyBlocks, TransferTooLong, TooManySymbols, MAX_SOURCE_SYMBOLS_PER_BLOCK, Configuration, largest_block}
-use Rattle.raptorq_c.proofs.Names.{greatest_size, checked_configuration, both_ok, passed, same_ok, full_rows}
-use Rattle.std.specs.Prelude.{◌&&◌, ◌||◌}
+use Rattle.raptorq_c.proofs.Names.{◌≡◌, ◌<◌, ℕ, Bool, true, false, Ok, refl, ap, ◌∙◌, subst, arith, ◌+◌, ◌*◌, ◌≤◌, eqb, ltb, not, ◌&&◌, ◌||◌, SymbolSizeZero, TransferLengthZero, TooManyBlocks, TransferTooLong, TooManySymbols, Configuration, largest_block, greatest_size, MAX_SOURCE_SYMBOLS_PER_BLOCK, both_ok, passed, same_ok}
+use Rattle.raptorq_c.proofs.Names.{checked_configuration, checked_alignment, configuration_of, greatest_transfer_length, greatest, full_rows, fewest_blocks, CutsAsAsked, IsCutFor}
 use Rattle.std.specs.Int.{div_ceil}
 use Rattle.std.proofs.lemmas.Grind.{div_ceil_times}
 use Rattle.std.proofs.Math.Nat.{lt_of_mul-lt-mul_right, mul-le-mul_right}
 use Rattle.rq_standard.proofs.LeastNumbers.{ceil_some}
-use Rattle.rq_base.specs.RefusedInput.{checked_alignment, configuration_of, greatest_transfer_length}
-use Rattle.rq_rows.proofs.AllPass.{greatest}
-use Rattle.raptorq_c.specs.Headers.{fewest_blocks}
-use Rattle.raptorq_c.specs.Laws.{CutsAsAsked, IsCutFor}
 
 positive : (n : ℕ) → eqb n 0 ≡ false → 0 < n
 positive n h = grind (arith)

@@ -1,7 +1,5 @@
 -- What a number says of how a call ended.
-use Rattle.raptorq_c.proofs.Names.{◌≡◌, ◌≢◌, ◌⊎◌, inl, inr, ℕ, ◌<◌, ◌≤◌, Ok, Err, Result, refl, sym, ap, arith, OnErr, Error, OutOfMemory}
-use Rattle.raptorq_c.proofs.Names.{code_of, CallEnd, number_of, refusal_number}
-use Rattle.raptorq_c.specs.Numbers.{Fills}
+use Rattle.raptorq_c.proofs.Names.{◌≡◌, ◌≢◌, ◌<◌, ℕ, Result, Ok, Err, refl, sym, ap, arith, inl, ◌≤◌, OnErr, code_of, Error, number_of, refusal_number, Fills, CallEnd}
 
 -- The numbers of the library for C, for what the codec doesn't refuse. The codec's refusals have those below, and may have those above.
 abbrev pub IsOfCalls : ℕ → Type 0
@@ -27,12 +25,4 @@ fills_done shown wanted before after value is spelled = record {
   number = inl (sym (ap refusal_number is));
   written = λ _. record { value = value; answered = is; spelled = spelled };
   kept = λ other. absurd (other refl);
-}
-
--- it is refused, and the buffer is as before
-pub fills_refused : {Y B : Type 0} (shown : Y → B) (wanted : Result Y Error) (buffer : B) (e : Error) → (e ≡ OutOfMemory) ⊎ (wanted ≡ Err e) → Fills shown wanted (code_of e) buffer buffer
-fills_refused shown wanted buffer e why = record {
-  number = elim why [ inl memory ↦ inr (ap code_of memory) | inr refused ↦ inl (sym (ap refusal_number refused)) ];
-  written = λ zero. absurd (omega (arith, zero, code_positive e));
-  kept = λ _. refl;
 }

@@ -1,5 +1,5 @@
 -- Frames that a decoder takes one after another.
-use Rattle.raptorq_c.proofs.Names.{◌≡◌, ℕ, List, [], ◌∷◌, ◌++◌, refl, sym, ap, ◌∙◌, subst, arith, append_assoc, append-nil, Error, code_of, frames_in, AddsEach, AddsFrames, AreAdded, StopsAtFrame}
+use Rattle.raptorq_c.proofs.Names.{◌≡◌, ℕ, List, refl, sym, ap, ◌∙◌, subst, arith, [], ◌∷◌, ◌++◌, append_assoc, append-nil, code_of, Error, frames_in, AddsEach, AddsFrames, AreAdded, StopsAtFrame}
 use Rattle.raptorq_c.proofs.Ending.{code_positive}
 
 module _ {D : Type 0} (Adds : D → List ℕ → ℕ → D → Type 0) where

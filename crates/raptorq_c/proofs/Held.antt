@@ -1,7 +1,5 @@
 -- What is said of what C handed in, and of a coder that is kept, of one kind.
-use Rattle.raptorq_c.proofs.Names.{◌≡◌, List, Option, Some, sym, subst, TableRow, Configuration, full_rows, Coder}
-use Rattle.std.proofs.Common.{IsSomeAnd}
-use Rattle.std.specs.Prelude.{option_and_then}
+use Rattle.raptorq_c.proofs.Names.{◌≡◌, List, Option, Some, sym, subst, IsSomeAnd, option_and_then, Configuration, TableRow, full_rows, Coder}
 
 -- over the table that was made, and of the configuration that was read
 pub over : (P : List TableRow → Configuration → Type 0) (table : List TableRow) (read c : Configuration) → table ≡ full_rows → read ≡ c → P table read → P full_rows c

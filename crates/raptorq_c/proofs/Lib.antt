@@ -5,7 +5,6 @@ pub mod Ending
 pub mod FrameSteps
 pub mod Held
 pub mod Names
-pub mod Nullness
 pub mod PacketFrames
 pub mod PacketLengths
 pub mod PlannedBlocks

@@ -1,8 +1,7 @@
 -- The packets in a buffer, frame by frame.
-use Rattle.raptorq_c.proofs.Names.{◌≡◌, ◌≢◌, ℕ, Bool, true, false, cond, List, [], ◌∷◌, ◌++◌, map, Result, Ok, Err, refl, sym, ap, ◌∙◌, arith, append_assoc, append-nil, inl, inr, IfOk, Error, PacketTooShort, and_then, Packet, packet_of_bytes, read_packet, packets_of, AddsEach, AddsFrames, IsListed, StopsAtFrame, refusal_number}
-use Rattle.raptorq_c.proofs.Names.{IsNumber, frames_refusal}
+use Rattle.raptorq_c.proofs.Names.{◌≡◌, ◌≢◌, ℕ, Bool, true, false, List, Result, Ok, Err, refl, sym, ap, ◌∙◌, arith, inl, inr, cond, [], ◌∷◌, ◌++◌, append_assoc, append-nil, map, IfOk, and_then, Error, PacketTooShort, Packet, packet_of_bytes, read_packet, packets_of-push, packets_of, AddsEach, AddsFrames, StopsAtFrame, IsListed}
+use Rattle.raptorq_c.proofs.Names.{refusal_number, IsNumber, frames_refusal}
 use Rattle.rq_block.specs.declared.encoder.TheConstants.{SPARSE_MATRIX_THRESHOLD}
-use Rattle.raptorq.proofs.Lists.{packets_of-push}
 use Rattle.raptorq_c.proofs.Ending.{code_positive}
 
 abbrev Steps : Type 0

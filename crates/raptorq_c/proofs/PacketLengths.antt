@@ -1,22 +1,10 @@
 -- How many bytes the packets of an object take.
-use Rattle.raptorq_c.proofs.Names.{◌≡◌, ℕ, ◌+◌, ◌*◌, ◌≤◌, List, [], ◌∷◌, length, Ok, sym, ap, ◌∙◌, arith, length-map, length-map-range_with_len, Configuration, configuration_of_bytes, total_symbols, Packet, frame_size, TableRow, greatest_size, checked_configuration, both_ok, ok_of, AppendsObject, packets_length, full_rows, IsEncoding}
-use Rattle.raptorq_c.proofs.Names.{bytes_of_packets}
-use Rattle.std.proofs.Common.{zero, suc, length-append}
-use Rattle.std.specs.List.{AllByRecursion}
-use Rattle.rq_standard.specs.Configuration.{IsAccepted}
-use Rattle.rq_standard.specs.Cutting.{block_symbols, symbols_before}
-use Rattle.rq_standard.specs.Headline.{IsPacketOf}
+use Rattle.raptorq_c.proofs.Names.{◌≡◌, ℕ, List, Ok, sym, ap, ◌∙◌, arith, ◌+◌, ◌*◌, ◌≤◌, [], ◌∷◌, length, zero, suc, length-append, length-map, length-map-range_with_len, AllByRecursion, configuration_of_bytes, Configuration, total_symbols, IsAccepted, block_symbols, symbols_before, IsPacketOf, Packet, packet_bytes, frame_size, frames_of}
+use Rattle.raptorq_c.proofs.Names.{greatest_size, IsTable, TableRow, both_ok, ok_of, accepted_by, checked_configuration, full_table, full_rows, length-packet_bytes, AppendsObject, packets_length, checked_header, IsEncoding, bytes_of_packets}
 use Rattle.rq_standard.specs.ObjectPackets.{first_ids}
-use Rattle.rq_standard.specs.Packet.{packet_bytes}
-use Rattle.rq_standard.specs.Streams.{frames_of}
-use Rattle.rq_standard.specs.TableRows.{IsTable}
 use Rattle.rq_standard.proofs.BlockCuts.{symbols_before-first, symbols_before-next, symbols_before-all}
 use Rattle.rq_standard.proofs.BlockRows.{block_has_row}
-use Rattle.rq_base.proofs.Accepted.{accepted_by}
 use Rattle.raptorq.proofs.EncodedBlocks.{ids_before, ids_next}
-use Rattle.raptorq.proofs.Lists.{length-packet_bytes}
-use Rattle.rq_rows.proofs.AllPass.{full_table}
-use Rattle.raptorq_c.specs.Headers.{checked_header}
 
 module _ (c : Configuration) where
   -- as many as the blocks' source symbols, and the repair symbols of each

@@ -1,14 +1,6 @@
 -- The encoder of a block by a plan alone is the block's.
-use Rattle.raptorq_c.proofs.Names.{◌≡◌, ℕ, false, cond, eqb, ltb, List, length, map, Result, Ok, Err, sym, ap, ◌∙◌, range_with_len, not, eqb-true, Error, WrongDataLength, BlockOverTable, PlanMismatch, and_then, TableRow, Configuration, configuration_of_bytes, greatest_size, row_of, both_ok, ok_of, passed, block_by_plan, BlockEncoded}
-use Rattle.raptorq_c.proofs.Names.{plan_refusal, full_rows, planned_refusal, IsPlanIn}
-use Rattle.std.proofs.Common.{◌/◌, ◌%◌}
-use Rattle.std.proofs.lemmas.Bool.{not-false}
-use Rattle.rq_standard.specs.Cutting.{symbol_of_block}
-use Rattle.rq_base.specs.RefusedInput.{checked_symbols}
-use Rattle.rq_block.specs.BlockData.{block_of}
-use Rattle.rq_block.specs.RefusedBlocks.{AreWholeSymbols}
-use Rattle.rq_block.specs.SourceBlockEncodingPlan.{Plan}
-use Rattle.raptorq_c.specs.Encoders.{IsBlockEncoderIn}
+use Rattle.raptorq_c.proofs.Names.{◌≡◌, ℕ, false, List, Result, Ok, Err, sym, ap, ◌∙◌, cond, eqb, ltb, map, length, ◌/◌, ◌%◌, eqb-true, not-false, range_with_len, not, and_then, Error, BlockOverTable, WrongDataLength, PlanMismatch, configuration_of_bytes, Configuration, symbol_of_block, greatest_size, row_of, TableRow, both_ok, ok_of}
+use Rattle.raptorq_c.proofs.Names.{passed, checked_symbols, block_by_plan, block_of, AreWholeSymbols, BlockEncoded, plan_refusal, Plan, full_rows, planned_refusal, IsPlanIn, IsBlockEncoderIn}
 
 module _ (header bytes : List ℕ) (plan : Plan) (taken : planned_refusal (configuration_of_bytes header) (length bytes) plan ≡ Ok tt) where
   abbrev c : Configuration

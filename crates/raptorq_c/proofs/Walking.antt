@@ -46,21 +46,22 @@ pub use Rattle.std.proofs.impls.GlobalAllocator.TheImpl.Met.{passed}
 pub use Rattle.rq_standard.proofs.OptionValues.{value_of}
 pub use Rattle.std_alloc.specs.Box.Ownership.{box_owns}
 pub use Rattle.std_alloc.proofs.BoxSteps.Steps.{box_out, box_in}
-use Rattle.std.specs.contracts.alloc.Global as global
-use Rattle.std.proofs.alloc.Global.TheLaws as heap_laws
-use Rattle.std_alloc.proofs.BoxSteps.Form as box
+pub use Rattle.std.specs.contracts.alloc.Global.{the_row as heap_row}
+pub use Rattle.std.proofs.alloc.Global.TheLaws.{the_row_laws as heap_laws, the_within as heap_within}
+pub use Rattle.std_alloc.specs.contracts.boxed.Box.{the_row as box_row}
+pub use Rattle.std_alloc.proofs.BoxSteps.Form.{Bx, B as box_of, word as box_word, box_typed}
 
 abbrev pub A : RattleType
-A = arg (bare (layout global.the_row)) no global.the_row
+A = arg (bare (layout heap_row)) no heap_row
 
 abbrev pub LA : Laws A
-LA = arg_laws (bare (layout global.the_row)) no global.the_row heap_laws.the_row_laws refl
+LA = arg_laws (bare (layout heap_row)) no heap_row heap_laws refl
 
 -- how the allocator goes
 abbrev pub dd : Dict
 dd = impl ("raptorq_c::Destruct++none::drop" ∷ []) (tcons (layout A) tnil) dnil
 
-abbrev pub boxed : (T : RattleType) → Laws T → box.Bx
+abbrev pub boxed : (T : RattleType) → Laws T → Bx
 boxed T LT = record { row = T; laws = LT; al = record { row = A; laws = LA; g = ghosts; d = dict; drops = dd } }
 
 -- ---- a struct of one pointer

@@ -74,14 +74,10 @@ pub extern "C" fn reamertan_block_decoder_add_packets(
     requires { IsSome (kept_as block_decoder_in decoder.old) }
     ensures { Changes (kept_as block_decoder_in decoder.old) (kept_as block_decoder_in decoder.new) (λ old new. AreAdded IsAddedHere (4 + old.received.configuration.symbol_size) old packets.now result new) }
 {
-    let mut coder = decoder.take(alloc);
-    let Coder::BlockDecoder(inner) = coder.as_mut() else {
-        unreachable!()
-    };
-    let size = PAYLOAD_ID_LENGTH + inner.symbol_size();
-    let ended = add_whole(alloc, inner, size, packets);
-    decoder.put(coder);
-    refusal(ended)
+    refusal(of_kept!(decoder, alloc, BlockDecoder, inner => {
+        let size = PAYLOAD_ID_LENGTH + inner.symbol_size();
+        add_whole(alloc, inner, size, packets)
+    }))
 }
 
 /// Whether the packets that were taken determine the block.

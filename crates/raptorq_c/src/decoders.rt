@@ -96,13 +96,9 @@ pub extern "C" fn reamertan_decoder_add_packet(
     ensures added { Changes (kept_as decoder_in decoder.old) (kept_as decoder_in decoder.new) (λ old new. IsAdded old packet.now result new) }
     ensures told { Changes (kept_as decoder_in decoder.old) (kept_as decoder_in decoder.new) (λ old new. completes.new ≡ gets_block (state_of old) (state_of new) (slice_index packet.now 0)) }
 {
-    let mut coder = decoder.take(alloc);
-    let Coder::Decoder(inner) = coder.as_mut() else {
-        unreachable!()
-    };
-    let ended = add_telling(alloc, inner, packet, completes);
-    decoder.put(coder);
-    refusal(ended)
+    refusal(
+        of_kept!(decoder, alloc, Decoder, inner => add_telling(alloc, inner, packet, completes)),
+    )
 }
 
 /// Takes packets that lie one behind another, each a payload id of 4 bytes and a symbol, in their order.
@@ -119,14 +115,10 @@ pub extern "C" fn reamertan_decoder_add_packets(
     requires { IsSome (kept_as decoder_in decoder.old) }
     ensures { Changes (kept_as decoder_in decoder.old) (kept_as decoder_in decoder.new) (λ old new. AreAdded IsAdded (frame_size (state_of old).configuration) old packets.now result new) }
 {
-    let mut coder = decoder.take(alloc);
-    let Coder::Decoder(inner) = coder.as_mut() else {
-        unreachable!()
-    };
-    let size = inner.get_config().frame_size();
-    let ended = add_whole(alloc, inner, size, packets);
-    decoder.put(coder);
-    refusal(ended)
+    refusal(of_kept!(decoder, alloc, Decoder, inner => {
+        let size = inner.get_config().frame_size();
+        add_whole(alloc, inner, size, packets)
+    }))
 }
 
 /// Whether the packets that were taken determine the object.

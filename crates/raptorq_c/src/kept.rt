@@ -86,11 +86,11 @@ impl Kept {
     }
 }
 
-/// What an expression says of the coder of one kind that is kept, which stays there.
+/// What an expression says of the coder of one kind that is kept, or does to it. It stays there.
 macro_rules! of_kept {
     ($kept:ident, $alloc:ident, $kind:ident, $inner:ident => $said:expr) => {{
-        let coder = $kept.take($alloc);
-        let Coder::$kind($inner) = coder.as_ref() else {
+        let mut coder = $kept.take($alloc);
+        let Coder::$kind($inner) = coder.as_mut() else {
             unreachable!()
         };
         let said = $said;

@@ -1,5 +1,5 @@
 //! Pointers of C's to coders, which may be null.
-ghost use Rattle.std.specs.Prelude.{◌≡◌, Option, Some, None, IsSome, IfSome, IfOk, IfErr, OnOk, OnErr, is_some, not};
+ghost use Rattle.std.specs.Prelude.{◌≡◌, Option, Some, None, IsSome, IfSome, IfOk, IfErr, OnOk, OnErr, MatchOption};
 ghost use Rattle.raptorq_c.specs.Slot.{slot_at, slot_coded};
 ghost use Rattle.raptorq_c.specs.declared.kept.Kept.{Kept};
 
@@ -53,27 +53,15 @@ impl Slot {
         Slot { at }
     }
 
-    /// Whether it points to none.
-    pub(crate) fn is_null(&mut self) -> bool
-        ensures { (result ≡ not (is_some self.old.value)) × (self.new.value ≡ self.old.value) }
-    {
-        self.at.is_null()
-    }
-
-    /// The box that it points to.
-    pub(crate) fn into_box(self, alloc: Global) -> Box<Kept>
-        requires { IsSome self.value }
-        ensures { self.value ≡ Some result.value }
+    /// The box that it points to, unless it is null.
+    pub(crate) fn into_box(self, alloc: Global) -> Option<Box<Kept>>
+        ensures { MatchOption result (self.value ≡ None) (λ kept. self.value ≡ Some kept.value) }
     {
         let Slot { at } = self;
-        unsafe { Box::from_raw(alloc, at as *mut Kept) }
-    }
-
-    /// Ends it, where it points to none.
-    pub(crate) fn let_go(self)
-        requires { self.value ≡ None }
-    {
-        let Slot { at: _at } = self;
+        if at.is_null() {
+            return None;
+        }
+        Some(unsafe { Box::from_raw(alloc, at as *mut Kept) })
     }
 
     /// Keeps a coder, where it is null.
@@ -84,7 +72,7 @@ impl Slot {
         ensures null { OnErr result (self.new.value ≡ None) }
     {
         let kept = kept_box(alloc, coder)?;
-        replace(self, Slot::of(kept)).let_go();
+        drop(replace(self, Slot::of(kept)).into_box(alloc));
         Ok(())
     }
 
@@ -93,11 +81,9 @@ impl Slot {
         requires { IfSome self.old.value (λ kept. IsSome kept.value) }
         ensures { self.new.value ≡ None }
     {
-        if self.is_null() {
-            return;
+        if let Some(kept) = replace(self, Slot::none()).into_box(alloc) {
+            drop(Box::into_inner(kept).into_box(alloc));
         }
-        let kept = replace(self, Slot::none()).into_box(alloc);
-        drop(Box::into_inner(kept).into_box(alloc));
     }
 }
 

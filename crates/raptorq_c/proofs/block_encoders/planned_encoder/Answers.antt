@@ -1,5 +1,4 @@
-use Rattle.raptorq_c.proofs.Names.{◌≡◌, ◌∙◌, ap, length, sym, subst, Configuration, configuration_of_bytes, block_by_plan, block_encoded_of, plan_of, planned_refusal}
-use Rattle.raptorq_c.specs.Encoders.{IsPlannedEncoder}
+use Rattle.raptorq_c.proofs.Names.{◌≡◌, sym, ap, ◌∙◌, subst, length, configuration_of_bytes, Configuration, block_by_plan, block_encoded_of, plan_of, planned_refusal, IsPlannedEncoder}
 use Rattle.raptorq_c.proofs.PlannedBlocks.{planned_over}
 use Rattle.raptorq_c.proofs.block_encoders.planned_encoder.Goals as goal
 

@@ -1,6 +1,5 @@
-use Rattle.raptorq_c.proofs.Names.{◌≡◌, ◌<◌, ap, ◌∙◌, sym, subst, Configuration, state_of, IsPartOf}
+use Rattle.raptorq_c.proofs.Names.{◌≡◌, ◌<◌, sym, ap, ◌∙◌, subst, Configuration, parts_of_decoder, parts_are_objects, state_of, IsPartOf}
 use Rattle.std.specs.Option.{option_copied}
-use Rattle.raptorq.proofs.AnsweredParts.{parts_of_decoder, parts_are_objects}
 use Rattle.raptorq.specs.BlockBytes.{AnswersPart}
 use Rattle.raptorq_c.proofs.Answering.{fills_block}
 use Rattle.raptorq_c.proofs.decoders.write_part.Goals as goal

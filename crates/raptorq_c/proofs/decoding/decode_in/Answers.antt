@@ -1,8 +1,5 @@
-use Rattle.raptorq_c.proofs.Names.{◌≡◌, ◌≢◌, ℕ, ◌++◌, List, Option, Ok, Err, map, refl, sym, ap, ◌∙◌, subst, arith, inr, err_from_is_err_and, code_of, state_of, packet_of_bytes, frame_size, frames_in, packets_of, AnswersRun, IsRunRefusal, Answered, frames_refusal, packets_in, IsListed, number_of, IsNumber}
-use Rattle.rq_standard.specs.Headline.{AnswersExactly, AnswersWhereAnyCan}
-use Rattle.rq_standard.specs.DecoderState.{result_of}
-use Rattle.rq_standard.specs.Following.{FollowsRun, IsAnswerAfter}
-use Rattle.raptorq.proofs.Lists.{answers_exactly, answers_where_any_can}
+use Rattle.raptorq_c.proofs.Names.{◌≡◌, ◌≢◌, ℕ, List, Option, Ok, Err, refl, sym, ap, ◌∙◌, subst, arith, inr, ◌++◌, map, err_from_is_err_and, code_of, result_of, IsAnswerAfter, FollowsRun, AnswersExactly, AnswersWhereAnyCan, packet_of_bytes, frame_size, frames_in, answers_exactly, answers_where_any_can, state_of, IsRunRefusal, AnswersRun}
+use Rattle.raptorq_c.proofs.Names.{packets_of, IsListed, number_of, IsNumber, Answered, frames_refusal, packets_in}
 use Rattle.raptorq_c.proofs.Ending.{code_positive}
 use Rattle.raptorq_c.proofs.FrameSteps.{frames_seen}
 use Rattle.raptorq_c.proofs.PacketFrames.{each_listed, first_refused}

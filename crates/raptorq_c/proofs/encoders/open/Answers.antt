@@ -1,9 +1,4 @@
-use Rattle.raptorq_c.proofs.Names.{◌≡◌, ◌∙◌, length, Ok, sym, subst, inr, err_from_is_err_and, on_ok_weaker, configuration_of_bytes, greatest_size, encoded_of}
-use Rattle.rq_standard.specs.Headline.{HasNonsingularRows}
-use Rattle.raptorq.specs.Encoder.{IsEncoderOf}
-use Rattle.raptorq.specs.Refused.{new_encoder, RefusesEncoder}
-use Rattle.raptorq_c.specs.Coders.{encoder_in, coder_at}
-use Rattle.raptorq_c.specs.Encoders.{IsEncoderIn}
+use Rattle.raptorq_c.proofs.Names.{◌≡◌, Ok, sym, ◌∙◌, subst, inr, length, err_from_is_err_and, on_ok_weaker, configuration_of_bytes, HasNonsingularRows, greatest_size, encoded_of, IsEncoderOf, new_encoder, RefusesEncoder, encoder_in, coder_at, IsEncoderIn}
 use Rattle.raptorq_c.proofs.Held.{over, said_kept}
 use Rattle.raptorq_c.proofs.encoders.open.Goals as goal
 

@@ -1,7 +1,5 @@
-use Rattle.raptorq_c.proofs.Names.{◌≡◌, ◌≢◌, ℕ, List, [], length, Result, Ok, Err, refl, sym, ap, ◌∙◌, subst, arith, OnErr, Error, code_of, configuration_of_bytes, err_from_is_err_and, ok_of, AppendsObject, CallEnd, IsEncoding, number_of}
-use Rattle.std.specs.Prelude.{OnOk}
-use Rattle.raptorq.specs.Appended.{RefusesPackets}
-use Rattle.raptorq_c.specs.PacketBuffers.{FillsWithPackets, StopsEncoding, no_memory, refused, other_length}
+use Rattle.raptorq_c.proofs.Names.{◌≡◌, ◌≢◌, ℕ, List, Result, Ok, Err, refl, sym, ap, ◌∙◌, subst, arith, [], length, err_from_is_err_and, OnErr, OnOk, code_of, Error, configuration_of_bytes, ok_of, AppendsObject, RefusesPackets, number_of, IsEncoding, CallEnd}
+use Rattle.raptorq_c.specs.PacketBuffers.{FillsWithPackets, StopsEncoding, refused, other_length}
 use Rattle.raptorq_c.proofs.Ending.{code_positive}
 use Rattle.raptorq_c.proofs.Held.{over}
 use Rattle.raptorq_c.proofs.PacketLengths.{packets_room}
@@ -31,11 +29,6 @@ stopped_before header object repair buffer e stops = record {
   stopped = λ _. stops;
   kept = λ _. refl;
 }
-
-pub returns-in_err-table : goal.returns-in_err-table
-returns-in_err-table c =
-    let p = err_from_is_err_and c.from_residual.result c.from_residual.ensures.1 in
-    rw (p.1, p.2) (stopped_before c.args.configuration.now c.args.object.now c.args.repair c.args.packets.now c.in_err-table.field-0.0 (no_memory (ap code_of c.in_err-table.ensures.memory)))
 
 pub returns-in_err-encode_all : goal.returns-in_err-encode_all
 returns-in_err-encode_all c =

@@ -1,5 +1,4 @@
-use Rattle.raptorq_c.proofs.Names.{length, ap, ◌∙◌, chunks_rest, chunks_size, err_from_is_err_and, frames_in}
-use Rattle.std.proofs.Common.{min}
+use Rattle.raptorq_c.proofs.Names.{ap, ◌∙◌, length, min, err_from_is_err_and, chunks_rest, chunks_size, frames_in}
 use Rattle.rq_standard.proofs.FrameLaws.{frames_in-next, frames_in-none}
 use Rattle.raptorq_c.proofs.FrameSteps.{taken_none, taken_all, taken_more, taken_some}
 use Rattle.raptorq_c.proofs.frames.add_frames.Goals as goal

@@ -1,4 +1,4 @@
-use Rattle.raptorq_c.proofs.Names.{◌≡◌, chunks_size, chunks_rest, frames_in}
+use Rattle.raptorq_c.proofs.Names.{◌≡◌, chunks_rest, chunks_size, frames_in}
 use Rattle.raptorq_c.proofs.FrameSteps.{TakenBefore}
 use Rattle.raptorq_c.proofs.frames.add_frames.Given as goal
 

@@ -1,8 +1,5 @@
-use Rattle.raptorq_c.proofs.Names.{◌≡◌, Ok, sym, subst, inr, err_from_is_err_and, on_ok_weaker, row_of, plan_of, plan_refusal, IsPlanIn}
-use Rattle.rq_standard.specs.Headline.{IsNonsingular}
+use Rattle.raptorq_c.proofs.Names.{◌≡◌, Ok, sym, subst, inr, err_from_is_err_and, on_ok_weaker, IsNonsingular, row_of, plan_refusal, plan_of, RefusesPlan, coder_at, plan_in, IsPlanIn}
 use Rattle.rq_block.specs.Planned.{IsPlanOf}
-use Rattle.rq_block.specs.SourceBlockEncodingPlan.{RefusesPlan}
-use Rattle.raptorq_c.specs.Coders.{plan_in, coder_at}
 use Rattle.raptorq_c.proofs.Held.{said_kept}
 use Rattle.raptorq_c.proofs.plans.open.Goals as goal
 

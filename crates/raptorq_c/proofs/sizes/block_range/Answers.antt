@@ -1,5 +1,4 @@
-use Rattle.raptorq_c.proofs.Names.{◌≡◌, ◌<◌, ap, ◌∙◌, arith, get_or, get_or-map-range_with_len, block_range, part_of_block}
-use Rattle.raptorq_c.specs.Sizes.{range_between}
+use Rattle.raptorq_c.proofs.Names.{◌≡◌, ◌<◌, ap, ◌∙◌, arith, get_or, get_or-map-range_with_len, block_range, part_of_block, range_between}
 use Rattle.raptorq_c.proofs.Ending.{fills_done}
 use Rattle.raptorq_c.proofs.Sized.{offsets_of, offset_count, range_of_block}
 use Rattle.raptorq_c.proofs.sizes.block_range.Goals as goal

@@ -1,4 +1,4 @@
-use Rattle.raptorq_c.proofs.Names.{◌≡◌, Err, subst, ok_of, UnknownBlock, block_encoded_of, encoded_of, block_in}
+use Rattle.raptorq_c.proofs.Names.{◌≡◌, Err, subst, UnknownBlock, ok_of, block_encoded_of, encoded_of, block_in}
 use Rattle.raptorq_c.proofs.StretchSteps.{block_found, block_missing}
 use Rattle.raptorq_c.proofs.stretches.block_encoder.Goals as goal
 

@@ -2,8 +2,7 @@
 use Rattle.std.proofs.Common.{◌≡◌, [], ◌∷◌, refl, Option, None}
 use Rattle.raptorq_c.proofs.Walking.{Val, SProp, emp, ftrue, fact, fact_i, tables, ‵, raw, ◌⊛◌, ◌$◌, ◌∵◌, !, qed, by, move, use0, split, drop, fjoin, feq_i, agg, lit, no_more, and_then, returns, enter, alloc_all, pass_all, free_all, look_at, sets, owns, Ptr, null_ptr, types_at, alive, walk_of, proved_at, leaves, word, word_typed, field_own, made}
 use Rattle.raptorq_c.specs.declared.kept.Kept.{Kept}
-use Rattle.raptorq_c.specs.contracts.slot.Slot.none.{ended, clauses}
-use Rattle.raptorq_c.specs.contracts.slot.Slot.none.Key.{name as #self}
+use Rattle.raptorq_c.specs.contracts.slot.Slot.none.{ended, clauses, Key.name as #self}
 use Rattle.raptorq_c.proofs.slot.Slot.none.Statement.{statement}
 use Rattle.raptorq_c.proofs.slot.Slot.none.Code as compiled
 
