@@ -483,3 +483,17 @@ def receive(data, wish, ends, objects, key, width):
     others += sum(place.at >= first.at and place.at + HEAD <= end for place in places) - sum(place.at + HEAD <= end for place in own)
     counts = {"cells": taken, "damaged": damaged, "others": others, **window.counts()}
     return Received(end, counts, b"".join(window.written), 0 if window.is_ended else 2)
+
+
+def follow(data, passed, ends, objects, key, width):
+    """What one makes of bytes who takes stream after stream but for those of these names: the name of each that is whole, with how its receiver
+    ends, and how the last receiver ends. Each begins with the last read of the one before, and passes over the last eight streams."""
+    streams, starts, at = [], [0, *ends], 0
+    while True:
+        wish = Wish(b"", (*(name for name, _ in streams[:-9:-1]), *passed))
+        rest, left = data[starts[at] :], [end - starts[at] for end in ends[at:]]
+        received = receive(rest, wish, left, objects, key, width)
+        if received.status:
+            return streams, received
+        streams.append((find_first(places_in(rest, key), wish, left)[0].head[4:12], received))
+        at += left.index(received.read)
