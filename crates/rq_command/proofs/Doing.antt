@@ -21,10 +21,11 @@ use Rattle.rq_devices.specs.Folder.{Folder}
 use Rattle.rq_devices.specs.Keyed.{IsKeyOf}
 use Rattle.rq_command.specs.Outside.{KnownCalls, Outside}
 use Rattle.rq_devices.specs.Placed.{Contents}
+use Rattle.rq_devices.specs.Spots.{Spots}
 use Rattle.rq_command.specs.Program.{Does, EndsJob, MindsTerminal, is_at_terminal, Lists, RefusesLength, StopsUnsent, end_of}
 
-module _ (words : List (List ℕ)) (outside : Outside) (stands : List (List ℕ) → Contents) (blank : Contents) where
-  pub does : (ended : End) (old new : Contents) (held held' : Folder) (job : Job) → AsksFor words job → EndsJob job outside stands blank ended old new held held'
+module _ (words : List (List ℕ)) (outside : Outside) (stands : List (List ℕ) → Contents) (blank : Spots) where
+  pub does : (ended : End) (old new : Spots) (held held' : Folder) (job : Job) → AsksFor words job → EndsJob job outside stands blank ended old new held held'
       → Does words outside stands blank ended old new held held'
   does (Unasked e) old new held held' (Send job) asks ends = absurd ends.1
   does (Unasked e) old new held held' (Receive job) asks ends = absurd ends.0
@@ -48,7 +49,7 @@ module _ (words : List (List ℕ)) (outside : Outside) (stands : List (List ℕ)
   does (Stopped stop) old new held held' job asks ends = (job, asks, ends)
 
   -- the same, of how a run ends that something may stop
-  pub done : (r : Result End Stop) (ended : End) (old new : Contents) (held held' : Folder) (job : Job) → ended ≡ end_of r → AsksFor words job
+  pub done : (r : Result End Stop) (ended : End) (old new : Spots) (held held' : Folder) (job : Job) → ended ≡ end_of r → AsksFor words job
       → EndsJob job outside stands blank (end_of r) old new held held' → Does words outside stands blank ended old new held held'
   done r ended old new held held' job is asks ends =
       subst (λ (e : End). Does words outside stands blank e old new held held') (sym is) (does (end_of r) old new held held' job asks ends)

@@ -1,5 +1,5 @@
 -- Failed calls of a run.
-use Rattle.std.proofs.Common.{◌≡◌, ℕ, List, ◌+◌, ◌≤◌, Option, Some, None, Result, Ok, Err, true, false, refl, sym, subst, ap, ◌∙◌, arith, lit<}
+use Rattle.std.proofs.Common.{◌≡◌, ◌⊎◌, ℕ, ◌+◌, Option, Some, Result, Ok, Err, true, false, inl, inr, sym, subst, ap, ◌∙◌, arith, lit<}
 use Rattle.std.specs.Result.{IsErrAnd}
 use Rattle.std.proofs.lemmas.Result.{err_from_is_err_and}
 use Rattle.rq_streams.specs.declared.run.Stop.{Stop}
@@ -9,11 +9,10 @@ use Rattle.rq_cast.specs.declared.run.Ending.{Ending}
 use Rattle.rq_cast.specs.declared.run.Ending.TheVariants.{Written, Incomplete, GivenUp}
 use Rattle.rq_cast.specs.Received.{is_given_up}
 use Rattle.rq_command.specs.declared.ending.End.{End}
-use Rattle.rq_devices.specs.Failed.{Fails}
+use Rattle.rq_devices.specs.Failed.{Fails, FailsPutting}
 use Rattle.rq_devices.proofs.Counting.{failed_then}
 use Rattle.rq_command.specs.Following.{name_of, over}
-use Rattle.rq_command.specs.Placed.{IsPlaced, is_whole}
-use Rattle.rq_devices.specs.Placed.{Contents, IsFinished}
+use Rattle.rq_command.specs.Placed.{is_whole}
 use Rattle.rq_command.specs.Program.{Failures, FailsReceiving, end_of}
 
 -- ---- counts
@@ -38,52 +37,24 @@ stopped_later r (Refused e) a b more is fails = subst (λ (e : Result End Stop).
 
 -- ---- what is placed
 
-pub not_whole : (ended : Result Ending Stop) (n : ℕ) → is_whole ended ≡ false → is_given_up ended ≡ false → n ≤ 1 → FailsReceiving ended (failed_calls ended + n)
-not_whole (Ok (Written stream)) n is kept few = absurd (cc is)
-not_whole (Ok (GivenUp stream parts missing)) n is kept few = absurd (cc kept)
-not_whole (Ok (Incomplete parts missing)) n is kept few = omega (arith, few)
-not_whole (Err Fault) n is kept few = omega arith
-not_whole (Err (Refused e)) n is kept few = omega (arith, few)
-
-pub whole : (ended : Result Ending Stop) → is_whole ended ≡ true → (stream : List ℕ) × (ended ≡ Ok (Written stream))
-whole (Ok (Written stream)) is = (stream, refl)
-whole (Ok (Incomplete parts missing)) is = absurd (cc is)
-whole (Ok (GivenUp stream parts missing)) is = absurd (cc is)
-whole (Err stop) is = absurd (cc is)
-
--- what isn't whole is taken away
-pub taken_away : {X D : Type 0} (file : Option X) (ended : Result Ending Stop) (finished : Result D Stop) (written old new : Contents) → is_whole ended ≡ false
-    → IsFinished file false finished written old new → IsPlaced file ended written old new
-taken_away None ended finished written old new is h = h
-taken_away (Some file) (Ok (Written stream)) finished written old new is h = absurd (cc is)
-taken_away (Some file) (Ok (Incomplete parts missing)) finished written old new is h = h
-taken_away (Some file) (Ok (GivenUp stream parts missing)) finished written old new is h = h
-taken_away (Some file) (Err stop) finished written old new is h = h
-
--- what is whole couldn't be put there
-pub not_placed : {X : Type 0} (D : Type 0) (file : Option X) (r : Result Ending Stop) (stop : Stop) (written old new : Contents) → r ≡ Err stop
-    → IsFinished {X = X} {D = D} file true (Err stop) written old new → IsPlaced file r written old new
-not_placed D None r stop written old new is h = h
-not_placed D (Some file) r stop written old new is h = subst (λ (e : Result Ending Stop). IsPlaced (Some file) e written old new) (sym is) h
-
-pub fails_at_end : (ended r : Result Ending Stop) (stop : Stop) (a b : Option ℕ) → is_whole ended ≡ true → stop ≡ Fault → r ≡ Err stop
-    → Fails a b (failed_calls {X = ℕ} (Err stop)) → (n : ℕ) × Fails a b n × FailsReceiving r (failed_calls ended + n)
-fails_at_end ended r stop a b is fault ends fails =
-    let once : Fails a b 1 = subst (λ (s : Stop). Fails a b (failed_calls {X = ℕ} (Err s))) fault fails in
-    let of_fault : FailsReceiving (Err Fault) (failed_calls ended + 1) = omega arith in
-    (1, once, subst (λ (e : Result Ending Stop). FailsReceiving e (failed_calls ended + 1)) (sym (ends ∙ ap (λ s. Err s) fault)) of_fault)
-
--- what is whole is put there
-pub put : {X D : Type 0} (file : Option X) (ended : Result Ending Stop) (d : D) (written old new : Contents) → is_whole ended ≡ true
-    → IsFinished file true (Ok d) written old new → IsPlaced file ended written old new
-put None ended d written old new is h = h
-put (Some file) ended d written old new is h =
-    let w = whole ended is in subst (λ (e : Result Ending Stop). IsPlaced (Some file) e written old new) (sym w.1) h
-
-pub fails_nowhere : (ended : Result Ending Stop) (a b : Option ℕ) → is_whole ended ≡ true → Fails a b 0
-    → (n : ℕ) × Fails a b n × FailsReceiving ended (failed_calls ended + n)
-fails_nowhere ended a b is fails =
-    let w = whole ended is in (0, fails, subst (λ (e : Result Ending Stop). FailsReceiving e (failed_calls e + 0)) (sym w.1) refl)
+-- what was received is put in its place, or couldn't be
+pub fails_placing : (ended put : Result Ending Stop) (n : ℕ) → is_given_up ended ≡ false → (ended ≡ put) ⊎ ((is_whole ended ≡ true) × (put ≡ Err Fault))
+    → FailsPutting (is_whole ended) put n → FailsReceiving put (failed_calls ended + n)
+fails_placing (Ok (Written stream)) put n kept (inl same) fails =
+    let none : n ≡ 0 = subst (λ (r : Result Ending Stop). FailsPutting {X = Ending} true r n) (sym same) fails in
+    subst (λ (r : Result Ending Stop). FailsReceiving r (0 + n)) same (omega (arith, none))
+fails_placing (Ok (Written stream)) put n kept (inr stopped) fails =
+    let once = subst (λ (r : Result Ending Stop). FailsPutting {X = Ending} true r n) stopped.1 fails in
+    subst (λ (r : Result Ending Stop). FailsReceiving r (0 + n)) (sym stopped.1) (omega (arith, once.1))
+fails_placing (Ok (GivenUp stream parts missing)) put n kept same fails = absurd (cc kept)
+fails_placing (Ok (Incomplete parts missing)) put n kept (inl same) fails =
+    subst (λ (r : Result Ending Stop). FailsReceiving r (0 + n)) same (omega (arith, fails))
+fails_placing (Ok (Incomplete parts missing)) put n kept (inr stopped) fails = absurd (cc stopped.0)
+fails_placing (Err Fault) put n kept (inl same) fails = subst (λ (r : Result Ending Stop). FailsReceiving r (1 + n)) same (omega arith)
+fails_placing (Err Fault) put n kept (inr stopped) fails = absurd (cc stopped.0)
+fails_placing (Err (Refused e)) put n kept (inl same) fails =
+    subst (λ (r : Result Ending Stop). FailsReceiving r (0 + n)) same (omega (arith, fails))
+fails_placing (Err (Refused e)) put n kept (inr stopped) fails = absurd (cc stopped.0)
 
 -- nothing more fails as it isn't taken away what was kept, or is
 pub fails_no_more : (r : Result Ending Stop) (a b : Option ℕ) → Fails a b 0 → (n : ℕ) × Fails a b n × ((m : ℕ) → FailsReceiving r m → FailsReceiving r (m + n))

@@ -1,5 +1,5 @@
 -- How a run ends that splits a file.
-use Rattle.std.proofs.Common.{◌≡◌, ◌⊎◌, ℕ, ◌+◌, ◌<◌, Bool, false, true, Option, Result, Ok, Err, IfOk, IfErr, OnOk, is_ok, inl, inr, refl, sym, subst, ap, ◌∙◌, arith}
+use Rattle.std.proofs.Common.{◌≡◌, ℕ, ◌<◌, Bool, false, Option, Result, Ok, Err, IfOk, IfErr, inl, inr, refl, sym, subst, ap, ◌∙◌, arith}
 use Rattle.rq_streams.specs.declared.counted.Counted.{Counted}
 use Rattle.rq_streams.specs.declared.run.Stop.{Stop}
 use Rattle.rq_streams.specs.declared.run.Stop.TheVariants.{Fault, Refused}
@@ -10,16 +10,16 @@ use Rattle.rq_cast.specs.declared.known.Known.{Known}
 use Rattle.rq_cast.specs.declared.order.Order.{Order}
 use Rattle.rq_cast.specs.declared.output.Output.{Output}
 use Rattle.rq_cast.specs.declared.stream_sending.Sent.{Sent}
-use Rattle.rq_cast.specs.Output.{CountsLost, counting}
+use Rattle.rq_cast.specs.Output.{CountsLost}
 use Rattle.rq_cast.specs.Rounds.{IsFresh}
 use Rattle.rq_cast.specs.Searching.{counted}
 use Rattle.rq_cast.specs.SentParts.{CountsStop as CountsHalt, SendsStream, StopsStream}
 use Rattle.rq_cells.specs.Cells.{Key}
-use Rattle.rq_devices.specs.Failed.{FailsPutting, StopsReading}
 use Rattle.rq_devices.specs.Keyed.{IsKeyOf}
 use Rattle.rq_devices.specs.Placed.{Contents}
 use Rattle.rq_command.specs.Outside.{KnownCalls}
 use Rattle.rq_command.specs.Splitting.{CountsStop, SendsWhole, Splits, StopsSplit, StopsWhole}
+use Rattle.rq_command.proofs.Made.{IsPutFrom, made_put, made_stops}
 
 -- In the only round no part is compared with another one.
 unchanged : (order : Order) (key : Key) (first : Known) (before after there then : Contents) (told told' : KnownCalls) (part lost : ℕ) → IsFresh false first
@@ -90,42 +90,24 @@ module _ {R W : Type 0} (reader reader' : Counted R) (output output' : Output W)
 
 -- ---- what is put in its place
 
--- what is sent is put in its place, or couldn't be
-abbrev pub IsPutFrom : Bool → Result Sent Stop → Result Sent Stop → Type 0
-IsPutFrom is_whole made put = (made ≡ put) ⊎ ((is_whole ≡ true) × (put ≡ Err Fault))
-
 module _ (order : Order) (file : Option Contents) (input read after blank there then : Contents) (key : Key) (is_whole : Bool) (made put : Result Sent Stop)
     (keyed : IsKeyOf file key) (is_read : read ≡ input) (is_there : there ≡ blank) where
   pub splits : (new : Contents) (x : Sent) → put ≡ Ok x → IsPutFrom is_whole made put → IfOk made (SendsWhole order key read after there then) → new ≡ then
       → Splits order file input blank new x
-  splits new x is (inl same) sends is_new = record {
+  splits new x is from sends is_new = record {
     key = key;
     keyed = keyed;
     after = after;
-    sends = subst (λ (t : Contents). SendsWhole order key input after blank t x) (sym is_new)
-        (subst (λ (t : Contents). SendsWhole order key input after t then x) is_there
-        (subst (λ (i : Contents). SendsWhole order key i after there then x) is_read
-        (subst (λ (r : Result Sent Stop). IfOk r (SendsWhole order key read after there then)) (same ∙ is) sends)));
+    sends = made_put input read blank there then is_whole made put is_read is_there (λ i t n y. SendsWhole order key i after t n y) new x is from sends is_new;
   }
-  splits new x is (inr stopped) sends is_new = absurd (cc (is, stopped.1))
 
   pub stops_split : (stop : Stop) → put ≡ Err stop → IsPutFrom is_whole made put → IfErr made (StopsWhole order key read after there then)
       → StopsSplit order file input blank stop
-  stops_split stop is (inl same) stops = inr (
-    key,
-    after,
-    then,
-    keyed,
-    subst (λ (t : Contents). StopsWhole order key input after t then stop) is_there
-        (subst (λ (i : Contents). StopsWhole order key i after there then stop) is_read
-        (subst (λ (r : Result Sent Stop). IfErr r (StopsWhole order key read after there then)) (same ∙ is) stops)),
-  )
-  stops_split stop is (inr stopped) stops = let fault : Fault ≡ stop = cc (is, stopped.1) in inl (subst StopsReading fault tt)
-
--- what is put there was whole
-pub whole_from : (is_whole : Bool) (made put : Result Sent Stop) (x : Sent) → put ≡ Ok x → is_whole ≡ is_ok made → IsPutFrom is_whole made put → is_whole ≡ true
-whole_from is_whole made put x is whole (inl same) = whole ∙ ap is_ok (same ∙ is)
-whole_from is_whole made put x is whole (inr stopped) = stopped.0
+  stops_split stop is from stops =
+      elim (made_stops input read blank there then is_whole made put is_read is_there (λ i t n s. StopsWhole order key i after t n s) stop is from stops) [
+        | inl reading ↦ inl reading
+        | inr stopped ↦ inr (key, after, then, keyed, stopped)
+      ]
 
 -- no cell is lost, and no call failed
 pub sent_counted : (made put : Result Sent Stop) (is_whole : Bool) (order : Order) (key : Key) (before after there then : Contents) (x : Sent) → put ≡ Ok x
@@ -135,41 +117,3 @@ sent_counted made put is_whole order key before after there then x is (inl same)
     subst (λ (r : Result Sent Stop). IfOk r (SendsWhole order key before after there then)) (same ∙ is) sends in
     all.none_lost ∙ sym (ap counted none)
 sent_counted made put is_whole order key before after there then x is (inr stopped) sends n none = absurd (cc (is, stopped.1))
-
--- ---- failed calls
-
-module _ {R W : Type 0} (reader reader' : Counted R) (output output' : Output W) (is_whole : Bool) (made put : Result Sent Stop) (n : ℕ)
-    (unread : failed_count reader ≡ 0) (unwritten : failed_count (counting output) ≡ 0) (from : IsPutFrom is_whole made put)
-    (fails : FailsPutting is_whole put n) where
-  abbrev all : ℕ
-  all = failed_count reader' + (failed_count (counting output') + n)
-
-  of_fault : (r : Result Sent Stop) (stop : Stop) → r ≡ Err stop → IfErr r (CountsStop reader reader' output output') → stop ≡ Fault → 0 < all
-  of_fault r stop is counts fault =
-      let more : CountsStop reader reader' output output' Fault =
-      subst (CountsStop reader reader' output output') fault
-      (subst (λ (e : Result Sent Stop). IfErr e (CountsStop reader reader' output output')) is counts) in omega (arith, more, unread, unwritten)
-
-  pub fault_counted : (stop : Stop) → put ≡ Err stop → IfErr made (CountsStop reader reader' output output') → stop ≡ Fault → 0 < all
-  fault_counted stop is counts fault = elim from [
-    | inl same ↦ of_fault made stop (same ∙ is) counts fault
-    | inr stopped ↦
-        let put_so : FailsPutting {X = Sent} true (Err Fault) n =
-        subst (λ (b : Bool). FailsPutting {X = Sent} b (Err Fault) n) stopped.0 (subst (λ (r : Result Sent Stop). FailsPutting is_whole r n) stopped.1 fails) in
-        omega (arith, put_so.1)
-  ]
-
-  pub none_counted : (x : Sent) → put ≡ Ok x → is_whole ≡ is_ok made → OnOk made (failed_count reader' ≡ failed_count reader)
-      → OnOk made (CountsLost output output' 0 0) → all ≡ 0
-  none_counted x is whole reads writes = elim from [
-    | inl same ↦
-        let made_is : made ≡ Ok x = same ∙ is in
-        let read : failed_count reader' ≡ failed_count reader =
-        subst (λ (r : Result Sent Stop). OnOk r (failed_count reader' ≡ failed_count reader)) made_is reads in
-        let wrote : CountsLost output output' 0 0 = subst (λ (r : Result Sent Stop). OnOk r (CountsLost output output' 0 0)) made_is writes in
-        let is_true : is_whole ≡ true = whole ∙ ap is_ok made_is in
-        let none : n ≡ 0 =
-        subst (λ (b : Bool). FailsPutting {X = Sent} b (Ok x) n) is_true (subst (λ (r : Result Sent Stop). FailsPutting is_whole r n) is fails) in
-        omega (arith, read, wrote.failed, none, unread, unwritten)
-    | inr stopped ↦ absurd (cc (is, stopped.1))
-  ]

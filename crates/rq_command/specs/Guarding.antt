@@ -10,8 +10,10 @@ use Rattle.rq_guard.specs.declared.protecting.Guarded.{Guarded}
 use Rattle.rq_guard.specs.Protecting.{Protects, StopsProtecting}
 use Rattle.rq_words.specs.declared.jobs.ProtectJob.{ProtectJob}
 use Rattle.rq_devices.specs.Failed.{StopsReading}
+use Rattle.rq_devices.specs.Folder.{KeepsBut}
 use Rattle.rq_devices.specs.Keyed.{IsKeyOf, IsEmptyKey, key_file}
-use Rattle.rq_devices.specs.Placed.{Contents, Files}
+use Rattle.rq_devices.specs.Placed.{Contents, Files, guard_name}
+use Rattle.rq_devices.specs.Spots.{Spot, Spots, AtFile}
 use Rattle.rq_command.specs.declared.ending.End.{End}
 use Rattle.rq_command.specs.declared.ending.End.TheVariants.{EmptyKey, Protected, Stopped}
 
@@ -32,16 +34,20 @@ abbrev pub StopsGuard : GuardOrder → Option Contents → Contents → Contents
 StopsGuard order file input blank stop =
     StopsReading stop ⊎ ((key : Key) × (after : Contents) × (written : Contents) × IsKeyOf file key × StopsProtecting order key input after blank written stop)
 
--- How a run ends that guards what is read by the key of a file. The guard is in its place where it is whole, and only then.
-abbrev pub EndsProtect : GuardOrder → Option Contents → Contents → Contents → End → Contents → Contents → Type 0
-EndsProtect order file input blank EmptyKey old new = IsEmptyKey file × (new ≡ old)
-EndsProtect order file input blank (Protected made) old new = Guards order file input blank new made
-EndsProtect order file input blank (Stopped stop) old new = (new ≡ old) × StopsGuard order file input blank stop
-EndsProtect order file input blank _ old new = ⊥
+-- where the guard is put: in the place that is said, or in that which is named by the file
+abbrev pub guard_spot : ProtectJob → Spot
+guard_spot job = AtFile (guard_name job.file.now (option_map (λ s. s.now) job.output))
 
-abbrev pub EndsProtecting : ProtectJob → Files → Contents → End → Contents → Contents → Type 0
+-- How a run ends that guards what is read by the key of a file. The guard is in its place where it is whole, and only then.
+abbrev pub EndsProtect : GuardOrder → Option Contents → Contents → Spot → Spots → End → Spots → Spots → Type 0
+EndsProtect order file input spot blank EmptyKey old new = IsEmptyKey file × (new ≡ old)
+EndsProtect order file input spot blank (Protected made) old new = Guards order file input (blank spot) (new spot) made × KeepsBut spot old new
+EndsProtect order file input spot blank (Stopped stop) old new = (new ≡ old) × StopsGuard order file input (blank spot) stop
+EndsProtect order file input spot blank _ old new = ⊥
+
+abbrev pub EndsProtecting : ProtectJob → Files → Spots → End → Spots → Spots → Type 0
 EndsProtecting job stands blank ended old new =
-    EndsProtect (order_of job) (key_file stands (option_map (λ s. s.now) job.key)) (stands (job.file.now ∷ [])) blank ended old new
+    EndsProtect (order_of job) (key_file stands (option_map (λ s. s.now) job.key)) (stands (job.file.now ∷ [])) (guard_spot job) blank ended old new
 
 -- ---- what is found of a file
 

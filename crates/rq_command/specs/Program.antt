@@ -26,22 +26,23 @@ use Rattle.rq_words.specs.declared.values.TheConstants.{WIDEST_WINDOW}
 use Rattle.rq_words.specs.declared.jobs.Job.{Job}
 use Rattle.rq_words.specs.declared.jobs.Job.TheVariants.{Send, Receive, Follow, Info, Protect, Check, Repair, Split, Join}
 use Rattle.rq_words.specs.declared.jobs.SendJob.{SendJob}
+use Rattle.rq_words.specs.declared.jobs.ReceiveJob.{ReceiveJob}
 use Rattle.rq_words.specs.declared.jobs.CheckJob.{CheckJob}
 use Rattle.rq_words.specs.declared.jobs.RepairJob.{RepairJob}
 use Rattle.rq_command.specs.declared.ending.End.{End}
 use Rattle.rq_command.specs.declared.ending.End.TheVariants.{Unasked, AtTerminal, EmptyKey, Sent, Changed, Received, Followed, Surveyed, Checked, Repaired, Stopped}
 use Rattle.rq_command.specs.Guarding.{EndsProtecting, ByKey}
-use Rattle.rq_devices.specs.Placed.{guard_name}
+use Rattle.rq_devices.specs.Placed.{Contents, Files, guard_name}
 use Rattle.rq_guard_runs.specs.Guards.{Checks, Repairs, FailsRepaired}
 use Rattle.rq_words.specs.Asked.{AsksFor, IsRefused}
 use Rattle.rq_words.specs.Values.{times_of}
 use Rattle.rq_devices.specs.Failed.{Fails, StopsReading}
 use Rattle.rq_command.specs.Following.{FollowsAll}
-use Rattle.rq_devices.specs.Folder.{Folder, IsFiled}
+use Rattle.rq_devices.specs.Folder.{Folder, IsFiled, KeepsBut}
 use Rattle.rq_devices.specs.Keyed.{HasKey, IsEmptyKey, IsKeyOf, key_file}
 use Rattle.rq_command.specs.Outside.{Outside}
-use Rattle.rq_command.specs.Placed.{IsPlaced, is_whole}
-use Rattle.rq_devices.specs.Placed.{Contents, Files}
+use Rattle.rq_command.specs.Placed.{is_whole}
+use Rattle.rq_devices.specs.Spots.{Spot, Spots, OnOutput, AtFile, InFolder, IsFinished, output_spot}
 use Rattle.rq_command.specs.Rounds.{SendsRounds, StopsRounds}
 use Rattle.rq_command.specs.Splitting.{EndsSplitting}
 
@@ -83,14 +84,15 @@ pub record StopsAtEnd (order : Order) (rounds : ℕ) (file : Option Contents) (i
   pub failed : Fails outside.failed outside.failed_behind (lost + 1)
 
 -- Nothing was written, and no call told that begins a cell.
-abbrev pub SendsNothing : Outside → Contents → Contents → Type 0
+abbrev pub SendsNothing : Outside → Spots → Spots → Type 0
 SendsNothing outside old new = (new ≡ old) × (outside.told_behind ≡ outside.told)
 
 -- Nothing is sent, or some first parts are; or all are, and a call failed at the end.
-abbrev pub StopsSending : Order → ℕ → Option Contents → Contents → Outside → Contents → Stop → Contents → Contents → Type 0
+abbrev pub StopsSending : Order → ℕ → Option Contents → Contents → Outside → Contents → Stop → Spots → Spots → Type 0
 StopsSending order rounds file input outside blank stop old new =
     (SendsNothing outside old new × StopsUnsent order file input stop)
-    ⊎ (SendsSome order rounds file input outside blank new (By stop) ⊎ StopsAtEnd order rounds file input outside blank new stop)
+    ⊎ ((SendsSome order rounds file input outside blank (new OnOutput) (By stop) ⊎ StopsAtEnd order rounds file input outside blank (new OnOutput) stop)
+    × KeepsBut OnOutput old new)
 
 -- a run ended since its cells would have gone to a terminal
 abbrev pub is_at_terminal : End → Bool
@@ -103,11 +105,13 @@ MindsTerminal terminal ended = IfSome terminal (λ is. is ≡ is_at_terminal end
 
 -- How a run ends that sends what is read by the key of a file, in so many rounds. Nothing is read where its cells would go to a terminal, and nothing but the key
 -- where that is empty.
-abbrev pub EndsSend : Order → ℕ → Option Contents → Contents → Outside → Contents → End → Contents → Contents → Type 0
+abbrev pub EndsSend : Order → ℕ → Option Contents → Contents → Outside → Contents → End → Spots → Spots → Type 0
 EndsSend order rounds file input outside blank AtTerminal old new = SendsNothing outside old new
 EndsSend order rounds file input outside blank EmptyKey old new = IsEmptyKey file × SendsNothing outside old new
-EndsSend order rounds file input outside blank (Sent sent) old new = SendsAll order rounds file input outside blank new sent
-EndsSend order rounds file input outside blank (Changed part) old new = SendsSome order rounds file input outside blank new (Differs part)
+EndsSend order rounds file input outside blank (Sent sent) old new =
+    SendsAll order rounds file input outside blank (new OnOutput) sent × KeepsBut OnOutput old new
+EndsSend order rounds file input outside blank (Changed part) old new =
+    SendsSome order rounds file input outside blank (new OnOutput) (Differs part) × KeepsBut OnOutput old new
 EndsSend order rounds file input outside blank (Stopped stop) old new = StopsSending order rounds file input outside blank stop old new
 EndsSend order rounds file input outside blank _ old new = ⊥
 
@@ -119,8 +123,8 @@ read_behind None earlier rest = rest
 read_behind (Some state) earlier rest = option_append (earlier state) rest
 
 -- What is kept of a stream is taken away where that is whole and in its place, and only then: as much is kept there as a new writer holds.
-abbrev pub Forgets : Contents → Option (List ℕ) → Result Ending Stop → Folder → Folder → Type 0
-Forgets blank (Some state) (Ok (Written stream)) old new = IsFiled state blank old new
+abbrev pub Forgets : Spots → Option (List ℕ) → Result Ending Stop → Folder → Folder → Type 0
+Forgets blank (Some state) (Ok (Written stream)) old new = IsFiled state (blank (AtFile state)) old new
 Forgets blank _ result old new = new ≡ old
 
 -- A fault may come as it is.
@@ -130,8 +134,8 @@ EndsForgetting (Some state) put result = (put ≡ result) ⊎ ((is_whole put ≡
 
 -- A run over all rows ends so that takes the cells made by the key, and this is what it wrote. A fault may come when all is written, as it is put in its place,
 -- and then as what was kept of it is taken away.
-pub record Receives {X : Type 0} (name : List ℕ) (passed : List (List ℕ)) (window : ℕ) (file : Option Contents) (output : Option X) (state : Option (List ℕ))
-    (result : Result Ending Stop) (seen : Seen) (input : Contents) (outside : Outside) (blank old new : Contents) : Type 0 where
+pub record Receives (name : List ℕ) (passed : List (List ℕ)) (window : ℕ) (file : Option Contents) (spot : Spot) (state : Option (List ℕ))
+    (result : Result Ending Stop) (seen : Seen) (input : Contents) (outside : Outside) (blank old new : Spots) : Type 0 where
   pub key : Key
   pub keyed : IsKeyOf file key
   pub table : List TableRow
@@ -140,11 +144,11 @@ pub record Receives {X : Type 0} (name : List ℕ) (passed : List (List ℕ)) (w
   pub last : List ℕ
   pub written : Contents
   pub ended : Result Ending Stop
-  pub ends : EndsReceiving table (wish_over table key name passed) window ended seen (read_behind state outside.earlier input) after last blank written
+  pub ends : EndsReceiving table (wish_over table key name passed) window ended seen (read_behind state outside.earlier input) after last (blank spot) written
   pub patient : is_given_up ended ≡ false
   pub put : Result Ending Stop
   pub same : (ended ≡ put) ⊎ ((is_whole ended ≡ true) × (put ≡ Err Fault))
-  pub placed : IsPlaced output put written old new
+  pub placed : IsFinished spot (is_whole ended) put written old new
   pub behind : EndsForgetting state put result
   pub forgets : Forgets blank state result outside.earlier outside.earlier_behind
 
@@ -153,15 +157,14 @@ abbrev pub StopsBefore : Stop → Type 0
 StopsBefore Fault = ⊤
 StopsBefore (Refused e) = (e ≡ OutOfMemory) ⊎ (wanted_table FURTHER_ROWS ≡ Err e)
 
-abbrev pub EndsReceive : {X : Type 0} → List ℕ → List (List ℕ) → ℕ → Option Contents → Option X → Option (List ℕ) → Contents → Outside → Contents → End
-    → Contents → Contents → Type 0
-EndsReceive name passed window file output state input outside blank EmptyKey old new =
+abbrev pub EndsReceive : List ℕ → List (List ℕ) → ℕ → Option Contents → Spot → Option (List ℕ) → Contents → Outside → Spots → End → Spots → Spots → Type 0
+EndsReceive name passed window file spot state input outside blank EmptyKey old new =
     IsEmptyKey file × (new ≡ old) × (outside.earlier_behind ≡ outside.earlier)
-EndsReceive name passed window file output state input outside blank (Received result seen) old new =
-    Receives name passed window file output state result seen input outside blank old new
-EndsReceive name passed window file output state input outside blank (Stopped stop) old new =
+EndsReceive name passed window file spot state input outside blank (Received result seen) old new =
+    Receives name passed window file spot state result seen input outside blank old new
+EndsReceive name passed window file spot state input outside blank (Stopped stop) old new =
     StopsBefore stop × (new ≡ old) × (outside.earlier_behind ≡ outside.earlier)
-EndsReceive name passed window file output state input outside blank _ old new = ⊥
+EndsReceive name passed window file spot state input outside blank _ old new = ⊥
 
 -- Where the key is empty, or the run is stopped before the first read, the folder is as it was.
 abbrev pub EndsFollow : List (List ℕ) → ℕ → Option ℕ → Option Contents → Contents → Contents → End → Folder → Folder → Type 0
@@ -180,7 +183,7 @@ pub record Lists (file : Option Contents) (bytes : List ℕ) (standings : List S
   pub rows : wanted_table FURTHER_ROWS ≡ Ok table
   pub survey : IsSurvey table key WIDEST_WINDOW bytes standings
 
-abbrev pub EndsInfo : Option Contents → Contents → End → Contents → Contents → Type 0
+abbrev pub EndsInfo : Option Contents → Contents → End → Spots → Spots → Type 0
 EndsInfo file input EmptyKey old new = IsEmptyKey file × (new ≡ old)
 EndsInfo file input (Surveyed standings) old new = (new ≡ old) × IfSome input (λ bytes. Lists file bytes standings.items)
 EndsInfo file input (Stopped stop) old new = StopsBefore stop × (new ≡ old)
@@ -189,14 +192,14 @@ EndsInfo file input _ old new = ⊥
 -- ---- a file beside its guard
 
 -- What is found of a file by its guard. Nothing is put anywhere.
-abbrev pub EndsCheck : Option Contents → Contents → Contents → End → Contents → Contents → Type 0
+abbrev pub EndsCheck : Option Contents → Contents → Contents → End → Spots → Spots → Type 0
 EndsCheck key file guard EmptyKey old new = IsEmptyKey key × (new ≡ old)
 EndsCheck key file guard (Checked found) old new = ByKey key (λ table k. Checks table k file guard found) × (new ≡ old)
 EndsCheck key file guard (Stopped stop) old new = StopsBefore stop × (new ≡ old)
 EndsCheck key file guard _ old new = ⊥
 
 -- What is found of it, and that it is mended, in its place or another one. Where that isn't done whole, its place is as it was.
-abbrev pub EndsRepair : Option Contents → List ℕ → List ℕ → Option (List ℕ) → Files → Contents → End → Contents → Contents → Type 0
+abbrev pub EndsRepair : Option Contents → List ℕ → List ℕ → Option (List ℕ) → Files → Spots → End → Spots → Spots → Type 0
 EndsRepair key file guard said stands blank EmptyKey old new = IsEmptyKey key × (new ≡ old)
 EndsRepair key file guard said stands blank (Repaired found) old new =
     ByKey key (λ table k. Repairs table k (λ s. s (file ∷ [])) (λ s. s (guard ∷ [])) file said stands blank found old new)
@@ -215,16 +218,23 @@ end_of (Ok ended) = ended
 end_of (Err stop) = Stopped stop
 
 -- What is known beside it, what stands in files, by their names, what a new writer holds, and what stands where is written before and after.
-abbrev pub EndsSending : SendJob → Outside → (List (List ℕ) → Contents) → Contents → End → Contents → Contents → Type 0
+abbrev pub EndsSending : SendJob → Outside → (List (List ℕ) → Contents) → Spots → End → Spots → Spots → Type 0
 EndsSending job outside stands blank ended old new =
-    EndsSend job.order (times_of job.rounds) (key_file stands (option_map (λ s. s.now) job.key)) (stands (map (λ s. s.now) job.files.items)) outside blank ended old new
+    EndsSend job.order (times_of job.rounds) (key_file stands (option_map (λ s. s.now) job.key)) (stands (map (λ s. s.now) job.files.items)) outside
+    (blank OnOutput) ended old new
 
-abbrev pub EndsChecking : CheckJob → Files → End → Contents → Contents → Type 0
+abbrev pub EndsReceiveJob : ReceiveJob → Outside → Files → Spots → End → Spots → Spots → Type 0
+EndsReceiveJob job outside stands blank ended old new =
+    EndsReceive job.name.items (map (λ v. v.items) job.passed.items) job.window (key_file stands (option_map (λ s. s.now) job.key))
+    (output_spot (option_map (λ s. s.now) job.output)) (option_map (λ s. s.now) job.state) (stands (map (λ s. s.now) job.files.items)) outside blank ended
+    old new
+
+abbrev pub EndsChecking : CheckJob → Files → End → Spots → Spots → Type 0
 EndsChecking job stands ended old new =
     let guard = guard_name job.file.now (option_map (λ s. s.now) job.guard) in
     EndsCheck (key_file stands (option_map (λ s. s.now) job.key)) (stands (job.file.now ∷ [])) (stands (guard ∷ [])) ended old new
 
-abbrev pub EndsRepairing : RepairJob → Files → Contents → End → Contents → Contents → Type 0
+abbrev pub EndsRepairing : RepairJob → Files → Spots → End → Spots → Spots → Type 0
 EndsRepairing job stands blank ended old new =
     let guard = guard_name job.file.now (option_map (λ s. s.now) job.guard) in
     EndsRepair (key_file stands (option_map (λ s. s.now) job.key)) job.file.now guard (option_map (λ s. s.now) job.output) stands blank ended old new
@@ -234,14 +244,13 @@ abbrev pub LeavesEarlier : Outside → Type 0
 LeavesEarlier outside = outside.earlier_behind ≡ outside.earlier
 
 -- The same, and what a folder holds before and after. A run that looks through files leaves them as they are.
-abbrev pub EndsJob : Job → Outside → (List (List ℕ) → Contents) → Contents → End → Contents → Contents → Folder → Folder → Type 0
+abbrev pub EndsJob : Job → Outside → (List (List ℕ) → Contents) → Spots → End → Spots → Spots → Folder → Folder → Type 0
 EndsJob (Send job) outside stands blank ended old new held held' =
     MindsTerminal outside.terminal ended × EndsSending job outside stands blank ended old new × (held' ≡ held) × LeavesEarlier outside
-EndsJob (Receive job) outside stands blank ended old new held held' =
-    EndsReceive job.name.items (map (λ v. v.items) job.passed.items) job.window (key_file stands (option_map (λ s. s.now) job.key)) job.output
-    (option_map (λ s. s.now) job.state) (stands (map (λ s. s.now) job.files.items)) outside blank ended old new × (held' ≡ held)
+EndsJob (Receive job) outside stands blank ended old new held held' = EndsReceiveJob job outside stands blank ended old new × (held' ≡ held)
 EndsJob (Follow job) outside stands blank ended old new held held' =
-    EndsFollow (map (λ v. v.items) job.passed.items) job.window job.timeout (key_file stands (option_map (λ s. s.now) job.key)) (stands (map (λ s. s.now) job.files.items)) blank ended held held'
+    EndsFollow (map (λ v. v.items) job.passed.items) job.window job.timeout (key_file stands (option_map (λ s. s.now) job.key)) (stands (map (λ s. s.now) job.files.items))
+    (blank (InFolder job.folder.now)) ended held held'
     × (new ≡ old) × LeavesEarlier outside
 EndsJob (Info job) outside stands blank ended old new held held' =
     EndsInfo (key_file stands (option_map (λ s. s.now) job.key)) (stands (map (λ s. s.now) job.files.items)) ended old new × (held' ≡ held)
@@ -254,12 +263,10 @@ EndsJob (Repair job) outside stands blank ended old new held held' =
     EndsRepairing job stands blank ended old new × (held' ≡ held) × LeavesEarlier outside
 EndsJob (Split job) outside stands blank ended old new held held' =
     EndsSplitting job stands blank ended old new × (held' ≡ held) × LeavesEarlier outside
-EndsJob (Join job) outside stands blank ended old new held held' =
-    EndsReceive job.name.items (map (λ v. v.items) job.passed.items) job.window (key_file stands (option_map (λ s. s.now) job.key)) job.output
-    (option_map (λ s. s.now) job.state) (stands (map (λ s. s.now) job.files.items)) outside blank ended old new × (held' ≡ held)
+EndsJob (Join job) outside stands blank ended old new held held' = EndsReceiveJob job outside stands blank ended old new × (held' ≡ held)
 
 -- What the words ask for is done. Where they are refused, nothing is.
-abbrev pub Does : List (List ℕ) → Outside → (List (List ℕ) → Contents) → Contents → End → Contents → Contents → Folder → Folder → Type 0
+abbrev pub Does : List (List ℕ) → Outside → (List (List ℕ) → Contents) → Spots → End → Spots → Spots → Folder → Folder → Type 0
 Does words outside stands blank (Unasked e) old new held held' =
     IsRefused words (kind_of e) × (new ≡ old) × (held' ≡ held) × LeavesEarlier outside × (outside.stands_behind ≡ stands)
 Does words outside stands blank ended old new held held' = (job : Job) × AsksFor words job × EndsJob job outside stands blank ended old new held held'

@@ -16,8 +16,10 @@ use Rattle.rq_cast.specs.SentParts.{SendsStream, StopsStream}
 use Rattle.rq_cells.specs.Cells.{Key}
 use Rattle.rq_words.specs.declared.jobs.SplitJob.{SplitJob}
 use Rattle.rq_devices.specs.Failed.{StopsReading}
+use Rattle.rq_devices.specs.Folder.{KeepsBut}
 use Rattle.rq_devices.specs.Keyed.{IsKeyOf, IsEmptyKey, key_file}
 use Rattle.rq_devices.specs.Placed.{Contents, Files}
+use Rattle.rq_devices.specs.Spots.{Spot, Spots, AsShards}
 use Rattle.rq_command.specs.declared.ending.End.{End}
 use Rattle.rq_command.specs.declared.ending.End.TheVariants.{EmptyKey, Sent, Stopped}
 use Rattle.rq_command.specs.Outside.{KnownCalls}
@@ -79,13 +81,17 @@ abbrev pub StopsSplit : Order → Option Contents → Contents → Contents → 
 StopsSplit order file input blank stop =
     StopsReading stop ⊎ ((key : Key) × (after : Contents) × (written : Contents) × IsKeyOf file key × StopsWhole order key input after blank written stop)
 
--- How a run ends that splits what is read by the key of a file. The shards are in their place where all are whole, and only then.
-abbrev pub EndsSplit : Order → Option Contents → Contents → Contents → End → Contents → Contents → Type 0
-EndsSplit order file input blank EmptyKey old new = IsEmptyKey file × (new ≡ old)
-EndsSplit order file input blank (Sent sent) old new = Splits order file input blank new sent
-EndsSplit order file input blank (Stopped stop) old new = (new ≡ old) × StopsSplit order file input blank stop
-EndsSplit order file input blank _ old new = ⊥
+-- where the shards are put: in the folder's place, as many as there are to be of the file
+abbrev pub shards_spot : SplitJob → Spot
+shards_spot job = AsShards job.folder.now job.file.now job.shares.all
 
-abbrev pub EndsSplitting : SplitJob → Files → Contents → End → Contents → Contents → Type 0
+-- How a run ends that splits what is read by the key of a file. The shards are in their place where all are whole, and only then.
+abbrev pub EndsSplit : Order → Option Contents → Contents → Spot → Spots → End → Spots → Spots → Type 0
+EndsSplit order file input spot blank EmptyKey old new = IsEmptyKey file × (new ≡ old)
+EndsSplit order file input spot blank (Sent sent) old new = Splits order file input (blank spot) (new spot) sent × KeepsBut spot old new
+EndsSplit order file input spot blank (Stopped stop) old new = (new ≡ old) × StopsSplit order file input (blank spot) stop
+EndsSplit order file input spot blank _ old new = ⊥
+
+abbrev pub EndsSplitting : SplitJob → Files → Spots → End → Spots → Spots → Type 0
 EndsSplitting job stands blank ended old new =
-    EndsSplit (order_of job) (key_file stands (option_map (λ s. s.now) job.key)) (stands (job.file.now ∷ [])) blank ended old new
+    EndsSplit (order_of job) (key_file stands (option_map (λ s. s.now) job.key)) (stands (job.file.now ∷ [])) (shards_spot job) blank ended old new

@@ -5,6 +5,7 @@ ghost use Rattle.rq_streams.specs.Ends.{failed_calls};
 ghost use Rattle.rq_cast.specs.Received.{is_given_up, wish_over};
 ghost use Rattle.rq_cast.specs.Input.{counted_of, is_put_back, last_piece, unread};
 ghost use Rattle.rq_devices.specs.Failed.{Fails};
+ghost use Rattle.rq_devices.specs.Spots.{InFolder};
 ghost use Rattle.rq_command.specs.Following.{EndsOne, FiledBy, PassesOver, FollowsUpTo, over, with_one};
 ghost use Rattle.rq_command.specs.Program.{FailsReceiving};
 
@@ -102,7 +103,7 @@ fn follow_one<'w, D: Devices<'w>, T: Teller>(
 ) -> (Result<Ending, Stop>, Seen)
     requires window { 0 < run.now.window }
     requires none { failed_count (counted_of input.old) ≡ 0 }
-    ensures one { EndsOne run.now.table.now (wish_over run.now.table.now run.now.key.now [] (map (λ v. v.items) passed.now)) run.now.window D.blank
+    ensures one { EndsOne run.now.table.now (wish_over run.now.table.now run.now.key.now [] (map (λ v. v.items) passed.now)) run.now.window (D.blank (InFolder run.now.folder.now))
         result.0 result.1 (unread D.Reader.remaining input.old) (unread D.Reader.remaining input.new) (last_piece input.new) (D.filed devices.old) (D.filed devices.new) }
     ensures kept { D.placed devices.new ≡ D.placed devices.old }
     ensures earlier { D.earlier devices.new ≡ D.earlier devices.old }
@@ -166,7 +167,7 @@ pub(crate) fn follow_all<'w, D: Devices<'w>, T: Teller>(
 ) -> (Streams, Result<Ending, Stop>, Seen)
     requires window { 0 < run.now.window }
     requires none { failed_count (counted_of input) ≡ 0 }
-    ensures all { FollowsUpTo run.now.table.now run.now.key.now (map (λ v. v.items) passed.items) run.now.window run.now.timeout D.blank
+    ensures all { FollowsUpTo run.now.table.now run.now.key.now (map (λ v. v.items) passed.items) run.now.window run.now.timeout (D.blank (InFolder run.now.folder.now))
         (unread D.Reader.remaining input) result.0 result.1 result.2 (D.filed devices.old) (D.filed devices.new) }
     ensures kept { D.placed devices.new ≡ D.placed devices.old }
     ensures earlier { D.earlier devices.new ≡ D.earlier devices.old }

@@ -1,6 +1,5 @@
 //! A file beside its guard: looked through, and mended.
 ghost use Rattle.std.specs.Prelude.{◌≡◌};
-ghost use Rattle.rq_guard_runs.specs.Guards.{stays};
 ghost use Rattle.rq_command.specs.Program.{EndsChecking, EndsRepairing, end_of, Failures};
 
 use crate::ending::End;
@@ -43,7 +42,7 @@ pub(crate) fn check<'w, D: Devices<'w>, T: Teller>(
 }
 
 /// Mends a file by its guard, and puts it in its place, or where it is to be. One that is whole stays as it is, and so
-/// does one that has no symbol that is: it may be another file.
+/// does one of which at most a hundredth is: it may be another file.
 pub(crate) fn repair<'w, D: Devices<'w>, T: Teller>(
     alloc: Global,
     job: &RepairJob<'w>,

@@ -14,6 +14,6 @@ mod splitting;
 pub use ending::{End, Streams};
 pub use messages::{announce, write_end, write_standings};
 pub use program::run;
-pub use rq_devices::{Devices, Teller};
+pub use rq_devices::{Devices, Place, Teller};
 pub use rq_guard_runs::{Findings, write_findings};
 pub use rq_words::{InfoJob, Job, ReceiveJob, Rounds, SendJob, SplitJob, Telling, job};

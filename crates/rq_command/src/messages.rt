@@ -139,11 +139,21 @@ fn reason_of(refusal: Error) -> &'static str {
     }
 }
 
-// Says what is missing of a stream of which so many parts came.
+// What to do where too few packets came, of shards or else.
+fn advice(joins: bool) -> &'static str {
+    if joins {
+        "put more of its shards into the folder, and join them again"
+    } else {
+        "keep the cells, and have others sent by a greater --repair and --from"
+    }
+}
+
+// Says what is missing of a stream of which so many parts came, and how to get it.
 fn write_missing<W: Write>(
     parts: u32,
     missing: Option<u64>,
     seen: &Seen,
+    advice: &str,
     out: &mut W,
 ) -> io::Result<()> {
     write!(out, "rqcast: ")?;
@@ -154,7 +164,7 @@ fn write_missing<W: Write>(
     match missing {
         Some(missing) => writeln!(
             out,
-            "{next} takes {missing} more {}: keep the cells, and have others sent by a greater --repair and --from",
+            "{next} takes {missing} more {}: {advice}",
             counted(missing)
         ),
         None if parts > 0 => writeln!(out, "no cell came of the next one"),
@@ -164,20 +174,20 @@ fn write_missing<W: Write>(
 }
 
 // Says how a run ended that didn't write all, and what may help.
-fn write_ending<W: Write>(ending: Ending, seen: &Seen, out: &mut W) -> io::Result<()> {
+fn write_ending<W: Write>(ending: Ending, seen: &Seen, joins: bool, out: &mut W) -> io::Result<()> {
     let Ending::Incomplete { parts, missing } = ending else {
         return Ok(());
     };
     // Who joined late lacks the first part whole, and no window helps.
     let is_late = parts == 0 && missing.is_none();
-    if seen.ahead > 0 && !is_late {
+    if seen.ahead > 0 && !is_late && !joins {
         let (ahead, noun) = (seen.ahead, if seen.ahead == 1 { "cell" } else { "cells" });
         writeln!(
             out,
             "rqcast: {ahead} {noun} came of parts beyond the window: --window keeps more of them"
         )?;
     }
-    write_missing(parts, missing, seen, out)
+    write_missing(parts, missing, seen, advice(joins), out)
 }
 
 // Says how many streams were given up.
@@ -203,9 +213,9 @@ fn write_stop<W: Write>(stop: Stop, out: &mut W) -> io::Result<()> {
     }
 }
 
-/// Writes the line that says why not all is done, where it isn't; but for a failed call, of which the devices
-/// know why, and for words that ask for no job, of which their error says it.
-pub fn write_end<W: Write>(end: &End, out: &mut W) -> io::Result<()> {
+/// Writes the line that says why not all is done, where it isn't, as shards were joined or else; but for a failed
+/// call, of which the devices know why, and for words that ask for no job, of which their error says it.
+pub fn write_end<W: Write>(end: &End, joins: bool, out: &mut W) -> io::Result<()> {
     match end {
         End::Unasked(_) => Ok(()),
         End::AtTerminal => writeln!(
@@ -231,13 +241,13 @@ pub fn write_end<W: Write>(end: &End, out: &mut W) -> io::Result<()> {
             out,
             "rqcast: FILE changed between rounds: part {part} isn't what it was"
         ),
-        End::Received(Ok(ending), seen) => write_ending(*ending, seen, out),
+        End::Received(Ok(ending), seen) => write_ending(*ending, seen, joins, out),
         End::Received(Err(stop), _) => write_stop(*stop, out),
         End::Followed(_, Ok(Ending::Incomplete { .. }), _) if end.status() == 0 => Ok(()),
         End::Followed(streams, Ok(_), seen) if streams.given_up > 0 && seen.cells == 0 => {
             write_given_up(streams.given_up, out)
         }
-        End::Followed(_, Ok(ending), seen) => write_ending(*ending, seen, out),
+        End::Followed(_, Ok(ending), seen) => write_ending(*ending, seen, joins, out),
         End::Followed(_, Err(stop), _) => write_stop(*stop, out),
         End::Surveyed(standings) if standings.is_empty() => {
             writeln!(out, "rqcast: no cell is there")

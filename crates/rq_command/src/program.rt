@@ -6,7 +6,8 @@ ghost use Rattle.rq_devices.specs.Failed.{Fails};
 ghost use Rattle.rq_words.specs.Values.{times_of};
 ghost use Rattle.rq_devices.specs.Keyed.{key_file, IsKeyRead};
 ghost use Rattle.rq_command.specs.Outside.{outside};
-ghost use Rattle.rq_command.specs.Placed.{is_whole, IsPlaced};
+ghost use Rattle.rq_devices.specs.Spots.{IsFinished, spot_of};
+ghost use Rattle.rq_command.specs.Placed.{is_whole};
 ghost use Rattle.rq_command.specs.Program.{StopsJob, MindsTerminal, EndsSending, EndsForgetting, EndsJob, Forgets, end_of, Does, FailsReceiving, Failures, read_behind};
 
 use crate::ending::End;
@@ -17,7 +18,7 @@ use crate::rounds::{Rounds, open_files, send_rounds};
 use crate::splitting::split;
 use rq_cast::{Ending, Halt, Input, Seen, check_length, run_receive, standings_in};
 use rq_cells::{Key, Wanted};
-use rq_devices::{Devices, Teller, Told, key_of, read_whole};
+use rq_devices::{Devices, Place, Teller, Told, key_of, put, read_whole};
 use rq_rows::full_table;
 use rq_streams::{Counted, Stop};
 use rq_words::{FollowJob, InfoJob, Job, ReceiveJob, SendJob, WIDEST_WINDOW, job};
@@ -81,10 +82,10 @@ fn send<'w, D: Devices<'w>, T: Teller>(
     let Some((key, reader)) = prepare(alloc, &job, devices, teller)? else {
         return Ok(End::EmptyKey);
     };
-    let writer = devices.create(None)?;
+    let writer = devices.create(Place::Output)?;
     let rounds = Rounds::new(alloc, job, key, writer);
     let (writer, sent) = send_rounds(alloc, rounds, reader, devices, teller);
-    let finished = devices.finish(None, writer, sent.is_ok());
+    let finished = devices.finish(Place::Output, writer, sent.is_ok());
     match sent {
         Ok(sent) => {
             finished?;
@@ -102,27 +103,22 @@ fn is_whole(ended: &Result<Ending, Stop>) -> bool
     matches!(ended, Ok(Ending::Written { .. }))
 }
 
-// Puts what was received in its place where it is all written, and else takes it away, at which a failed call
-// is no fault of the run.
-fn place<'w, D: Devices<'w>>(
+// Puts what was received in its place where it is all written.
+fn put_received<'w, D: Devices<'w>>(
     devices: &mut D,
-    file: Option<&'w str>,
+    place: Place<'w>,
     writer: D::Writer,
     ended: Result<Ending, Stop>,
 ) -> Result<Ending, Stop>
     requires { is_given_up ended ≡ false }
     ensures same { (ended ≡ result) ⊎ ((is_whole ended ≡ true) × (result ≡ Err Stop.Fault)) }
-    ensures placed { IsPlaced file.entry result (D.Writer.contents writer) (D.placed devices.old) (D.placed devices.new) }
+    ensures placed { IsFinished (spot_of place.entry) (is_whole ended) result (D.Writer.contents writer) (D.placed devices.old) (D.placed devices.new) }
     ensures failures { (n : ℕ) × Fails (D.failed devices.old) (D.failed devices.new) n × FailsReceiving result (failed_calls ended + n) }
     ensures filed { D.filed devices.new ≡ D.filed devices.old }
     ensures earlier { D.earlier devices.new ≡ D.earlier devices.old }
 {
-    if !is_whole(&ended) {
-        let _ = devices.finish(file, writer, false);
-        return ended;
-    }
-    devices.finish(file, writer, true)?;
-    ended
+    let whole = is_whole(&ended);
+    put(devices, place, writer, ended, whole)
 }
 
 // Opens what is received, behind what earlier runs kept of it, where there is a file for that.
@@ -202,7 +198,8 @@ fn receive<'w, D: Devices<'w>, T: Teller>(
     };
     let reader = open_input(devices, state, files)?;
     teller.begin(telling, None, devices.length(&reader));
-    let mut writer = Counted::new(devices.create(output)?);
+    let there = Place::of(output);
+    let mut writer = Counted::new(devices.create(there)?);
     let mut input = Input::new(Counted::new(reader));
     let mut seen = Seen::default();
     let ended = run_receive(
@@ -217,8 +214,8 @@ fn receive<'w, D: Devices<'w>, T: Teller>(
     );
     devices.count(&input.into_counted());
     devices.count(&writer);
-    let put = place(devices, output, writer.into_inner(), ended);
-    Ok(End::Received(forget(devices, state, put), seen))
+    let placed = put_received(devices, there, writer.into_inner(), ended);
+    Ok(End::Received(forget(devices, state, placed), seen))
 }
 
 // Receives streams one after another.

@@ -9,7 +9,7 @@ ghost use Rattle.rq_command.specs.Program.{end_of, Failures};
 use crate::ending::End;
 use crate::rounds::open_files;
 use rq_cast::{Output, Pace, Sender};
-use rq_devices::{Devices, Teller, Told, key_of, put};
+use rq_devices::{Devices, Place, Teller, Told, key_of, put};
 use rq_guard::{GuardOrder, protect};
 use rq_streams::{Counted, Stop};
 use rq_words::ProtectJob;
@@ -27,7 +27,7 @@ impl Pace for AtOnce {
     fn tell_call(&mut self, _cell: &[u8], _is_lost: bool) {}
 }
 
-// Where the guard is put.
+// In which file's place the guard is put.
 fn place_of<'w, D: Devices<'w>>(job: &ProtectJob<'w>, devices: &mut D) -> Result<&'w str, Stop>
     ensures place { IfOk result (λ s. s.now ≡ guard_name job.entry.now.file.now (option_map (λ s. s.now) job.entry.now.output)) }
     ensures stops { IfErr result StopsReading }
@@ -60,9 +60,10 @@ pub(crate) fn protect_file<'w, D: Devices<'w>, T: Teller>(
         return Ok(End::EmptyKey);
     };
     let guard = place_of(job, devices)?;
+    let place = Place::File(guard);
     let reader = open_files(alloc, &[job.file], devices)?;
     teller.begin(job.telling, None, devices.length(&reader));
-    let mut output = Output::new(Counted::new(devices.create(Some(guard))?));
+    let mut output = Output::new(Counted::new(devices.create(place)?));
     let mut input = Counted::new(Told::new(reader, teller));
     let order = GuardOrder {
         part: job.part,
@@ -73,6 +74,6 @@ pub(crate) fn protect_file<'w, D: Devices<'w>, T: Teller>(
     let counted = output.into_counted();
     devices.count(&counted);
     let is_whole = made.is_ok();
-    let made = put(devices, guard, counted.into_inner(), made, is_whole)?;
+    let made = put(devices, place, counted.into_inner(), made, is_whole)?;
     Ok(End::Protected(made))
 }

@@ -9,7 +9,7 @@ use crate::ending::End;
 use crate::rounds::open_files;
 use rq_cast::{Halt, Ids, Known, Order, Output, Pace, Repair, Sent, send_stream};
 use rq_cells::Key;
-use rq_devices::{Devices, Teller, key_of, put};
+use rq_devices::{Devices, Place, Teller, key_of, put};
 use rq_streams::{Counted, Stop};
 use rq_words::SplitJob;
 use std::alloc::Global;
@@ -84,8 +84,12 @@ pub(crate) fn split<'w, D: Devices<'w>, T: Teller>(
     };
     let reader = open_files(alloc, &[job.file], devices)?;
     teller.begin(job.telling, None, devices.length(&reader));
-    let writer = devices.create_shards(job.folder, job.file, job.shares.all)?;
-    let mut output = Output::new(Counted::new(writer));
+    let place = Place::Shards {
+        folder: job.folder,
+        file: job.file,
+        count: job.shares.all,
+    };
+    let mut output = Output::new(Counted::new(devices.create(place)?));
     let mut input = Counted::new(reader);
     let order = order_of(job);
     let made = send_whole(alloc, &order, &key, &mut input, &mut output, teller);
@@ -93,6 +97,6 @@ pub(crate) fn split<'w, D: Devices<'w>, T: Teller>(
     let counted = output.into_counted();
     devices.count(&counted);
     let is_whole = made.is_ok();
-    let made = put(devices, job.folder, counted.into_inner(), made, is_whole)?;
+    let made = put(devices, place, counted.into_inner(), made, is_whole)?;
     Ok(End::Sent(made))
 }

@@ -7,10 +7,14 @@ use Rattle.rq_devices.specs.Placed.{Contents}
 abbrev pub Folder : Type 0
 Folder = List ℕ → Contents
 
+-- Under all names but this stands what stood there.
+abbrev pub KeepsBut : {N : Type 0} → N → (N → Contents) → (N → Contents) → Type 0
+KeepsBut {N} name old new = (other : N) → other ≢ name → new other ≡ old other
+
 -- This stands there under a name, and under all others what stood there.
-pub record IsFiled (name : List ℕ) (written : Contents) (old new : Folder) : Type 0 where
+pub record IsFiled {N : Type 0} (name : N) (written : Contents) (old new : N → Contents) : Type 0 where
   pub there : new name ≡ written
-  pub others : (other : List ℕ) → other ≢ name → new other ≡ old other
+  pub others : KeepsBut name old new
 
 -- What is whole is put there under its name, where it could be, and nothing else is.
 abbrev pub IsKept : {D : Type 0} → Option (List ℕ) → Result D Stop → Contents → Folder → Folder → Type 0

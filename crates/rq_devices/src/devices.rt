@@ -1,13 +1,14 @@
 //! What a run reads from, writes to and tells.
-ghost use Rattle.std.specs.Prelude.{◌≡◌, ℕ, Bool, List, [], ◌∷◌, length, Option, None, Some, false, map, option_map, IfOk, IfErr, IfNone, IfSome};
+ghost use Rattle.std.specs.Prelude.{◌≡◌, ℕ, Bool, List, [], ◌∷◌, length, Option, None, Some, false, map, option_map, IfOk, IfErr, IfSome};
 ghost use Rattle.std.specs.Fmt.{option_append};
 ghost use Rattle.rq_streams.specs.Counted.{failed_count};
 ghost use Rattle.rq_streams.specs.Ends.{failed_calls};
 ghost use Rattle.rq_devices.specs.Failed.{Fails, StopsReading};
 ghost use Rattle.rq_devices.specs.Folder.{IsKept};
-ghost use Rattle.rq_devices.specs.Placed.{guard_name};
-ghost use Rattle.rq_devices.specs.Placed.{IsEmpty, IsFinished, StandsBut, beside};
+ghost use Rattle.rq_devices.specs.Placed.{guard_name, IsEmpty};
+ghost use Rattle.rq_devices.specs.Spots.{Spot, AtFile, InFolder, IsFinished, StandsBeside, spot_of};
 
+use crate::placing::Place;
 use rq_cast::{Ending, Pace, Progress, Seen};
 use rq_cells::STREAM_LENGTH;
 use rq_streams::{Counted, Stop};
@@ -28,7 +29,7 @@ pub trait Devices<'w> {
     ghost stands: { Self → List (List ℕ) → Option (List ℕ) };
 
     /// What stands where the run puts what it writes: of a folder of shards all their cells, as they were written.
-    ghost placed: { Self → Option (List ℕ) };
+    ghost placed: { Self → Spot → Option (List ℕ) };
 
     /// What stands in the folder of streams that are taken one after another, by their names.
     ghost filed: { Self → List ℕ → Option (List ℕ) } = { λ _ _. None };
@@ -36,8 +37,8 @@ pub trait Devices<'w> {
     /// What earlier runs kept of their input in files, by their names: nothing where there is no such file.
     ghost earlier: { Self → List ℕ → Option (List ℕ) } = { λ _ _. None };
 
-    /// What a new writer holds: nothing, where what is written is known.
-    ghost blank: { Option (List ℕ) };
+    /// What a new writer holds, by where that is put: nothing, where what is written is known.
+    ghost blank: { Spot → Option (List ℕ) };
 
     /// Whether standard output is a terminal, where that is known.
     ghost terminal: { Self → Option Bool } = { λ _. None };
@@ -78,7 +79,7 @@ pub trait Devices<'w> {
         ensures counts { Fails (failed self.old) (failed self.new) (failed_calls result) }
         ensures kept { placed self.new ≡ placed self.old }
         ensures filed { filed self.new ≡ filed self.old }
-        ensures earlier { IsKept (Some state.entry.now) result blank (earlier self.old) (earlier self.new) };
+        ensures earlier { IsKept (Some state.entry.now) result (blank (AtFile state.entry.now)) (earlier self.old) (earlier self.new) };
 
     /// What reads a file, and whether there is such a file: else it reads nothing.
     fn open_if_there(&mut self, file: &'w str) -> Result<(Self::Reader, bool), Stop>
@@ -126,36 +127,32 @@ pub trait Devices<'w> {
         ensures filed { filed self.new ≡ filed self.old }
         ensures earlier { earlier self.new ≡ earlier self.old };
 
-    /// What writes beside a file, or on standard output.
-    fn create(&mut self, file: Option<&'w str>) -> Result<Self::Writer, Stop>
-        ensures blank { IfOk result (λ w. Self.Writer.contents w ≡ blank) }
-        ensures empty { IsEmpty blank }
+    /// What writes on standard output, or beside a place. Into shards it writes cells: a call begins one, which goes into
+    /// the shard whose number is what is left of its encoding symbol id, divided by how many there are. They have the
+    /// rights of the file that is split, and their folder isn't there yet.
+    fn create(&mut self, place: Place<'w>) -> Result<Self::Writer, Stop>
+        ensures blank { IfOk result (λ w. Self.Writer.contents w ≡ blank (spot_of place.entry)) }
+        ensures empty { IsEmpty (blank (spot_of place.entry)) }
         ensures fault { IfErr result (λ stop. stop ≡ Stop.Fault) }
         ensures counts { Fails (failed self.old) (failed self.new) (failed_calls result) }
-        ensures stays { IfNone file.entry (stands self.new ≡ stands self.old) }
-        ensures others { IfSome file.entry (λ place. StandsBut (beside place.now) (stands self.old) (stands self.new)) }
+        ensures stays { StandsBeside (spot_of place.entry) (stands self.old) (stands self.new) }
         ensures kept { placed self.new ≡ placed self.old }
         ensures filed { filed self.new ≡ filed self.old }
         ensures earlier { earlier self.new ≡ earlier self.old };
 
-    /// Puts what is written in the file's place where it is whole, and takes it away where it isn't. What is
-    /// written on standard output is in its place.
-    fn finish(
-        &mut self,
-        file: Option<&'w str>,
-        writer: Self::Writer,
-        is_whole: bool,
-    ) -> Result<(), Stop>
+    /// Puts what is written in its place where it is whole, and takes it away where it isn't. What is written on standard
+    /// output is there. Shards are put there only where the file is what it was.
+    fn finish(&mut self, place: Place<'w>, writer: Self::Writer, is_whole: bool) -> Result<(), Stop>
         ensures fault { IfErr result (λ stop. stop ≡ Stop.Fault) }
         ensures counts { Fails (failed self.old) (failed self.new) (failed_calls result) }
-        ensures placed { IsFinished file.entry is_whole result (Self.Writer.contents writer) (placed self.old) (placed self.new) }
+        ensures placed { IsFinished (spot_of place.entry) is_whole result (Self.Writer.contents writer) (placed self.old) (placed self.new) }
         ensures filed { filed self.new ≡ filed self.old }
         ensures earlier { earlier self.new ≡ earlier self.old };
 
     /// What writes in a folder, under a name that is no stream's.
     fn create_in(&mut self, folder: &'w str) -> Result<Self::Writer, Stop>
-        ensures blank { IfOk result (λ w. Self.Writer.contents w ≡ blank) }
-        ensures empty { IsEmpty blank }
+        ensures blank { IfOk result (λ w. Self.Writer.contents w ≡ blank (InFolder folder.entry.now)) }
+        ensures empty { IsEmpty (blank (InFolder folder.entry.now)) }
         ensures fault { IfErr result (λ stop. stop ≡ Stop.Fault) }
         ensures counts { Fails (failed self.old) (failed self.new) (failed_calls result) }
         ensures kept { placed self.new ≡ placed self.old }
@@ -173,23 +170,6 @@ pub trait Devices<'w> {
         ensures counts { Fails (failed self.old) (failed self.new) (failed_calls result) }
         ensures kept { placed self.new ≡ placed self.old }
         ensures filed { IsKept stream result (Self.Writer.contents writer) (filed self.old) (filed self.new) }
-        ensures earlier { earlier self.new ≡ earlier self.old };
-
-    /// What writes cells into so many shards, in a folder that isn't there yet, with the rights of a file. A call begins
-    /// a cell, which goes into the shard whose number is what is left of its encoding symbol id, divided by how many
-    /// there are. [`Devices::finish`] puts the folder in its place, where the file is what it was.
-    fn create_shards(
-        &mut self,
-        folder: &'w str,
-        file: &'w str,
-        shards: u8,
-    ) -> Result<Self::Writer, Stop>
-        ensures blank { IfOk result (λ w. Self.Writer.contents w ≡ blank) }
-        ensures empty { IsEmpty blank }
-        ensures fault { IfErr result (λ stop. stop ≡ Stop.Fault) }
-        ensures counts { Fails (failed self.old) (failed self.new) (failed_calls result) }
-        ensures kept { placed self.new ≡ placed self.old }
-        ensures filed { filed self.new ≡ filed self.old }
         ensures earlier { earlier self.new ≡ earlier self.old };
 }
 

@@ -8,6 +8,6 @@ mod told;
 
 pub use devices::{Devices, Teller};
 pub use keys::{key_of, read_whole};
-pub use placing::put;
+pub use placing::{Place, put};
 pub use rq_words::Telling;
 pub use told::Told;

@@ -6,10 +6,11 @@ use Rattle.rq_cells.specs.Cells.{Key}
 use Rattle.rq_guard_runs.specs.declared.findings.Findings.{Findings}
 use Rattle.rq_guard_runs.specs.Guards.{FailsMended, Finds, RepairsBy, Replaces, stays}
 use Rattle.rq_devices.specs.Placed.{Contents, Files}
+use Rattle.rq_devices.specs.Spots.{Spots}
 
 -- what isn't left as it is
-pub replaced : (table : List TableRow) (key : Key) (file guard : Files → Contents) (place : List ℕ) (stands : Files) (blank : Contents) (found : Findings)
-    (old new : Contents) (is_left : Bool) → is_left ≡ false → Replaces table key found.lists.items file guard place stands blank old new found.is_mended
+pub replaced : (table : List TableRow) (key : Key) (file guard : Files → Contents) (place : List ℕ) (stands : Files) (blank : Spots) (found : Findings)
+    (old new : Spots) (is_left : Bool) → is_left ≡ false → Replaces table key found.lists.items file guard place stands blank old new found.is_mended
     → RepairsBy is_left table key file guard place stands blank found old new
 replaced table key file guard place stands blank found old new is_left is replaces =
     subst (λ (b : Bool). RepairsBy b table key file guard place stands blank found old new) (sym is) replaces

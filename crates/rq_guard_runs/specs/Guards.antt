@@ -17,7 +17,8 @@ use Rattle.rq_guard.specs.Reading.{RepairsPart}
 use Rattle.rq_guard.specs.StreamReading.{FindsFirst}
 use Rattle.rq_guard_runs.specs.declared.findings.Findings.{Findings}
 use Rattle.rq_guard_runs.specs.Found.{is_strange, is_whole_finding}
-use Rattle.rq_devices.specs.Placed.{Contents, Files, IsEmpty, StandsBut, beside}
+use Rattle.rq_devices.specs.Placed.{Contents, Files, IsEmpty}
+use Rattle.rq_devices.specs.Spots.{Spots, AtFile, IsFinished, StandsBeside}
 
 -- ---- what is found of a file
 
@@ -95,34 +96,28 @@ Checks table key file guard (Some found) =
 
 -- ---- repair
 
--- What is mended whole is in its place, and nothing else is put there.
-abbrev pub IsPut : Bool → Contents → Contents → Contents → Type 0
-IsPut true written old new = new ≡ written
-IsPut false written old new = new ≡ old
-
--- A file is mended beside a place, by what then stands in it and in its guard, and put there.
+-- A file is mended beside a place, by what then stands in it and in its guard, and put there where it is mended whole.
 pub record Replaces (table : List TableRow) (key : Key) (lists : List DigestList) (file guard : Files → Contents) (place : List ℕ) (stands : Files)
-    (blank old new : Contents) (mended : Bool) : Type 0 where
+    (blank : Spots) (old new : Spots) (mended : Bool) : Type 0 where
   pub standing : Files
-  pub others : StandsBut (beside place) stands standing
+  pub others : StandsBeside (AtFile place) stands standing
   pub written : Contents
-  pub repairs : RepairsFile table key lists (file standing) (guard standing) blank written mended
-  pub put : IsPut mended written old new
+  pub repairs : RepairsFile table key lists (file standing) (guard standing) (blank (AtFile place)) written mended
+  pub put : IsFinished {D = Bool} (AtFile place) mended (Ok mended) written old new
 
 -- A file stays as it is that is whole, or may be meant to be so, unless a place is named.
 abbrev pub stays : Option (List ℕ) → Findings → Bool
 stays None found = is_whole_finding found || is_strange found
 stays (Some output) found = false
 
-abbrev pub RepairsBy : Bool → List TableRow → Key → (Files → Contents) → (Files → Contents) → List ℕ → Files → Contents → Findings → Contents → Contents
-    → Type 0
+abbrev pub RepairsBy : Bool → List TableRow → Key → (Files → Contents) → (Files → Contents) → List ℕ → Files → Spots → Findings → Spots → Spots → Type 0
 RepairsBy true table key file guard place stands blank found old new = (found.is_mended ≡ is_whole_finding found) × (new ≡ old)
 RepairsBy false table key file guard place stands blank found old new =
     Replaces table key found.lists.items file guard place stands blank old new found.is_mended
 
 -- what is found of a file, where the lists of all parts are there, and done in its place, or in another one that is said
-abbrev pub Repairs : List TableRow → Key → (Files → Contents) → (Files → Contents) → List ℕ → Option (List ℕ) → Files → Contents → Option Findings → Contents
-    → Contents → Type 0
+abbrev pub Repairs : List TableRow → Key → (Files → Contents) → (Files → Contents) → List ℕ → Option (List ℕ) → Files → Spots → Option Findings → Spots
+    → Spots → Type 0
 Repairs table key file guard place said stands blank None old new = HasLists table key (guard stands) None × (new ≡ old)
 Repairs table key file guard place said stands blank (Some found) old new =
     Finds table key (file stands) (guard stands) found

@@ -9,7 +9,7 @@ ghost use Rattle.rq_guard_runs.specs.Guards.{RepairsFile, Replaces, FailsMending
 ghost use Rattle.rq_guard_runs.specs.Pairs.{in_file, in_guard};
 
 use crate::pair::Pair;
-use rq_devices::{Devices, Teller, Told, put};
+use rq_devices::{Devices, Place, Teller, Told, put};
 use rq_guard::{DigestList, Mending, repair_part};
 use rq_streams::{Counted, Stop};
 use std::io::{Read, Write, sink};
@@ -130,10 +130,11 @@ impl<'w> Pair<'_, 'w> {
         ensures stops { IfErr result StopsReading }
         ensures failures { (n : ℕ) × Fails (D.failed devices.old) (D.failed devices.new) n × FailsMending result n }
     {
-        let mut writer = Counted::new(devices.create(Some(place))?);
+        let there = Place::File(place);
+        let mut writer = Counted::new(devices.create(there)?);
         let mended = self.mend(lists, devices, teller, &mut writer);
         devices.count(&writer);
         let is_whole = is_mended(&mended);
-        put(devices, place, writer.into_inner(), mended, is_whole)
+        put(devices, there, writer.into_inner(), mended, is_whole)
     }
 }

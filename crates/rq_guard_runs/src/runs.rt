@@ -44,7 +44,7 @@ impl<'w> Pair<'_, 'w> {
     }
 
     /// What is found of the file, which is mended in its place, or in another one, where that is named. One that is whole
-    /// stays as it is, and so does one of which nearly no symbol is: it may be another file.
+    /// stays as it is, and so does one of each of whose parts at most a hundredth is: it may be another file.
     pub fn repair<D: Devices<'w>, T: Teller>(
         &self,
         output: Option<&'w str>,

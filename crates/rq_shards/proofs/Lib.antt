@@ -1,2 +1,4 @@
 mod CellIds
 mod CountedCells
+mod DealtShards
+mod EnoughShares

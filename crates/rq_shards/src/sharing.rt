@@ -1,7 +1,6 @@
 //! Which shard a cell goes to.
-ghost use Rattle.std.specs.Prelude.{◌≡◌, ◌%◌, ◌<◌, ◌≤◌, length, Some};
-ghost use Rattle.rq_cells.specs.declared.cell.Cell.{Cell};
-ghost use Rattle.rq_cells.specs.Cells.{Key, cell_at};
+ghost use Rattle.std.specs.Prelude.{◌<◌, ◌≤◌, length};
+ghost use Rattle.rq_shards.specs.Dealing.{IsShare};
 
 use rq_base::base::{PAYLOAD_ID_LENGTH, PayloadId};
 use rq_cells::HEAD_LENGTH;
@@ -15,7 +14,7 @@ pub fn share_of(cell: &[u8], all: u8) -> u8
     requires some { 0 < all }
     requires long { 56 ≤ length cell.now }
     ensures below { result < all }
-    ensures share { (key : Key) (c : Cell) → cell_at key cell.now ≡ Some c → result ≡ c.packet.id.esi % all }
+    ensures share { IsShare all cell.now result }
 {
     let mut bytes = [0; PAYLOAD_ID_LENGTH];
     bytes.copy_from_slice(&cell[HEAD_LENGTH..ID_END]);

@@ -1,6 +1,7 @@
 //! What a run reads and where it writes, which are to be apart.
 
-use crate::aside::{beside_of, inside_of, place_of};
+use crate::aside::{inside_of, place_of};
+use crate::beside::beside_of;
 use crate::keeping::{Node, node_at, node_of};
 use crate::system::System;
 use rq_command::{Job, ReceiveJob};
@@ -171,7 +172,7 @@ impl<'c, 'w> Reads<'c, 'w> {
         let Ok(place) = place_of(rt, written.path) else {
             return Ok(None);
         };
-        let beside = beside_of(rt, &place)?;
+        let beside = beside_of(rt, place.as_path().as_str())?;
         Ok(self.clash(written, Some(beside.as_str())))
     }
 }

@@ -1,6 +1,6 @@
 //! A file that is written beside its place.
 
-use crate::keeping::{node_at, node_of};
+use crate::beside::{Beside, beside_of, kept_path, lock_made};
 use crate::system::System;
 use rq_cells::STREAM_LENGTH;
 use std::alloc::AllocError;
@@ -41,32 +41,10 @@ pub fn place_of(rt: &HostRuntime, path: &str) -> io::Result<PathBuf> {
     Ok(PathBuf::from_str(rt.alloc(), path)?)
 }
 
-/// Where a file is written that is put in a place when it is whole.
-pub fn beside_of(rt: &HostRuntime, place: &PathBuf) -> Result<String, AllocError> {
-    let alloc = rt.alloc();
-    format!(in alloc; "{}.rqcast", place.display())
-}
-
 /// Where one is written that is put in a folder.
 pub fn inside_of(rt: &HostRuntime, folder: &str) -> Result<String, AllocError> {
     let alloc = rt.alloc();
     format!(in alloc; "{folder}/receiving.rqcast")
-}
-
-// The path beside a place, which is known as long as the words of the line are.
-fn path_beside<'w>(system: System<'_, 'w>, place: &PathBuf) -> io::Result<&'w str> {
-    let path = system
-        .beside
-        .get_or_try_init(|| beside_of(system.rt, place))?;
-    Ok(path.as_str())
-}
-
-// The path in a folder of what isn't whole yet, which is known as long as the words of the line are.
-fn path_inside<'w>(system: System<'_, 'w>, folder: &str) -> io::Result<&'w str> {
-    let path = system
-        .beside
-        .get_or_try_init(|| inside_of(system.rt, folder))?;
-    Ok(path.as_str())
 }
 
 // The path in a folder that a stream names, in 16 hexadecimal digits.
@@ -110,12 +88,7 @@ fn create_anew(rt: &HostRuntime, path: &str, rights: u32) -> io::Result<File> {
     let mut options = OpenOptions::new();
     options.read(true).write(true).create_new(true).mode(rights);
     let file = options.open(rt, path)?;
-    // Where a file can't be locked, other runs don't see that it is taken. One that was as fast may lock it for a
-    // moment, and take it away.
-    let _ = file.lock();
-    if node_at(rt, path) != Some(node_of(&file.metadata()?)) {
-        return Err(io::Error::from(ErrorKind::ResourceBusy));
-    }
+    lock_made(rt, path, &file)?;
     Ok(file)
 }
 
@@ -127,7 +100,8 @@ impl<'c, 'w> Aside<'c, 'w> {
         rights: Option<Permissions>,
     ) -> io::Result<Aside<'c, 'w>> {
         let place = system.noted("opening", path, place_of(system.rt, path))?;
-        let path = system.noted("opening", path, path_beside(system, &place))?;
+        let beside = beside_of(system.rt, place.as_path().as_str());
+        let path = system.noted("opening", path, kept_path(system, beside))?;
         let first = if rights.is_some() { OWN } else { NEW };
         let file = system.noted("opening", path, create_anew(system.rt, path, first))?;
         let aside = Aside {
@@ -147,7 +121,8 @@ impl<'c, 'w> Aside<'c, 'w> {
 
     /// Begins a file in a folder, whose place isn't known yet.
     pub fn create_in(system: System<'c, 'w>, folder: &'w str) -> io::Result<Aside<'c, 'w>> {
-        let path = system.noted("opening", folder, path_inside(system, folder))?;
+        let inside = inside_of(system.rt, folder);
+        let path = system.noted("opening", folder, kept_path(system, inside))?;
         let place = PathBuf::from_str(system.rt.alloc(), path)?;
         let file = system.noted("opening", path, create_anew(system.rt, path, NEW))?;
         Ok(Aside {
@@ -174,36 +149,6 @@ impl<'c, 'w> Aside<'c, 'w> {
         self.system.noted("changing the rights of", self.path, set)
     }
 
-    // Takes it away.
-    fn remove(&self) -> io::Result<()> {
-        let removed = fs::remove_file(self.system.rt, self.path);
-        self.system.noted("removing", self.path, removed)
-    }
-
-    // Puts it in its place.
-    fn put(&self) -> io::Result<()> {
-        let (system, path) = (self.system, self.path);
-        // Where a file's time can't be set it counts as changed later.
-        if let Some(time) = system.mended_time() {
-            let _ = self.file.set_modified(time);
-        }
-        system.noted("writing to", path, self.file.sync_all())?;
-        let renamed = fs::rename(system.rt, path, self.place.as_path());
-        system.noted("renaming", path, renamed)
-    }
-
-    /// Puts it in its place where it is whole. Where it isn't, or can't be put there, it is taken away.
-    pub fn finish(self, is_whole: bool) -> io::Result<()> {
-        if !is_whole {
-            return self.remove();
-        }
-        let put = self.put();
-        if put.is_err() {
-            let _ = self.remove();
-        }
-        put
-    }
-
     /// Puts it in its place in a folder, which a stream names, with the rights of a file that is there. Where that
     /// can't be, it is taken away.
     pub fn finish_as(self, folder: &str, stream: &[u8; STREAM_LENGTH]) -> io::Result<()> {
@@ -222,5 +167,23 @@ impl<'c, 'w> Aside<'c, 'w> {
             return Err(error);
         }
         aside.finish(true)
+    }
+}
+
+impl Beside for Aside<'_, '_> {
+    fn put(&self) -> io::Result<()> {
+        let (system, path) = (self.system, self.path);
+        // Where a file's time can't be set it counts as changed later.
+        if let Some(time) = system.mended_time() {
+            let _ = self.file.set_modified(time);
+        }
+        system.noted("writing to", path, self.file.sync_all())?;
+        let renamed = fs::rename(system.rt, path, self.place.as_path());
+        system.noted("renaming", path, renamed)
+    }
+
+    fn remove(&self) -> io::Result<()> {
+        let removed = fs::remove_file(self.system.rt, self.path);
+        self.system.noted("removing", self.path, removed)
     }
 }

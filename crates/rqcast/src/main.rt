@@ -4,6 +4,7 @@
 
 mod apart;
 mod aside;
+mod beside;
 mod failure;
 mod keeping;
 mod report;
@@ -51,6 +52,7 @@ fn main(rt: HostRuntime) -> ExitCode {
         file: None,
         mends_by: None,
         shard: &shard,
+        joined: None,
         finds_cells: false,
         key: None,
     };
@@ -80,7 +82,8 @@ fn knowing<'c, 'w>(system: System<'c, 'w>, job: &Job<'w>) -> System<'c, 'w> {
         Job::Info(job) => system = system.finding(job.key),
         Job::Join(job) => {
             system = system.finding(job.key);
-            system.file = match job.files.first() {
+            system.joined = job.files.first().copied();
+            system.file = match system.joined {
                 Some(folder) => system.first_shard(folder),
                 None => None,
             };
@@ -115,11 +118,11 @@ fn done<'w>(system: System<'_, 'w>, words: &'w [String]) -> u8 {
     let mut watch = Watch::new(rt, rt.stderr(), rt.stderr().is_terminal());
     let ended = run(rt.alloc(), words, &mut system, &mut watch);
     watch.end(&ended);
-    say_shards(system, words, &ended, watch.telling());
+    say_shards(system, &ended, watch.telling());
     if let Some(failure) = failure.get() {
         let _ = failure.write(rt.alloc(), &mut rt.stderr());
     }
-    match say(rt, &ended, watch.telling()) {
+    match say(system, &ended, watch.telling()) {
         Ok(()) => ended.status(),
         Err(error) => {
             let failure = Failure {
@@ -134,20 +137,21 @@ fn done<'w>(system: System<'_, 'w>, words: &'w [String]) -> u8 {
 }
 
 // Says what is lost of shards, where some were joined. That it can't be said is no fault of the run.
-fn say_shards<'w>(system: System<'_, 'w>, words: &'w [String], ended: &End, telling: Telling) {
+fn say_shards(system: System<'_, '_>, ended: &End, telling: Telling) {
     let End::Received(Ok(ending), _) = ended else {
         return;
     };
     if telling != Telling::Quiet
-        && let Ok(Job::Join(job)) = job(system.rt.alloc(), words)
+        && let Some(folder) = system.joined
     {
-        let _ = tell_shards(system, &job, *ending, telling == Telling::Json);
+        let _ = tell_shards(system, folder, *ending, telling == Telling::Json);
     }
 }
 
 // Says how the program ended. What is asked for goes to standard output, and an error comes of that alone.
-fn say(rt: &HostRuntime, ended: &End, telling: Telling) -> io::Result<()> {
-    let _ = write_end(ended, &mut rt.stderr());
+fn say(system: System<'_, '_>, ended: &End, telling: Telling) -> io::Result<()> {
+    let rt = system.rt;
+    let _ = write_end(ended, system.joined.is_some(), &mut rt.stderr());
     match ended {
         End::Unasked(error) if error.use_stderr() => {
             let _ = error.print(rt);

@@ -7,7 +7,6 @@ use raptorq::error::Error;
 use raptorq::systematic_constants::SystematicTable;
 use rq_cast::Ending;
 use rq_cells::{Head, Key, STREAM_LENGTH, Wanted};
-use rq_command::ReceiveJob;
 use rq_devices::key_of;
 use rq_guard::first_head;
 use rq_rows::full_table;
@@ -152,22 +151,19 @@ fn write_shards<W: Write>(shards: &[Found], json: bool, out: &mut W) -> io::Resu
 /// none is whole.
 pub fn tell_shards<'w>(
     system: System<'_, 'w>,
-    job: &ReceiveJob<'w>,
+    folder: &'w str,
     ending: Ending,
     json: bool,
 ) -> Result<(), Stop> {
     let rt = system.rt;
     let mut devices = system;
-    let (Some(folder), Some(key)) = (
-        job.files.first(),
-        key_of(rt.alloc(), job.key, &mut devices)?,
-    ) else {
+    let Some(key) = key_of(rt.alloc(), system.key, &mut devices)? else {
         return Ok(());
     };
     let table = full_table(rt.alloc())?;
     let read = Folder {
         rt,
-        path: *folder,
+        path: folder,
         key: &key,
         table: &table,
     };

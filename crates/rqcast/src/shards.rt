@@ -1,10 +1,11 @@
 //! A folder of shards that is written beside its place.
+ghost use Rattle.std.specs.Io.{WritesAtMost};
 
-use crate::keeping::{node_at, node_of};
+use crate::beside::{Beside, beside_of, is_at, kept_path, lock_made};
 use crate::system::System;
-use rq_shards::{ID_END, share_of};
+use rq_shards::Dealer;
 use std::fs::{File, Metadata, OpenOptions, Permissions, TryLockError};
-use std::io::{ErrorKind, Write};
+use std::io::ErrorKind;
 use std::os::unix::fs::{MetadataExt, OpenOptionsExt, PermissionsExt};
 use std::{fs, io};
 
@@ -30,16 +31,13 @@ pub struct Shards<'c, 'w> {
     system: System<'c, 'w>,
     // What marks it, which is locked as long as it is open.
     mark: File,
-    files: Vec<File>,
+    files: Dealer<File>,
     // Its place, where it stands until it is whole, and the file that is split.
     folder: &'w str,
     made: &'w str,
     file: &'w str,
     // What the file was as it was opened, where it is one.
     state: Option<State>,
-    // Into which shard the cell goes that is begun, and how many bytes of it aren't written yet.
-    current: usize,
-    rest: usize,
 }
 
 fn state_of(metadata: &Metadata) -> Option<State> {
@@ -104,12 +102,6 @@ fn is_marked(rt: &HostRuntime, folder: &str, mark: &str) -> bool {
     }
 }
 
-// Whether a path leads to a file that is open.
-fn is_at(rt: &HostRuntime, path: &str, file: &File) -> io::Result<bool> {
-    let metadata = file.metadata()?;
-    Ok(node_at(rt, path) == Some(node_of(&metadata)))
-}
-
 // Takes away what a run left that was killed, and locks its mark meanwhile. Refuses what another run writes now, and
 // what no run made: one that was killed when its folder had no mark yet, or no more, leaves that to its user.
 fn remove_left(rt: &HostRuntime, folder: &str) -> io::Result<()> {
@@ -151,16 +143,20 @@ fn create_shard(rt: &HostRuntime, folder: &str, number: u16, rights: u32) -> io:
     Ok(file)
 }
 
+// Makes so many, with these rights.
+fn create_all(rt: &HostRuntime, folder: &str, count: u8, rights: u32) -> io::Result<Vec<File>> {
+    let mut files = Vec::new(rt.alloc());
+    for number in 0..u16::from(count) {
+        files.push(create_shard(rt, folder, number, rights)?)?;
+    }
+    Ok(files)
+}
+
 // Marks a new folder, and locks the mark.
 fn create_mark(rt: &HostRuntime, folder: &str) -> io::Result<File> {
     let path = mark_of(rt, folder)?;
     let mark = create_file(rt, path.as_str())?;
-    // Where a file can't be locked, other runs don't see that it is taken. One that was as fast may lock it for a
-    // moment, and take it away.
-    let _ = mark.lock();
-    if !is_at(rt, path.as_str(), &mark)? {
-        return Err(io::Error::from(ErrorKind::ResourceBusy));
-    }
+    lock_made(rt, path.as_str(), &mark)?;
     Ok(mark)
 }
 
@@ -176,13 +172,9 @@ fn create_folder<'w>(system: System<'_, 'w>, folder: &'w str) -> io::Result<File
     system.noted("making shards in", folder, mark)
 }
 
-// The path beside a place, which is known as long as the words of the line are.
-fn path_beside<'w>(system: System<'_, 'w>, folder: &str) -> io::Result<&'w str> {
-    let alloc = system.rt.alloc();
-    let path = system
-        .beside
-        .get_or_try_init(|| format!(in alloc; "{folder}.rqcast"))?;
-    Ok(path.as_str())
+// Takes away what this run made.
+fn remove_made<'w>(system: System<'_, 'w>, made: &'w str) -> io::Result<()> {
+    system.noted("removing", made, remove_folder(system.rt, made))
 }
 
 impl<'c, 'w> Shards<'c, 'w> {
@@ -197,51 +189,29 @@ impl<'c, 'w> Shards<'c, 'w> {
         let folder = folder.trim_end_matches('/');
         system.noted("making", folder, check_free(rt, folder))?;
         let metadata = system.noted("opening", file, fs::metadata(rt, file))?;
-        let made = system.noted("making", folder, path_beside(system, folder))?;
+        let made = system.noted("making", folder, kept_path(system, beside_of(rt, folder)))?;
         let mark = create_folder(system, made)?;
-        let mut shards = Shards {
-            system,
-            mark,
-            files: Vec::new(rt.alloc()),
-            folder,
-            made,
-            file,
-            state: state_of(&metadata),
-            current: 0,
-            rest: 0,
-        };
-        let opened = shards.open_all(count, rights_of(&metadata));
+        let opened = create_all(rt, made, count, rights_of(&metadata));
         match system.noted("making shards in", made, opened) {
-            Ok(()) => Ok(shards),
+            Ok(files) => Ok(Shards {
+                system,
+                mark,
+                files: Dealer::new(files),
+                folder,
+                made,
+                file,
+                state: state_of(&metadata),
+            }),
             Err(error) => {
-                let _ = shards.remove();
+                let _ = remove_made(system, made);
                 Err(error)
             }
         }
     }
 
-    fn open_all(&mut self, count: u8, rights: u32) -> io::Result<()> {
-        for number in 0..u16::from(count) {
-            let file = create_shard(self.system.rt, self.made, number, rights)?;
-            self.files.push(file)?;
-        }
-        Ok(())
-    }
-
     /// Where they stand until they are whole.
     pub fn path(&self) -> &'w str {
         self.made
-    }
-
-    // Chooses the shard of a cell.
-    fn begin(&mut self, cell: &[u8]) -> io::Result<()> {
-        let count = self.files.len();
-        if cell.len() < ID_END || count == 0 || count > 255 {
-            return Err(io::Error::from(ErrorKind::InvalidInput));
-        }
-        self.current = usize::from(share_of(cell, count as u8));
-        self.rest = cell.len();
-        Ok(())
     }
 
     // Refuses a file that isn't what it was.
@@ -253,17 +223,20 @@ impl<'c, 'w> Shards<'c, 'w> {
         Err(io::Error::from(ErrorKind::ResourceBusy))
     }
 
-    // Takes them away.
-    fn remove(&self) -> io::Result<()> {
-        let removed = remove_folder(self.system.rt, self.made);
-        self.system.noted("removing", self.made, removed)
+    /// Writes bytes of cells into the shards that these go to, and answers how many it took.
+    pub fn deal(&mut self, bytes: &[u8]) -> io::Result<usize>
+        ensures { WritesAtMost result bytes.now }
+    {
+        self.files.deal(bytes)
     }
+}
 
-    // Puts them in their place. A run that is killed before they are there, when they have no mark any more, leaves
-    // them whole beside it: the next one refuses that place.
+impl Beside for Shards<'_, '_> {
+    // A run that is killed before they are there, when they have no mark any more, leaves them whole beside it: the next
+    // one refuses that place.
     fn put(&self) -> io::Result<()> {
         let (system, made) = (self.system, self.made);
-        for file in &self.files {
+        for file in self.files.shards() {
             system.noted("writing to", made, file.sync_all())?;
         }
         system.noted(
@@ -276,38 +249,7 @@ impl<'c, 'w> Shards<'c, 'w> {
         system.noted("renaming", made, renamed)
     }
 
-    /// Puts the folder in its place where all shards are whole. Where they aren't, or it can't be put there, it is taken
-    /// away.
-    pub fn finish(self, is_whole: bool) -> io::Result<()> {
-        if !is_whole {
-            return self.remove();
-        }
-        let put = self.put();
-        if put.is_err() {
-            let _ = self.remove();
-        }
-        put
-    }
-}
-
-impl Write for Shards<'_, '_> {
-    fn write(&mut self, buf: &[u8]) -> io::Result<usize> {
-        if self.rest == 0 {
-            self.begin(buf)?;
-        }
-        let end = buf.len().min(self.rest);
-        let Some(file) = self.files.get_mut(self.current) else {
-            return Err(io::Error::from(ErrorKind::InvalidInput));
-        };
-        let result = file.write(&buf[..end]);
-        self.rest = match &result {
-            Ok(n) => self.rest.saturating_sub(*n),
-            Err(_) => 0,
-        };
-        result
-    }
-
-    fn flush(&mut self) -> io::Result<()> {
-        Ok(())
+    fn remove(&self) -> io::Result<()> {
+        remove_made(self.system, self.made)
     }
 }

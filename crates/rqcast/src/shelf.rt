@@ -2,7 +2,6 @@
 ghost use Rattle.std.specs.Io.{ReadsAtMost};
 
 use crate::shards::{MOST_SHARDS, path_of};
-use crate::system::System;
 use rq_cells::{HEAD_LENGTH, STREAM_LENGTH};
 use std::fs::File;
 use std::io;
@@ -38,9 +37,7 @@ pub struct Begun {
 
 /// The shards of a folder.
 #[derive(Drop)]
-pub struct Shelf<'c, 'w> {
-    system: System<'c, 'w>,
-    folder: &'w str,
+pub struct Shelf {
     shards: Vec<File>,
     // Which shard is read now, how many bytes a turn has, and how many are left of this one.
     turn: usize,
@@ -123,10 +120,9 @@ fn symbol_size_of(shards: &[Begun], leading: &Begun) -> u16 {
     symbol_size
 }
 
-impl<'c, 'w> Shelf<'c, 'w> {
+impl Shelf {
     /// Opens the shards of a folder, where it has some. The first turn is that of one of the leading stream.
-    pub fn open(system: System<'c, 'w>, folder: &'w str) -> io::Result<Option<Shelf<'c, 'w>>> {
-        let rt = system.rt;
+    pub fn open(rt: &HostRuntime, folder: &str) -> io::Result<Option<Shelf>> {
         let mut shards = Vec::new(rt.alloc());
         let mut begun = Vec::new(rt.alloc());
         for number in 0..MOST_SHARDS {
@@ -149,8 +145,6 @@ impl<'c, 'w> Shelf<'c, 'w> {
             None => (0, TURN),
         };
         Ok(Some(Shelf {
-            system,
-            folder,
             shards,
             turn,
             turn_length,

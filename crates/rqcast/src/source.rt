@@ -17,7 +17,7 @@ pub struct Source<'c, 'w> {
     opened: usize,
     file: Option<File>,
     // The shards in its place, where it is a folder of some.
-    shelf: Option<Shelf<'c, 'w>>,
+    shelf: Option<Shelf>,
     keeping: Option<Keeping<'c, 'w>>,
 }
 
@@ -93,7 +93,7 @@ impl<'c, 'w> Source<'c, 'w> {
         let metadata = fs::metadata(self.system.rt, path);
         let is_folder = matches!(metadata, Ok(metadata) if metadata.is_dir());
         if is_folder && self.system.may_have_shards(path) {
-            self.shelf = Shelf::open(self.system, path)?;
+            self.shelf = Shelf::open(self.system.rt, path)?;
         }
         let opened = File::open(self.system.rt, path);
         self.file = Some(self.system.noted("opening", path, opened)?);

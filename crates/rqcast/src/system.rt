@@ -8,7 +8,7 @@ use crate::shards::{MOST_SHARDS, path_of};
 use crate::source::Source;
 use crate::target::Target;
 use rq_cells::STREAM_LENGTH;
-use rq_command::Devices;
+use rq_command::{Devices, Place};
 use rq_streams::{Counted, Stop};
 use std::alloc::{AllocError, Global};
 use std::cell::{Cell, OnceCell};
@@ -35,6 +35,8 @@ pub struct System<'c, 'w> {
     pub mends_by: Option<&'w str>,
     /// The first shard of a folder that is joined.
     pub shard: &'w OnceCell<String>,
+    /// That folder.
+    pub joined: Option<&'w str>,
     /// Whether the run looks for cells, also in folders of shards, and the file of its key, which is none.
     pub finds_cells: bool,
     pub key: Option<&'w str>,
@@ -167,11 +169,11 @@ impl<'c, 'w> Devices<'w> for System<'c, 'w> {
 
     ghost stands = { λ _ _. None };
 
-    ghost placed = { λ _. None };
+    ghost placed = { λ _ _. None };
 
     ghost filed = { λ _ _. None };
 
-    ghost blank = { None };
+    ghost blank = { λ _. None };
 
     fn shows_output(&self) -> bool {
         self.rt.stdout().is_terminal()
@@ -223,13 +225,13 @@ impl<'c, 'w> Devices<'w> for System<'c, 'w> {
 
     fn count<X>(&mut self, _calls: &Counted<X>) {}
 
-    fn create(&mut self, file: Option<&'w str>) -> Result<Target<'c, 'w>, Stop> {
-        Target::create(*self, file).map_err(|_| Stop::Fault)
+    fn create(&mut self, place: Place<'w>) -> Result<Target<'c, 'w>, Stop> {
+        Target::create(*self, place).map_err(|_| Stop::Fault)
     }
 
     fn finish(
         &mut self,
-        _file: Option<&'w str>,
+        _place: Place<'w>,
         writer: Target<'c, 'w>,
         is_whole: bool,
     ) -> Result<(), Stop> {
@@ -247,14 +249,5 @@ impl<'c, 'w> Devices<'w> for System<'c, 'w> {
         stream: Option<[u8; STREAM_LENGTH]>,
     ) -> Result<(), Stop> {
         writer.finish_in(folder, stream).map_err(|_| Stop::Fault)
-    }
-
-    fn create_shards(
-        &mut self,
-        folder: &'w str,
-        file: &'w str,
-        shards: u8,
-    ) -> Result<Target<'c, 'w>, Stop> {
-        Target::create_shards(*self, folder, file, shards).map_err(|_| Stop::Fault)
     }
 }

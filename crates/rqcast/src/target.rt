@@ -1,10 +1,12 @@
 //! Standard output, or a file that is written beside its place.
 
 use crate::aside::Aside;
+use crate::beside::Beside;
 use crate::shards::Shards;
 use crate::system::System;
 use rq_cast::loses;
 use rq_cells::STREAM_LENGTH;
+use rq_command::Place;
 use std::fs::{File, OpenOptions};
 use std::io::{ErrorKind, Write};
 use std::{fs, io};
@@ -44,11 +46,16 @@ fn open_file<'c, 'w>(system: System<'c, 'w>, path: &'w str) -> io::Result<Sink<'
 }
 
 impl<'c, 'w> Target<'c, 'w> {
-    /// Writes beside a file, or on standard output.
-    pub fn create(system: System<'c, 'w>, path: Option<&'w str>) -> io::Result<Target<'c, 'w>> {
-        let sink = match path {
-            Some(path) => open_file(system, path)?,
-            None => Sink::Output,
+    /// Writes on standard output, or beside a place.
+    pub fn create(system: System<'c, 'w>, place: Place<'w>) -> io::Result<Target<'c, 'w>> {
+        let sink = match place {
+            Place::Output => Sink::Output,
+            Place::File(path) => open_file(system, path)?,
+            Place::Shards {
+                folder,
+                file,
+                count,
+            } => Sink::Shards(Shards::create(system, folder, file, count)?),
         };
         Ok(Target { system, sink })
     }
@@ -57,18 +64,6 @@ impl<'c, 'w> Target<'c, 'w> {
     pub fn create_in(system: System<'c, 'w>, folder: &'w str) -> io::Result<Target<'c, 'w>> {
         let aside = Aside::create_in(system, folder)?;
         let sink = Sink::Aside(aside);
-        Ok(Target { system, sink })
-    }
-
-    /// Writes cells into so many shards of a file, beside their folder.
-    pub fn create_shards(
-        system: System<'c, 'w>,
-        folder: &'w str,
-        file: &'w str,
-        count: u8,
-    ) -> io::Result<Target<'c, 'w>> {
-        let shards = Shards::create(system, folder, file, count)?;
-        let sink = Sink::Shards(shards);
         Ok(Target { system, sink })
     }
 
@@ -107,7 +102,7 @@ impl Write for Target<'_, '_> {
             Sink::Output => self.system.rt.stdout().write(buf),
             Sink::Device(file, _) => file.write(buf),
             Sink::Aside(aside) => aside.file().write(buf),
-            Sink::Shards(shards) => shards.write(buf),
+            Sink::Shards(shards) => shards.deal(buf),
         };
         // That a network loses a datagram is no fault of the run.
         if matches!(&result, Err(error) if loses(error)) {
@@ -121,7 +116,7 @@ impl Write for Target<'_, '_> {
             Sink::Output => self.system.rt.stdout().flush(),
             Sink::Device(file, _) => file.flush(),
             Sink::Aside(aside) => aside.file().flush(),
-            Sink::Shards(shards) => shards.flush(),
+            Sink::Shards(_) => Ok(()),
         };
         self.system.noted("writing to", self.place(), result)
     }

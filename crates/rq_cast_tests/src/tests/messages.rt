@@ -118,7 +118,7 @@ fn ends_are_said(rt: HostRuntime) {
     ];
     for (ended, text, status) in rows {
         let mut out: Vec<u8> = Vec::new(alloc);
-        write_end(&ended, &mut out).expect(&rt, "memory");
+        write_end(&ended, false, &mut out).expect(&rt, "memory");
         let said = str::from_utf8(out.as_slice()).expect(&rt, "text");
         assert_eq!(rt;
             (said.is_empty(), said.contains(text)),

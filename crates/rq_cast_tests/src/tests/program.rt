@@ -8,7 +8,7 @@ use raptorq::Decoder;
 use raptorq::error::Error;
 use rq_cast::{Ending, Pace, Progress, Seen, Sender};
 use rq_cells::STREAM_LENGTH;
-use rq_command::{Devices, End, Teller, Telling, run};
+use rq_command::{Devices, End, Place, Teller, Telling, run};
 use rq_streams::{Counted, Stop};
 use std::alloc::{AllocError, Global};
 use std::io;
@@ -62,9 +62,9 @@ impl<'w, 'a> Devices<'w> for Memory<'a> {
 
     ghost stands = { λ _ _. None };
 
-    ghost placed = { λ _. None };
+    ghost placed = { λ _ _. None };
 
-    ghost blank = { None };
+    ghost blank = { λ _. None };
 
     ghost terminal = { λ m. Some m.is_terminal };
 
@@ -116,36 +116,22 @@ impl<'w, 'a> Devices<'w> for Memory<'a> {
 
     fn count<X>(&mut self, _calls: &Counted<X>) {}
 
-    fn create(&mut self, _file: Option<&'w str>) -> Result<Written, Stop> {
+    fn create(&mut self, _place: Place<'w>) -> Result<Written, Stop> {
         Ok(Written {
             bytes: Vec::new(self.alloc),
         })
     }
 
-    fn finish(
-        &mut self,
-        file: Option<&'w str>,
-        writer: Written,
-        is_whole: bool,
-    ) -> Result<(), Stop> {
+    fn finish(&mut self, place: Place<'w>, writer: Written, is_whole: bool) -> Result<(), Stop> {
         let Written { bytes } = writer;
-        if is_whole || file.is_none() {
+        if is_whole || matches!(place, Place::Output) {
             self.placed = bytes;
         }
         Ok(())
     }
 
     fn create_in(&mut self, _folder: &'w str) -> Result<Written, Stop> {
-        self.create(None)
-    }
-
-    fn create_shards(
-        &mut self,
-        _folder: &'w str,
-        _file: &'w str,
-        _shards: u8,
-    ) -> Result<Written, Stop> {
-        self.create(None)
+        self.create(Place::Output)
     }
 
     // All files of a folder are put one behind another, each behind its name.

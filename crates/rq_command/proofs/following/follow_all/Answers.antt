@@ -7,6 +7,7 @@ use Rattle.rq_command.specs.Following.{EndsOne, FollowsUpTo, PassesOver}
 use Rattle.rq_command.specs.Program.{FailsReceiving}
 use Rattle.rq_command.proofs.Failing.{over_without_fault}
 use Rattle.rq_devices.proofs.Counting.{failed_then}
+use Rattle.rq_devices.specs.Spots.{InFolder}
 use Rattle.rq_command.proofs.Followed.{follows_on, follows_no_more, follows_up_to, not_over, over_is}
 use Rattle.rq_command.proofs.following.follow_all.Goals as goal
 
@@ -24,10 +25,10 @@ returns-in_default-clause-all g c =
     let came = last_piece c.follow_one-ended.new.input in
     let last = c.follow_one-ended.result.0 in
     let seen = c.follow_one-ended.result.1 in
-    let one = subst (λ xs. EndsOne run.table.now (wish_over run.table.now run.key.now [] (map (λ v. v.items) xs)) run.window g.D.Devices.blank last seen left after came there there')
+    let one = subst (λ xs. EndsOne run.table.now (wish_over run.table.now run.key.now [] (map (λ v. v.items) xs)) run.window (g.D.Devices.blank (InFolder run.folder.now)) last seen left after came there there')
     c.as_slice.ensures.value c.follow_one-ended.ensures.one in
-    subst (FollowsUpTo run.table.now run.key.now given run.window run.timeout g.D.Devices.blank input c.streams.streams last seen held) (sym c.count.ensures.filed)
-    (follows_up_to run.table.now run.key.now given run.window run.timeout g.D.Devices.blank input held c.streams.number c.streams.streams passed left there
+    subst (FollowsUpTo run.table.now run.key.now given run.window run.timeout (g.D.Devices.blank (InFolder run.folder.now)) input c.streams.streams last seen held) (sym c.count.ensures.filed)
+    (follows_up_to run.table.now run.key.now given run.window run.timeout (g.D.Devices.blank (InFolder run.folder.now)) input held c.streams.number c.streams.streams passed left there
     c.streams.invariant.following seen after came there' last (not_over c.over.result last c.over.ensures c.in_default.not-Some) one)
 
 pub put_back-requires : goal.put_back-requires
@@ -52,13 +53,13 @@ returns-in_default-pass_over-clause-all g c =
     let came = last_piece c.follow_one-ended.new.input in
     let last = c.follow_one-ended.result.0 in
     let seen = c.follow_one-ended.result.1 in
-    let one = subst (λ xs. EndsOne run.table.now (wish_over run.table.now run.key.now [] (map (λ v. v.items) xs)) run.window g.D.Devices.blank last seen left after came there there')
+    let one = subst (λ xs. EndsOne run.table.now (wish_over run.table.now run.key.now [] (map (λ v. v.items) xs)) run.window (g.D.Devices.blank (InFolder run.folder.now)) last seen left after came there there')
     c.as_slice.ensures.value c.follow_one-ended.ensures.one in
     let ending = c.in-Some.found.0 in
     let o = over_is last ending c.in-Some.found.1 (sym c.over.ensures ∙ c.in-Some.is) in
-    let whole = subst (λ r. EndsOne run.table.now (wish_over run.table.now run.key.now [] passed) run.window g.D.Devices.blank r seen left after came there there') o.is one in
+    let whole = subst (λ r. EndsOne run.table.now (wish_over run.table.now run.key.now [] passed) run.window (g.D.Devices.blank (InFolder run.folder.now)) r seen left after came there there') o.is one in
     let patient = subst (λ r. IfNone run.timeout (is_given_up r ≡ false)) o.is c.follow_one-ended.ensures.patient in
-    follows_no_more run.table.now run.key.now given run.window run.timeout g.D.Devices.blank input held c.streams.number c.streams.streams passed left there
+    follows_no_more run.table.now run.key.now given run.window run.timeout (g.D.Devices.blank (InFolder run.folder.now)) input held c.streams.number c.streams.streams passed left there
     c.streams.invariant.following seen after came there' ending o.is_over patient whole (unread g.D.Reader.Read.remaining c.put_back.new.self)
     (c.put_back.ensures.unread g.D.Reader.Read.remaining) c.with_one-streams.result c.with_one-streams.ensures _ refl
 
@@ -90,11 +91,11 @@ streams-preserved g c =
     let came = last_piece c.follow_one-ended.new.input in
     let last = c.follow_one-ended.result.0 in
     let seen = c.follow_one-ended.result.1 in
-    let one = subst (λ xs. EndsOne run.table.now (wish_over run.table.now run.key.now [] (map (λ v. v.items) xs)) run.window g.D.Devices.blank last seen left after came there there')
+    let one = subst (λ xs. EndsOne run.table.now (wish_over run.table.now run.key.now [] (map (λ v. v.items) xs)) run.window (g.D.Devices.blank (InFolder run.folder.now)) last seen left after came there there')
     c.as_slice.ensures.value c.follow_one-ended.ensures.one in
     let ending = c.in-Some.found.0 in
     let o = over_is last ending c.in-Some.found.1 (sym c.over.ensures ∙ c.in-Some.is) in
-    let whole = subst (λ r. EndsOne run.table.now (wish_over run.table.now run.key.now [] passed) run.window g.D.Devices.blank r seen left after came there there') o.is one in
+    let whole = subst (λ r. EndsOne run.table.now (wish_over run.table.now run.key.now [] passed) run.window (g.D.Devices.blank (InFolder run.folder.now)) r seen left after came there there') o.is one in
     let patient = subst (λ r. IfNone run.timeout (is_given_up r ≡ false)) o.is c.follow_one-ended.ensures.patient in
     let fails = c.follow_one-ended.ensures.failures in
     let none : failed_count (counted_of c.follow_one-ended.new.input) + fails.0 ≡ 0 =
@@ -102,7 +103,7 @@ streams-preserved g c =
     (subst (λ r. FailsReceiving r (failed_count (counted_of c.follow_one-ended.new.input) + fails.0)) o.is fails.2) in
     let same = ap failed_count c.put_back.ensures.reader in
     record {
-      following = follows_on run.table.now run.key.now given run.window run.timeout g.D.Devices.blank input held c.streams.number c.streams.streams passed left there
+      following = follows_on run.table.now run.key.now given run.window run.timeout (g.D.Devices.blank (InFolder run.folder.now)) input held c.streams.number c.streams.streams passed left there
           c.streams.invariant.following seen after came there' ending o.is_over patient whole (unread g.D.Reader.Read.remaining c.put_back.new.self)
           (c.put_back.ensures.unread g.D.Reader.Read.remaining) c.with_one-streams.result c.with_one-streams.ensures (map (λ v. v.items) c.pass_over.new.passed.items)
           (subst (λ name. PassesOver c.streams.number passed name (map (λ v. v.items) c.pass_over.new.passed.items)) (sym o.named) c.in-Ok.ensures);

@@ -2,7 +2,8 @@ use Rattle.std.proofs.Common.{◌∷◌, [], option_map, subst}
 use Rattle.rq_devices.specs.Placed.{guard_name}
 use Rattle.rq_guard_runs.specs.Guards.{Repairs}
 use Rattle.rq_devices.specs.Keyed.{IsKeyRead, key_file}
-use Rattle.rq_devices.specs.Placed.{Contents, Files}
+use Rattle.rq_devices.specs.Placed.{Files}
+use Rattle.rq_devices.specs.Spots.{Spots}
 use Rattle.rq_devices.proofs.Counting.{failed_behind}
 use Rattle.rq_command.proofs.guarded.repair.Goals as goal
 
@@ -19,7 +20,7 @@ returns-clause-does g c =
       keyed = subst (IsKeyRead keys) c.in-Some.is c.in_ok-key.ensures.key;
       table = c.in_ok-table.table;
       rows = c.in_ok-table.ensures;
-      holds = subst (λ (old : Contents). Repairs c.in_ok-table.table c.in-Some.key (λ s. s (file ∷ [])) (λ s. s (guard ∷ [])) file said stands
+      holds = subst (λ (old : Spots). Repairs c.in_ok-table.table c.in-Some.key (λ s. s (file ∷ [])) (λ s. s (guard ∷ [])) file said stands
           g.D.Devices.blank c.in_ok-repair.field-0 old new) c.key_of.ensures.kept
           (subst (λ (s : Files). Repairs c.in_ok-table.table c.in-Some.key (λ s. s (file ∷ [])) (λ s. s (guard ∷ [])) file said s
           g.D.Devices.blank c.in_ok-repair.field-0 (g.D.Devices.placed c.key_of.new.devices) new) c.key_of.ensures.stays c.in_ok-repair.ensures.found);

@@ -1,6 +1,7 @@
 use Rattle.std.proofs.Common.{map, option_map, ap, subst, ◌∙◌, arith}
 use Rattle.rq_cast.specs.Input.{unread}
 use Rattle.rq_devices.specs.Keyed.{IsKeyRead, key_file}
+use Rattle.rq_devices.specs.Spots.{InFolder}
 use Rattle.rq_command.proofs.Failing.{passed_on}
 use Rattle.rq_devices.proofs.Counting.{failed_then}
 use Rattle.rq_command.proofs.Followed.{follows}
@@ -20,7 +21,7 @@ returns-clause-does g c =
     let read = c.new-input.ensures.unread remaining ∙ ap remaining c.new.ensures.inner ∙ c.in_ok-reader.ensures.bytes
     ∙ ap (λ there. there files) c.key_of.ensures.stays in (
       follows file (map (λ v. v.items) c.args.job.passed.items) c.args.job.window c.args.job.timeout c.follow_all-last.result.0 c.follow_all-last.result.1 c.follow_all-last.result.2
-          c.in-Some.key c.in_ok-table.table (stands files) (unread remaining c.new-input.result) g.D.Devices.blank (g.D.Devices.filed c.args.devices.now)
+          c.in-Some.key c.in_ok-table.table (stands files) (unread remaining c.new-input.result) (g.D.Devices.blank (InFolder c.args.job.folder.now)) (g.D.Devices.filed c.args.devices.now)
           (g.D.Devices.filed c.open.new.self) (g.D.Devices.filed c.follow_all-last.new.devices) (subst (IsKeyRead file) c.in-Some.is c.in_ok-key.ensures.key)
           c.in_ok-table.ensures read (c.open.ensures.filed ∙ c.key_of.ensures.filed) c.follow_all-last.ensures.all,
       c.follow_all-last.ensures.kept ∙ c.open.ensures.kept ∙ c.key_of.ensures.kept,

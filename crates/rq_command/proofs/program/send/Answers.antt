@@ -12,12 +12,15 @@ use Rattle.rq_words.specs.Values.{times_of}
 use Rattle.rq_devices.specs.Failed.{Fails}
 use Rattle.rq_devices.specs.Keyed.{IsKeyOf, IsKeyRead, key_file}
 use Rattle.rq_command.specs.Outside.{KnownCalls, Outside, outside}
+use Rattle.rq_devices.specs.Folder.{IsFiled, KeepsBut}
 use Rattle.rq_devices.specs.Placed.{Contents}
+use Rattle.rq_devices.specs.Spots.{Spots, OnOutput}
 use Rattle.rq_command.specs.Program.{SendsAll, SendsSome}
 use Rattle.rq_command.specs.Rounds.{CountsSent, CountsHalt, SendsRounds, StopsRounds}
 use Rattle.rq_command.proofs.Doing.{as_asked}
 use Rattle.rq_command.proofs.Failing.{passed_on, stopped_later}
 use Rattle.rq_devices.proofs.Counting.{failed_through, once}
+use Rattle.rq_devices.proofs.Putting.{on_output}
 use Rattle.rq_command.proofs.program.send.Goals as goal
 use Rattle.rq_command.proofs.program.send.Goals.{After-finish-finished}
 use Rattle.rq_command.proofs.program.send.Given.{Over}
@@ -72,7 +75,7 @@ module _ (g : Over) (c : After-finish-finished g) where
   abbrev z : Option ℕ
   z = g.D.Devices.failed c.finish-finished.new.self
 
-  abbrev placed : Contents
+  abbrev placed : Spots
   placed = g.D.Devices.placed c.finish-finished.new.self
 
   abbrev around : Outside
@@ -83,22 +86,31 @@ module _ (g : Over) (c : After-finish-finished g) where
   keyed : IsKeyOf file c.in-Some.key
   keyed = subst (λ r. IsKeyRead file (option_map (λ o. o.0) r)) c.in-Some.is c.in_ok-key.ensures.key
 
+  filed : IsFiled OnOutput (g.D.Writer.Write.contents c.send_rounds-writer.result.0) (g.D.Devices.placed c.send_rounds-writer.new.devices) placed
+  filed =
+      on_output c.is_ok.result (g.D.Writer.Write.contents c.send_rounds-writer.result.0) (g.D.Devices.placed c.send_rounds-writer.new.devices) placed c.finish-finished.result
+      c.finish-finished.ensures.placed
+
+  others : KeepsBut OnOutput (g.D.Devices.placed c.args.devices.now) placed
+  others other differs =
+      filed.others other differs ∙ ap (λ there. there other) (c.send_rounds-writer.ensures.kept ∙ c.create.ensures.kept ∙ c.prepare.ensures.kept)
+
   asked : (P : Order → Key → ℕ → Contents → KnownCalls → Contents → Contents → Type 0)
       → P c.new-rounds.result.order c.new-rounds.result.key c.new-rounds.result.all (g.D.Devices.stands c.create.new.self (map (λ s. s.now) c.new-rounds.result.files.items))
       (g.T.Pace.calls c.prepare.new.teller) (g.D.Writer.Write.contents c.new-rounds.result.writer) (g.D.Writer.Write.contents c.send_rounds-writer.result.0)
-      → P c.args.job.order c.in-Some.key (times_of c.args.job.rounds) input told g.D.Devices.blank placed
+      → P c.args.job.order c.in-Some.key (times_of c.args.job.rounds) input told (g.D.Devices.blank OnOutput) (placed OnOutput)
   asked P =
       let made = c.new-rounds.ensures in
       as_asked P made.order made.key made.all
       (ap (λ (v : Vec (Bor (List ℕ)) Global). g.D.Devices.stands c.create.new.self (map (λ s. s.now) v.items)) made.files
       ∙ ap (λ there. there (map (λ s. s.now) c.args.job.files.items)) (c.create.ensures.stays ∙ c.in_ok-key.ensures.stays))
-      c.prepare.ensures.told (ap g.D.Writer.Write.contents made.writer ∙ c.in_ok-writer.ensures.blank) (sym c.finish-finished.ensures.placed)
+      c.prepare.ensures.told (ap g.D.Writer.Write.contents made.writer ∙ c.in_ok-writer.ensures.blank) (sym filed.there)
 
   abbrev Sends : Sent → Order → Key → ℕ → Contents → KnownCalls → Contents → Contents → Type 0
   Sends sent o k n i before there then = SendsRounds o k n i before told' there then sent
 
   all_sent : (sent : Sent) → c.send_rounds-writer.result.1 ≡ Ok sent
-      → SendsAll c.args.job.order (times_of c.args.job.rounds) file input around g.D.Devices.blank placed sent
+      → SendsAll c.args.job.order (times_of c.args.job.rounds) file input around (g.D.Devices.blank OnOutput) (placed OnOutput) sent
   all_sent sent is = record {
     key = c.in-Some.key;
     keyed = keyed;
@@ -110,7 +122,8 @@ module _ (g : Over) (c : After-finish-finished g) where
   abbrev Stops : Halt → Order → Key → ℕ → Contents → KnownCalls → Contents → Contents → Type 0
   Stops halt o k n i before there then = (lost : ℕ) × CountsHalt w s halt lost × StopsRounds o k n i before told' there then halt lost
 
-  stopped_at : (halt : Halt) → c.send_rounds-writer.result.1 ≡ Err halt → Stops halt c.args.job.order c.in-Some.key (times_of c.args.job.rounds) input told g.D.Devices.blank placed
+  stopped_at : (halt : Halt) → c.send_rounds-writer.result.1 ≡ Err halt → Stops halt c.args.job.order c.in-Some.key (times_of c.args.job.rounds) input told (g.D.Devices.blank OnOutput)
+      (placed OnOutput)
   stopped_at halt is =
       asked (Stops halt) (subst (λ (r : Result Sent Halt). IfErr r (λ halt. Stops halt c.new-rounds.result.order c.new-rounds.result.key c.new-rounds.result.all
       (g.D.Devices.stands c.create.new.self (map (λ s. s.now) c.new-rounds.result.files.items)) (g.T.Pace.calls c.prepare.new.teller)
@@ -126,7 +139,7 @@ module _ (g : Over) (c : After-finish-finished g) where
       c.finish-finished.ensures.counts refl
 
   some_sent : (halt : Halt) → c.send_rounds-writer.result.1 ≡ Err halt
-      → SendsSome c.args.job.order (times_of c.args.job.rounds) file input around g.D.Devices.blank placed halt
+      → SendsSome c.args.job.order (times_of c.args.job.rounds) file input around (g.D.Devices.blank OnOutput) (placed OnOutput) halt
   some_sent halt is =
       let stops = stopped_at halt is in
       record {
@@ -149,29 +162,35 @@ returns-in_err-finished-in-Ok-clause-does g c =
     subst (λ (r : Result Sent Halt). IfOk r (CountsSent (w g moved) (s g moved))) c.in-Ok.is c.send_rounds-writer.ensures.counts in
     let once : one ≡ 1 = ap (λ e. failed_calls {X = Sent} (Err e)) fault in
     let p = err_from_is_err_and c.from_residual-in_err-finished-in-Ok.result c.from_residual-in_err-finished-in-Ok.ensures.1 in
-    rw (p.1, p.2) (inr (inr (record {
-      fault = fault;
-      sent = c.in-Ok.sent;
-      all = all_sent g moved c.in-Ok.sent c.in-Ok.is;
-      lost = counts.0;
-      lost_are = counts.2;
-      failed = failed_through (a g moved) (g.D.Devices.failed c.prepare.new.devices) (w g moved) (s g moved) (z g moved) counts.0 one (counts.0 + 1)
-          c.in_ok-key.ensures.counts c.in_ok-writer.ensures.counts counts.1 c.in_err-finished-in-Ok.ensures.counts (omega (arith, once));
-    })))
+    rw (p.1, p.2) (inr (
+      inr (record {
+        fault = fault;
+        sent = c.in-Ok.sent;
+        all = all_sent g moved c.in-Ok.sent c.in-Ok.is;
+        lost = counts.0;
+        lost_are = counts.2;
+        failed = failed_through (a g moved) (g.D.Devices.failed c.prepare.new.devices) (w g moved) (s g moved) (z g moved) counts.0 one (counts.0 + 1)
+            c.in_ok-key.ensures.counts c.in_ok-writer.ensures.counts counts.1 c.in_err-finished-in-Ok.ensures.counts (omega (arith, once));
+      }),
+      others g moved,
+    ))
 
 pub returns-in_ok-finished-in-Ok-clause-does : goal.returns-in_ok-finished-in-Ok-clause-does
-returns-in_ok-finished-in-Ok-clause-does g c = all_sent g (goal.at.returns-in_ok-finished-in-Ok-clause-does g c).After-finish-finished c.in-Ok.sent c.in-Ok.is
+returns-in_ok-finished-in-Ok-clause-does g c =
+    let moved = (goal.at.returns-in_ok-finished-in-Ok-clause-does g c).After-finish-finished in
+    (all_sent g moved c.in-Ok.sent c.in-Ok.is, others g moved)
 
 pub returns-in-Err-By-clause-does : goal.returns-in-Err-By-clause-does
 returns-in-Err-By-clause-does g c =
     let by : c.in-Err-By.field-0 ≡ By c.in-Err-By.stop = rw c.in-Err-By.is at c.in-Err-By.field-0-is in
-    inr (inl (some_sent g (goal.at.returns-in-Err-By-clause-does g c).After-finish-finished (By c.in-Err-By.stop) (c.in-Err-By.is ∙ ap (λ h. Err h) by)))
+    let moved = (goal.at.returns-in-Err-By-clause-does g c).After-finish-finished in
+    inr (inl (some_sent g moved (By c.in-Err-By.stop) (c.in-Err-By.is ∙ ap (λ h. Err h) by)), others g moved)
 
 pub returns-in-Err-Changed-clause-does : goal.returns-in-Err-Changed-clause-does
 returns-in-Err-Changed-clause-does g c =
     let differs : c.in-Err-Changed.field-0 ≡ Changed c.in-Err-Changed.part = rw c.in-Err-Changed.is at c.in-Err-Changed.field-0-is in
-    some_sent g (goal.at.returns-in-Err-Changed-clause-does g c).After-finish-finished (Changed c.in-Err-Changed.part)
-    (c.in-Err-Changed.is ∙ ap (λ h. Err h) differs)
+    let moved = (goal.at.returns-in-Err-Changed-clause-does g c).After-finish-finished in
+    (some_sent g moved (Changed c.in-Err-Changed.part) (c.in-Err-Changed.is ∙ ap (λ h. Err h) differs), others g moved)
 
 pub returns-in-Err-By-clause-failures : goal.returns-in-Err-By-clause-failures
 returns-in-Err-By-clause-failures g c =

@@ -5,14 +5,18 @@ use Rattle.rq_streams.specs.Counted.{failed_count, inner}
 use Rattle.rq_cast.specs.Output.{counting, sink}
 use Rattle.rq_command.specs.declared.ending.End.{End}
 use Rattle.rq_devices.specs.Failed.{Fails}
-use Rattle.rq_command.specs.Guarding.{EndsProtecting, order_of}
+use Rattle.rq_command.specs.Guarding.{EndsProtecting, guard_spot, order_of}
+use Rattle.rq_devices.specs.Placed.{guard_name}
+use Rattle.rq_devices.specs.Spots.{AtFile, IsFinished}
 use Rattle.rq_devices.specs.Keyed.{IsKeyRead, key_file}
 use Rattle.rq_command.specs.Program.{end_of}
 use Rattle.rq_devices.specs.Told.{told}
 use Rattle.rq_command.proofs.Failing.{passed_on}
 use Rattle.rq_devices.proofs.Counting.{failed_behind, failed_then}
-use Rattle.rq_command.proofs.Guarding.{stopped_by, guards, stops_guard, whole_from, fault_counted, none_counted}
-use Rattle.rq_devices.proofs.Putting.{stopped_kept, whole_put}
+use Rattle.rq_guard.specs.Protecting.{CountsStop}
+use Rattle.rq_command.proofs.Guarding.{stopped_by, guards, stops_guard}
+use Rattle.rq_command.proofs.Made.{fault_counted, none_counted, whole_from}
+use Rattle.rq_devices.proofs.Putting.{stopped_at_file, whole_put}
 use Rattle.rq_command.proofs.protecting.protect_file.Goals as goal
 use Rattle.rq_command.proofs.protecting.protect_file.Given.{Over}
 use Rattle.rq_command.proofs.protecting.protect_file.Goals.{After-put}
@@ -49,13 +53,20 @@ module _ (g : Over) (c : After-put g) where
       ap (λ t. g.D.Reader.Read.remaining (told t)) c.new-input.ensures.inner ∙ ap g.D.Reader.Read.remaining c.new-2.ensures ∙ c.in_ok-reader.ensures.bytes
       ∙ ap (λ there. there (file ∷ [])) c.place_of.ensures.stays ∙ ap (λ there. there (file ∷ [])) c.key_of.ensures.stays
 
-  there : g.D.Writer.Write.contents (sink c.new-output.result) ≡ g.D.Devices.blank
+  there : g.D.Writer.Write.contents (sink c.new-output.result) ≡ g.D.Devices.blank (guard_spot c.args.job.now)
   there =
       ap (λ w. g.D.Writer.Write.contents (inner w)) c.new-output.ensures.writer ∙ ap g.D.Writer.Write.contents c.new.ensures.inner ∙ c.in_ok-create.ensures.blank
+      ∙ ap (λ n. g.D.Devices.blank (AtFile n)) c.in_ok-guard.ensures.place
 
   kept : g.D.Devices.placed c.count-2.new.self ≡ g.D.Devices.placed c.args.devices.now
   kept =
       c.count-2.ensures.kept ∙ c.count.ensures.kept ∙ c.create.ensures.kept ∙ c.open_files.ensures.kept ∙ c.place_of.ensures.kept ∙ c.key_of.ensures.kept
+
+  finished : IsFinished (guard_spot c.args.job.now) c.is_ok-is_whole.result c.put.result (g.D.Writer.Write.contents c.into_inner.result)
+      (g.D.Devices.placed c.count-2.new.self) (g.D.Devices.placed c.put.new.devices)
+  finished =
+      subst (λ (n : List ℕ). IsFinished (AtFile n) c.is_ok-is_whole.result c.put.result (g.D.Writer.Write.contents c.into_inner.result)
+      (g.D.Devices.placed c.count-2.new.self) (g.D.Devices.placed c.put.new.devices)) c.in_ok-guard.ensures.place c.put.ensures.placed
 
   written : g.D.Writer.Write.contents c.into_inner.result ≡ g.D.Writer.Write.contents (sink c.protect-made.new.output)
   written = ap g.D.Writer.Write.contents (c.into_inner.ensures ∙ ap inner c.into_counted-counted.ensures)
@@ -96,10 +107,11 @@ returns-in_err-made-clause-does g c =
     let stop = c.in_err-made.field-0.0 in
     let p = err_from_is_err_and c.from_residual-in_err-made.result c.from_residual-in_err-made.ensures.1 in
     subst (λ (r : Result End Stop). EndsProtecting c.args.job.now stands g.D.Devices.blank (end_of r) old new) (sym (p.1 ∙ ap (λ s. Err s) p.2)) (
-      stopped_kept c.in_ok-guard.guard c.is_ok-is_whole.result (g.D.Writer.Write.contents c.into_inner.result) (g.D.Devices.placed c.count-2.new.self) new
-          c.put.result stop c.in_err-made.was c.put.ensures.placed ∙ kept g moved,
+      stopped_at_file (guard_name c.args.job.now.file.now (option_map (λ s. s.now) c.args.job.now.output)) c.is_ok-is_whole.result
+          (g.D.Writer.Write.contents c.into_inner.result) (g.D.Devices.placed c.count-2.new.self) new c.put.result stop c.in_err-made.was (finished g moved)
+          ∙ kept g moved,
       stops_guard (order_of c.args.job.now) keys (stands (c.args.job.now.file.now ∷ [])) (g.D.Reader.Read.remaining (told (inner c.new-input.result)))
-          (g.D.Reader.Read.remaining (told (inner c.protect-made.new.reader))) g.D.Devices.blank (g.D.Writer.Write.contents (sink c.new-output.result))
+          (g.D.Reader.Read.remaining (told (inner c.protect-made.new.reader))) (g.D.Devices.blank (guard_spot c.args.job.now)) (g.D.Writer.Write.contents (sink c.new-output.result))
           (g.D.Writer.Write.contents (sink c.protect-made.new.output)) c.in-Some.key c.is_ok-is_whole.result c.protect-made.result c.put.result
           (subst (IsKeyRead keys) c.in-Some.is c.in_ok-key.ensures.key) (read g moved) (there g moved) stop c.in_err-made.was c.put.ensures.same
           c.protect-made.ensures.stops,
@@ -113,7 +125,8 @@ returns-in_err-made-clause-failures g c =
     stopped_by c.from_residual-in_err-made.result stop (g.D.Devices.failed c.args.devices.now) (g.D.Devices.failed c.put.new.devices) (all g moved)
     (p.1 ∙ ap (λ s. Err s) p.2) (fails g moved)
     (fault_counted c.new-input.result c.protect-made.new.reader c.new-output.result c.protect-made.new.output c.is_ok-is_whole.result c.protect-made.result
-    c.put.result (n g moved) c.new-input.ensures.none (unwritten g moved) c.put.ensures.same c.put.ensures.failures.2 stop c.in_err-made.was
+    c.put.result (n g moved) c.new-input.ensures.none (unwritten g moved) c.put.ensures.same c.put.ensures.failures.2
+    (CountsStop c.new-input.result c.protect-made.new.reader c.new-output.result c.protect-made.new.output) (λ more. more) stop c.in_err-made.was
     c.protect-made.ensures.failed)
 
 pub returns-clause-does : goal.returns-clause-does
@@ -124,13 +137,17 @@ returns-clause-does g c =
     let new = g.D.Devices.placed c.put.new.devices in
     let whole = whole_from c.is_ok-is_whole.result c.protect-made.result c.put.result c.in_ok-made.made c.in_ok-made.was c.is_ok-is_whole.ensures.value
     c.put.ensures.same in
-    guards (order_of c.args.job.now) keys (stands (c.args.job.now.file.now ∷ [])) (g.D.Reader.Read.remaining (told (inner c.new-input.result)))
-    (g.D.Reader.Read.remaining (told (inner c.protect-made.new.reader))) g.D.Devices.blank (g.D.Writer.Write.contents (sink c.new-output.result))
-    (g.D.Writer.Write.contents (sink c.protect-made.new.output)) c.in-Some.key c.is_ok-is_whole.result c.protect-made.result c.put.result
-    (subst (IsKeyRead keys) c.in-Some.is c.in_ok-key.ensures.key) (read g moved) (there g moved) new c.in_ok-made.made c.in_ok-made.was c.put.ensures.same
-    c.protect-made.ensures.protects
-    (whole_put c.in_ok-guard.guard c.is_ok-is_whole.result (g.D.Writer.Write.contents c.into_inner.result) (g.D.Devices.placed c.count-2.new.self) new
-    c.put.result c.in_ok-made.made whole c.in_ok-made.was c.put.ensures.placed ∙ written g moved)
+    let spot = guard_spot c.args.job.now in
+    let filed = whole_put spot c.is_ok-is_whole.result (g.D.Writer.Write.contents c.into_inner.result) (g.D.Devices.placed c.count-2.new.self) new c.put.result
+    c.in_ok-made.made whole c.in_ok-made.was (finished g moved) in (
+      guards (order_of c.args.job.now) keys (stands (c.args.job.now.file.now ∷ [])) (g.D.Reader.Read.remaining (told (inner c.new-input.result)))
+          (g.D.Reader.Read.remaining (told (inner c.protect-made.new.reader))) (g.D.Devices.blank spot) (g.D.Writer.Write.contents (sink c.new-output.result))
+          (g.D.Writer.Write.contents (sink c.protect-made.new.output)) c.in-Some.key c.is_ok-is_whole.result c.protect-made.result c.put.result
+          (subst (IsKeyRead keys) c.in-Some.is c.in_ok-key.ensures.key) (read g moved) (there g moved) (new spot) c.in_ok-made.made c.in_ok-made.was c.put.ensures.same
+          c.protect-made.ensures.protects
+          (filed.there ∙ written g moved),
+      λ other differs. filed.others other differs ∙ ap (λ there. there other) (kept g moved),
+    )
 
 pub returns-clause-failures : goal.returns-clause-failures
 returns-clause-failures g c =

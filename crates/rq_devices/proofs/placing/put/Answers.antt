@@ -4,11 +4,12 @@ use Rattle.std.proofs.lemmas.Result.{err_from_is_err_and}
 use Rattle.rq_streams.specs.Ends.{failed_calls}
 use Rattle.rq_devices.proofs.Counting.{once}
 use Rattle.rq_devices.proofs.Putting.{put_away, put_there, not_put, fails_away, fails_there, fails_putting}
+use Rattle.rq_devices.specs.Spots.{spot_of}
 use Rattle.rq_devices.proofs.placing.put.Goals as goal
 
 pub returns-then-not-is_whole-clause-placed : goal.returns-then-not-is_whole-clause-placed
 returns-then-not-is_whole-clause-placed g c =
-    put_away c.args.place c.args.is_whole (g.D.Writer.Write.contents c.args.writer) (g.D.Devices.placed c.args.devices.now)
+    put_away (spot_of c.args.place) c.args.is_whole (g.D.Writer.Write.contents c.args.writer) (g.D.Devices.placed c.args.devices.now)
     (g.D.Devices.placed c.finish.new.self) ⊤ c.args.ended c.finish.result c.if-not-is_whole.true c.finish.ensures.placed
 
 pub returns-then-not-is_whole-clause-failures : goal.returns-then-not-is_whole-clause-failures
@@ -26,7 +27,7 @@ returns-in_err-finish-clause-same g c =
 pub returns-in_err-finish-clause-placed : goal.returns-in_err-finish-clause-placed
 returns-in_err-finish-clause-placed g c =
     let p = err_from_is_err_and c.from_residual.result c.from_residual.ensures.1 in
-    not_put c.args.place c.args.is_whole (g.D.Writer.Write.contents c.args.writer) (g.D.Devices.placed c.args.devices.now)
+    not_put (spot_of c.args.place) c.args.is_whole (g.D.Writer.Write.contents c.args.writer) (g.D.Devices.placed c.args.devices.now)
     (g.D.Devices.placed c.finish-2.new.self) ⊤ c.from_residual.result c.in_err-finish.field-0.0 c.if-not-is_whole.false (p.1 ∙ ap (λ s. Err s) p.2)
     c.in_err-finish.ensures.placed
 
@@ -41,7 +42,7 @@ returns-in_err-finish-clause-failures g c =
 
 pub returns-clause-placed : goal.returns-clause-placed
 returns-clause-placed g c =
-    put_there c.args.place c.args.is_whole (g.D.Writer.Write.contents c.args.writer) (g.D.Devices.placed c.args.devices.now)
+    put_there (spot_of c.args.place) c.args.is_whole (g.D.Writer.Write.contents c.args.writer) (g.D.Devices.placed c.args.devices.now)
     (g.D.Devices.placed c.finish-2.new.self) ⊤ c.args.ended c.in_ok-finish.field-0 c.if-not-is_whole.false (c.requires c.if-not-is_whole.false)
     c.in_ok-finish.ensures.placed
 

@@ -4,7 +4,8 @@ use Rattle.rq_guard.specs.declared.list.DigestList.{DigestList}
 use Rattle.rq_guard_runs.specs.declared.findings.Findings.{Findings}
 use Rattle.rq_guard_runs.specs.Guards.{FailsMended, Finds, Replaces, RepairsBy, stays}
 use Rattle.rq_guard_runs.specs.Pairs.{in_file, in_guard}
-use Rattle.rq_devices.specs.Placed.{Contents, Files}
+use Rattle.rq_devices.specs.Placed.{Files}
+use Rattle.rq_devices.specs.Spots.{Spots}
 use Rattle.rq_devices.proofs.Counting.{failed_behind}
 use Rattle.rq_guard_runs.proofs.Repairing.{fails_never, finds_still, place_is, replaced, stays_still}
 use Rattle.rq_guard_runs.proofs.pair.Pair.repair.Goals as goal
@@ -35,7 +36,7 @@ returns-clause-found g c =
     (g.D.Devices.placed c.find.new.devices) new mended) named by_lists in
     let over = subst (λ (s : Files). Replaces table key found.lists.items (in_file p) (in_guard p) place s blank (g.D.Devices.placed c.find.new.devices) new mended)
     c.find.ensures.stays at_place in
-    let replaces = subst (λ (b : Contents). Replaces table key found.lists.items (in_file p) (in_guard p) place stands blank b new mended) c.find.ensures.kept over in
+    let replaces = subst (λ (b : Spots). Replaces table key found.lists.items (in_file p) (in_guard p) place stands blank b new mended) c.find.ensures.kept over in
     let still : stays said with ≡ false = stays_still said found mended ∙ sym c.stays.ensures ∙ c.if-stays.false in
     subst (λ (f : Findings). Finds table key (in_file p stands) (in_guard p stands) f × RepairsBy (stays said f) table key (in_file p) (in_guard p) place stands
     blank f old new) (sym c.with.ensures) (
