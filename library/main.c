@@ -1,5 +1,6 @@
 /* The `main` of a program, which calls that of the greatest build that is linked in (REAMERTAN_V2, REAMERTAN_V3) and that this
  * machine's processor has. Nothing proves these lines. */
+#include <malloc.h>
 #include <stdio.h>
 
 #include "processor.h"
@@ -10,6 +11,9 @@ int v3_main(int count, char **words, char **settings);
 int main(int count, char **words, char **settings)
 {
     int level = processor_level();
+    /* Blocks come and go: else their memory would go back to the system each time, which takes a seventh of receiving. */
+    mallopt(M_MMAP_THRESHOLD, 32 << 20);
+    mallopt(M_TRIM_THRESHOLD, 64 << 20);
 #ifdef REAMERTAN_V3
     if (level >= 3)
         return v3_main(count, words, settings);
